@@ -1,0 +1,207 @@
+-- Laws of the words on lists: what a test over a list says, the numbers that pass, and how many different ones there can be.
+-- Assumes nothing.
+use Prim.Native.Nat.{ℕ, zero, suc, _+_, _≤_, _<_}
+use native.Mathlib.Omega.{arith}
+use mathlib.Core.Path.{_≡_, refl, sym, ap, _∙_}
+use mathlib.Core.Logic.{⊎-elim}
+use mathlib.Core.List.{List, [], _∷_, List·Memᴰ·not-nil, List·Memᴰ·cases-cons}
+use mathlib.Core.List.List·Memᴰ.{List·Memᴰ·head, List·Memᴰ·tail}
+use mathlib.Core.Bool.{Bool, true, false, not, cond, _&&_, false≢true, and-false}
+use lib.Dec.{ltb, eqb}
+use lib.ListN.{length, getD}
+use borrow.Author.Tests.{ltb-true, lt-ltb, eqb-true, eqb-false, eq-eqb, ne-eqb}
+use Rattle.rules.specs.01-Lists.{_∈_, same-bytes, any, all, rising, numbers}
+use Rattle.rules.proofs.Bools.{or-cases, or-left, or-right, and-both, and-of}
+
+-- ---- tests over a list
+
+module _ {A : Type 0} where
+  pub any-at : (p : A → Bool) {x : A} {l : List A} → x ∈ l → p x ≡ true → any p l ≡ true
+  unfolding any
+  any-at p (List·Memᴰ·head {x = y} {xs = l} h) e = or-left (p y) (any p l) (ap p (sym h) ∙ e)
+  any-at p (List·Memᴰ·tail {x = y} {xs = l} h) e = or-right (p y) (any p l) (any-at p h e)
+
+  pub any-where : (p : A → Bool) (l : List A) → any p l ≡ true → (x : A) × (x ∈ l) × (p x ≡ true)
+  unfolding any
+  any-where p [] e = absurd (false≢true e)
+  any-where p (y ∷ l) e =
+      ⊎-elim
+      (λ h. (y, List·Memᴰ·head refl, h))
+      (λ h. let (x, i, g) = any-where p l h in (x, List·Memᴰ·tail i, g))
+      (or-cases (p y) (any p l) e)
+
+  pub all-at : (p : A → Bool) {x : A} {l : List A} → all p l ≡ true → x ∈ l → p x ≡ true
+  unfolding all
+  all-at p e (List·Memᴰ·head {x = y} {xs = l} h) = ap p h ∙ and-both (p y) (all p l) e .0
+  all-at p e (List·Memᴰ·tail {x = y} {xs = l} h) = all-at p (and-both (p y) (all p l) e .1) h
+
+  -- an element is at some place
+  pub at-place : (d : A) {x : A} {l : List A} → x ∈ l → (i : ℕ) × (i < length l) × (getD l i d ≡ x)
+  at-place d (List·Memᴰ·head h) = (0, omega arith, sym h)
+  at-place d (List·Memᴰ·tail h) = let (i, k, e) = at-place d h in (suc i, omega arith, e)
+
+  pub place-in : (d : A) (l : List A) (i : ℕ) → i < length l → getD l i d ∈ l
+  place-in d [] i h = absurd (omega arith)
+  place-in d (x ∷ l) zero h = List·Memᴰ·head refl
+  place-in d (x ∷ l) (suc i) h = List·Memᴰ·tail (place-in d l i (omega arith))
+
+-- ---- bytes
+
+pub same-bytes-is : (a b : List ℕ) → same-bytes a b ≡ true → a ≡ b
+unfolding same-bytes
+same-bytes-is [] [] e = refl
+same-bytes-is [] (y ∷ b) e = absurd (false≢true e)
+same-bytes-is (x ∷ a) [] e = absurd (false≢true e)
+same-bytes-is (x ∷ a) (y ∷ b) e =
+    let (h, t) = and-both (eqb x y) (same-bytes a b) e in
+    λ i. eqb-true x y h i ∷ same-bytes-is a b t i
+
+pub same-bytes-refl : (a : List ℕ) → same-bytes a a ≡ true
+unfolding same-bytes
+same-bytes-refl [] = refl
+same-bytes-refl (x ∷ a) = and-of (eqb x x) (same-bytes a a) (eq-eqb x x refl) (same-bytes-refl a)
+
+-- ---- the numbers that pass
+
+module _ (p : ℕ → Bool) where
+  -- one number more
+  numbers-taken : (a m : ℕ) → p a ≡ true → numbers a (suc m) p ≡ a ∷ numbers (suc a) m p
+  unfolding numbers
+  numbers-taken a m e = rw e
+
+  numbers-passed : (a m : ℕ) → p a ≡ false → numbers a (suc m) p ≡ numbers (suc a) m p
+  unfolding numbers
+  numbers-passed a m e = rw e
+
+  pub numbers-in : (a m n : ℕ) → n ∈ numbers a m p → (a ≤ n) × (n < a + m) × (p n ≡ true)
+  unfolding numbers
+  numbers-in a zero n i = absurd (List·Memᴰ·not-nil i)
+  numbers-in a (suc m) n i = go (p a) refl i (numbers-in (suc a) m n)
+    where
+      go : (b : Bool) → p a ≡ b → n ∈ cond b (a ∷ numbers (suc a) m p) (numbers (suc a) m p)
+          → (n ∈ numbers (suc a) m p → (suc a ≤ n) × (n < suc a + m) × (p n ≡ true)) → (a ≤ n) × (n < a + suc m) × (p n ≡ true)
+      go true e i ih =
+          ⊎-elim (λ h. (omega arith, omega arith, ap p h ∙ e)) (λ h. let (l, u, g) = ih h in (omega arith, omega arith, g)) (List·Memᴰ·cases-cons i)
+      go false e i ih = let (l, u, g) = ih i in (omega arith, omega arith, g)
+
+  pub numbers-of : (a m n : ℕ) → a ≤ n → n < a + m → p n ≡ true → n ∈ numbers a m p
+  numbers-of a zero n l u e = absurd (omega arith)
+  numbers-of a (suc m) n l u e = go (eqb n a) refl (λ h. numbers-of (suc a) m n h (omega arith) e)
+    where
+      kept : (b : Bool) → p a ≡ b → n ∈ numbers (suc a) m p → n ∈ numbers a (suc m) p
+      kept true g i = rw (numbers-taken a m g) (List·Memᴰ·tail i)
+      kept false g i = rw (numbers-passed a m g) i
+
+      go : (b : Bool) → eqb n a ≡ b → (suc a ≤ n → n ∈ numbers (suc a) m p) → n ∈ numbers a (suc m) p
+      go true g ih =
+          let same : n ≡ a = eqb-true n a g in
+          rw (numbers-taken a m (ap p (sym same) ∙ e)) (List·Memᴰ·head same)
+      go false g ih = kept (p a) refl (ih (let ne = eqb-false n a g in omega arith))
+
+  -- every number of the list is past what stands before it
+  below-all : (h a m : ℕ) → h < a → rising ltb (numbers a m p) ≡ true → rising ltb (h ∷ numbers a m p) ≡ true
+  unfolding numbers rising
+  below-all h a zero l e = refl
+  below-all h a (suc m) l e = go (p a) refl e (below-all h (suc a) m (omega arith))
+    where
+      go : (b : Bool) → p a ≡ b → rising ltb (cond b (a ∷ numbers (suc a) m p) (numbers (suc a) m p)) ≡ true
+          → (rising ltb (numbers (suc a) m p) ≡ true → rising ltb (h ∷ numbers (suc a) m p) ≡ true)
+          → rising ltb (h ∷ cond b (a ∷ numbers (suc a) m p) (numbers (suc a) m p)) ≡ true
+      go true g e ih = and-of (ltb h a) (rising ltb (a ∷ numbers (suc a) m p)) (lt-ltb h a l) e
+      go false g e ih = ih e
+
+  pub numbers-rising : (a m : ℕ) → rising ltb (numbers a m p) ≡ true
+  unfolding numbers rising
+  numbers-rising a zero = refl
+  numbers-rising a (suc m) = go (p a) refl (numbers-rising (suc a) m)
+    where
+      go : (b : Bool) → p a ≡ b → rising ltb (numbers (suc a) m p) ≡ true → rising ltb (cond b (a ∷ numbers (suc a) m p) (numbers (suc a) m p)) ≡ true
+      go true g e = below-all a (suc a) m (omega arith) e
+      go false g e = e
+
+-- ---- a rising list of numbers has none twice
+
+rising-past : (h : ℕ) (l : List ℕ) → rising ltb (h ∷ l) ≡ true → (j : ℕ) → j < length l → h < getD l j 0
+unfolding rising
+rising-past h [] e j u = absurd (omega arith)
+rising-past h (x ∷ l) e zero u = ltb-true h x (and-both (ltb h x) (rising ltb (x ∷ l)) e .0)
+rising-past h (x ∷ l) e (suc j) u =
+    let (b, r) = and-both (ltb h x) (rising ltb (x ∷ l)) e in
+    let past = rising-past x l r j (omega arith) in
+    omega (arith, ltb-true h x b)
+
+rising-tail : (h : ℕ) (l : List ℕ) → rising ltb (h ∷ l) ≡ true → rising ltb l ≡ true
+unfolding rising
+rising-tail h [] e = refl
+rising-tail h (x ∷ l) e = and-both (ltb h x) (rising ltb (x ∷ l)) e .1
+
+pub rising-once : (l : List ℕ) → rising ltb l ≡ true → (i j : ℕ) → i < length l → j < length l → getD l i 0 ≡ getD l j 0 → i ≡ j
+rising-once [] e i j u v s = absurd (omega arith)
+rising-once (x ∷ l) e zero zero u v s = refl
+rising-once (x ∷ l) e zero (suc j) u v s = absurd (let past = rising-past x l e j (omega arith) in omega arith)
+rising-once (x ∷ l) e (suc i) zero u v s = absurd (let past = rising-past x l e i (omega arith) in omega arith)
+rising-once (x ∷ l) e (suc i) (suc j) u v s = ap suc (rising-once l (rising-tail x l e) i j (omega arith) (omega arith) s)
+
+-- ---- how many different numbers there can be
+
+-- none stands in the list twice
+abbrev pub Different : List ℕ → Type 0
+Different [] = Unit {0}
+Different (x ∷ l) = (x ∈ l → ⊥) × Different l
+
+-- p less the number x
+abbrev less : ℕ → (ℕ → Bool) → ℕ → Bool
+less x p k = p k && not (eqb k x)
+
+less-other : (p : ℕ → Bool) (x k : ℕ) → (k ≡ x → ⊥) → less x p k ≡ p k
+less-other p x k h = rw (ne-eqb k x h) (mathlib.Core.Bool.and-true (p k))
+
+less-it : (p : ℕ → Bool) (x : ℕ) → less x p x ≡ false
+less-it p x = rw (eq-eqb x x refl) (and-false (p x))
+
+-- numbers that pass two tests alike
+numbers-alike : (p q : ℕ → Bool) (a m : ℕ) → ((k : ℕ) → a ≤ k → k < a + m → p k ≡ q k) → numbers a m p ≡ numbers a m q
+unfolding numbers
+numbers-alike p q a zero h = refl
+numbers-alike p q a (suc m) h = rw (numbers-alike p q (suc a) m (λ k l u. h k (omega arith) (omega arith)), h a (omega arith) (omega arith))
+
+-- without one of them there is one fewer
+numbers-less : (p : ℕ → Bool) (x : ℕ) → p x ≡ true → (a m : ℕ) → a ≤ x → x < a + m → length (numbers a m p) ≡ suc (length (numbers a m (less x p)))
+numbers-less p x e a zero l u = absurd (omega arith)
+numbers-less p x e a (suc m) l u = go (eqb a x) refl (λ h. numbers-less p x e (suc a) m h (omega arith))
+  where
+    kept : (b : Bool) → p a ≡ b → (a ≡ x → ⊥) → length (numbers (suc a) m p) ≡ suc (length (numbers (suc a) m (less x p)))
+        → length (numbers a (suc m) p) ≡ suc (length (numbers a (suc m) (less x p)))
+    kept true g ne ih = rw (numbers-taken p a m g, numbers-taken (less x p) a m (less-other p x a ne ∙ g)) (ap suc ih)
+    kept false g ne ih = rw (numbers-passed p a m g, numbers-passed (less x p) a m (less-other p x a ne ∙ g)) ih
+
+    go : (b : Bool) → eqb a x ≡ b → (suc a ≤ x → length (numbers (suc a) m p) ≡ suc (length (numbers (suc a) m (less x p))))
+        → length (numbers a (suc m) p) ≡ suc (length (numbers a (suc m) (less x p)))
+    go true g ih =
+        let same : a ≡ x = eqb-true a x g in
+        let rest : numbers (suc a) m p ≡ numbers (suc a) m (less x p)
+        = numbers-alike p (less x p) (suc a) m (λ k l u. sym (less-other p x k (λ h. omega arith))) in
+        rw (numbers-taken p a m (ap p same ∙ e), numbers-passed (less x p) a m (ap (less x p) same ∙ less-it p x), rest)
+    go false g ih = let ne = eqb-false a x g in kept (p a) refl ne (ih (omega arith))
+
+-- different numbers that pass are no more than all that pass
+pub at-most : (p : ℕ → Bool) (a m : ℕ) (l : List ℕ) → Different l → ((x : ℕ) → x ∈ l → (a ≤ x) × (x < a + m) × (p x ≡ true))
+    → length l ≤ length (numbers a m p)
+at-most p a m [] d h = omega arith
+at-most p a m (x ∷ l) d h =
+    let (low, high, e) = h x (List·Memᴰ·head refl) in
+    let fewer = at-most (less x p) a m l (d .1)
+    (λ y i. let (lo, hi, g) = h y (List·Memᴰ·tail i) in (lo, hi, less-other p x y (λ s. d .0 (subst-in s i)) ∙ g)) in
+    omega (arith, numbers-less p x e a m low high)
+  where
+    subst-in : {y : ℕ} → y ≡ x → y ∈ l → x ∈ l
+    subst-in s i = rw s at i
+
+pub numbers-most : (p : ℕ → Bool) (a m : ℕ) → length (numbers a m p) ≤ m
+unfolding numbers
+numbers-most p a zero = omega arith
+numbers-most p a (suc m) = go (p a) (numbers-most p (suc a) m)
+  where
+    go : (b : Bool) → length (numbers (suc a) m p) ≤ m → length (cond b (a ∷ numbers (suc a) m p) (numbers (suc a) m p)) ≤ suc m
+    go true h = omega arith
+    go false h = omega arith

@@ -1,0 +1,50 @@
+-- Under a working schema of a good schema a list has no hole: with a type all its ancestors are visible. Assumes nothing.
+use Prim.Native.Nat.{ℕ}
+use mathlib.Core.Path.{_≡_}
+use mathlib.Core.List.{List}
+use mathlib.Core.Bool.{Bool, true, _&&_}
+use lib.Dec.{eqb}
+use borrow.Author.Tests.{eqb-true}
+use Rattle.rules.specs.01-Lists.{_∈_}
+use Rattle.rules.specs.04-Schema.{Schema, kind-of, is-used, holds-type, present}
+use Rattle.rules.specs.05-Descent.{Descends}
+use Rattle.rules.specs.05-Descent.Descends.{by-parent, by-step}
+use Rattle.rules.specs.06-Good.{Good}
+use Rattle.rules.specs.08-Working.{listed-sdss, visible, shown}
+use Rattle.rules.proofs.Bools.{and-both, and-of}
+use Rattle.rules.proofs.01-Lists.{any-at, any-where}
+use Rattle.rules.proofs.05-Descent.{used-below, members-in, members-of}
+
+module _ {s : Schema} (good : Good s) where
+  -- what is present is a type
+  pub present-used : (d t : ℕ) → present s d t ≡ true → is-used (kind-of s t) ≡ true
+  unfolding present
+  present-used d t e =
+      let (p, i, h) = any-where (holds-type d t) (s .presences) e in
+      let same : p .type ≡ t = eqb-true (p .type) t (and-both (eqb (p .sds) d) (eqb (p .type) t) h .1) in
+      rw same at (good .presence-type p i)
+
+  pub visible-used : (w : List ℕ) (t : ℕ) → visible s w t ≡ true → is-used (kind-of s t) ≡ true
+  unfolding visible
+  visible-used w t e = let (d, i, h) = any-where (λ d. present s d t) (listed-sdss s w) e in present-used d t h
+
+  ancestors-present : (d : ℕ) {t a : ℕ} → present s d t ≡ true → Descends s t a → present s d a ≡ true
+  ancestors-present d {t} {a} e (by-parent by) = good .parents-present d t a e by
+  ancestors-present d {t} e (by-step {p = p} by r) = ancestors-present d (good .parents-present d t p e by) r
+
+  -- every ancestor of a visible type is visible
+  pub ancestors-visible : (w : List ℕ) (t a : ℕ) → visible s w t ≡ true → Descends s t a → visible s w a ≡ true
+  unfolding visible
+  ancestors-visible w t a e r =
+      let (d, i, h) = any-where (λ d. present s d t) (listed-sdss s w) e in
+      any-at (λ d. present s d a) i (ancestors-present d h r)
+
+  -- what a list shows
+  pub shown-in : (w : List ℕ) (p : ℕ → Bool) (k : ℕ) → k ∈ shown s w p → (visible s w k ≡ true) × (p k ≡ true)
+  unfolding shown
+  shown-in w p k i = and-both (visible s w k) (p k) (members-in (λ k. visible s w k && p k) k i .1)
+
+  pub shown-of : (w : List ℕ) (p : ℕ → Bool) (k : ℕ) → visible s w k ≡ true → p k ≡ true → k ∈ shown s w p
+  unfolding shown
+  shown-of w p k e g =
+      members-of (λ k. visible s w k && p k) k (used-below good k (visible-used w k e)) (and-of (visible s w k) (p k) e g)

@@ -1,0 +1,89 @@
+-- The stretch of a local name. The words of the set of descendants: bit n mod 64 of word n div 64 is the mark of type n. And the list of descendants is whole.
+-- Assumes nothing.
+use Prim.Native.Nat.{ℕ, zero, suc, _+_, _*_, _/_, _%_, _^_, _<_}
+use native.Mathlib.Nat.{div-one, add-zero, pow-suc}
+use native.Mathlib.Numerals.{one-add}
+use native.Mathlib.Omega.{arith}
+use mathlib.Core.Path.{_≡_, refl, sym, ap, _∙_, subst}
+use mathlib.Core.List.{List, [], _∷_}
+use mathlib.Core.Bool.{Bool, true, false, cond, _&&_, false≢true}
+use lib.Arith.{digits-mod, digits-div}
+use lib.ListN.{length, getD, take, drop}
+use lib.Pow.{shr-shr}
+use Rattle.rules.specs.01-Lists.{any, first}
+use Rattle.rules.specs.03-Names.{Name}
+use Rattle.rules.specs.04-Schema.{Schema, Presence, system-presence, holds-type, present, local-name}
+use Rattle.rules.specs.05-Descent.{descends, members}
+use Rattle.rules.specs.06-Good.{Good}
+use Rattle.rules.specs.07-Picture.{picture, name-start}
+use Rattle.rules.specs.08-Working.{visible, shown}
+use Rattle.rules.specs.11-Asks.{place, one-if, marks, visible-descendant, object-scan-list}
+use Rattle.rules.specs.13-History.{Whole-list}
+use Rattle.rules.proofs.05-Descent.{members-rising, descends-sound, descends-full}
+use Rattle.rules.proofs.07-Picture.{name-stretch}
+use Rattle.rules.proofs.08-Working.{shown-in, shown-of}
+
+-- ---- the stretch that a name call tells of holds the local name
+
+first-at : {A : Type 0} (p : A → Bool) (d e : A) (l : List A) → any p l ≡ true → (place p l < length l) × (first p d l ≡ getD l (place p l) e)
+unfolding any first place
+first-at p d e [] h = absurd (false≢true h)
+first-at p d e (x ∷ l) h = go (p x) refl (first-at p d e l)
+  where
+    go : (b : Bool) → p x ≡ b → (any p l ≡ true → (place p l < length l) × (first p d l ≡ getD l (place p l) e))
+        → (cond b 0 (suc (place p l)) < suc (length l)) × (cond b x (first p d l) ≡ getD (x ∷ l) (cond b 0 (suc (place p l))) e)
+    go true q ih = (omega arith, refl)
+    go false q ih = let (u, f) = ih (rw q at h) in (omega arith, f)
+
+pub name-shown : {s : Schema} → Good s → (d t : ℕ) → present s d t ≡ true
+    → take (length (local-name s d t)) (drop (name-start s (place (holds-type d t) (s .presences))) (picture s)) ≡ local-name s d t
+unfolding present local-name
+name-shown {s} good d t e =
+    let (u, f) = first-at (holds-type d t) (record { sds = 0; name = []; type = 0 }) system-presence (s .presences) e in
+    let k = place (holds-type d t) (s .presences) in
+    subst (λ (n : Name). take (length n) (drop (name-start s k) (picture s)) ≡ n) (sym (ap (λ (p : Presence). p .name) f)) (name-stretch good k u)
+
+-- ---- words
+
+one-if-small : (b : Bool) → one-if b < 2
+one-if-small true = omega arith
+one-if-small false = omega arith
+
+module _ (p : ℕ → Bool) where
+  -- the word fits its bits
+  pub marks-fit : (start many : ℕ) → marks start many p < 2 ^ many
+  unfolding marks
+  marks-fit start zero = omega arith
+  marks-fit start (suc many) = omega (arith, marks-fit (suc start) many, one-if-small (p start), pow-suc 2 many)
+
+  -- a bit of the word is the mark of its type
+  pub marks-bit : (start many i : ℕ) → i < many → marks start many p / 2 ^ i % 2 ≡ one-if (p (start + i))
+  unfolding marks
+  marks-bit start zero i h = absurd (omega arith)
+  marks-bit start (suc many) zero h =
+      rw (div-one (marks (suc start) many p * 2 + one-if (p start)), add-zero start) (digits-mod (marks (suc start) many p) (one-if-small (p start)))
+  marks-bit start (suc many) (suc i) h =
+      let w = marks (suc start) many p * 2 + one-if (p start) in
+      let half : w / 2 ≡ marks (suc start) many p = digits-div (marks (suc start) many p) (one-if-small (p start)) in
+      let step : w / 2 ^ suc i ≡ w / 2 / 2 ^ i = ap (λ (x : ℕ). w / 2 ^ x) (sym (one-add i)) ∙ sym (shr-shr w 1 i) in
+      let along : suc start + i ≡ start + suc i = omega arith in
+      ap (λ (x : ℕ). x % 2) (step ∙ ap (λ (x : ℕ). x / 2 ^ i) half) ∙ marks-bit (suc start) many i (omega arith)
+      ∙ ap (λ (x : ℕ). one-if (p x)) along
+
+-- ---- the list of descendants
+
+-- the count of the set is the length of the list
+pub set-counts-list : (w : List ℕ) (t : ℕ) (s : Schema) → members (visible-descendant w t s) ≡ object-scan-list w t 1 s
+unfolding visible-descendant object-scan-list shown
+set-counts-list w t s = refl
+
+-- the list of descendants holds every visible descendant once, and nothing else
+pub whole-list : {s : Schema} → Good s → (w : List ℕ) (t : ℕ) → Whole-list s w t
+unfolding object-scan-list shown
+whole-list {s} good w t = record {
+  exact = λ k. (
+    (λ i. let (e, g) = shown-in good w (λ k. descends s k t) k i in (e, descends-sound good k t g)),
+    (λ h. shown-of good w (λ k. descends s k t) k (h .0) (descends-full good k t (h .1))),
+  );
+  once = members-rising (λ k. visible s w k && descends s k t);
+}

@@ -1,0 +1,10 @@
+pub mod Bools
+pub mod 01-Lists
+pub mod 03-Names
+pub mod 05-Descent
+pub mod 06-Good
+pub mod 07-Picture
+pub mod 08-Working
+pub mod 11-Asks
+pub mod 12-Contracts
+pub mod 15-Cases

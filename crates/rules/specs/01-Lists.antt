@@ -1,0 +1,96 @@
+-- The rules of document 01 as definitions. Read the files in the order of their numbers, with document 01 beside them:
+--
+--   01 Lists      words on lists and bytes that the others use
+--   02 Limits     the room of a base
+--   03 Names      what a name is, when two are the same, in which order they stand
+--   04 Schema     the things in a base
+--   05 Descent    ancestors, descendants, depth
+--   06 Good       what a sound base keeps, a field for each sentence
+--   07 Picture    a schema in bytes, and when a base is sound
+--   08 Refusals   the numbers, each with its condition, and what an outcome is
+--   09 Changes    calls 1 to 8
+--   10 Working    what a working schema shows
+--   11 Asks       calls 9 to 13
+--   12 Contracts  what each function of the keeper promises
+--   13 History    any sequence of calls, and demand 3
+--   14 Run        the run program
+--   15 Cases      the marked cases
+--
+-- A comment in quotation marks is 01's own sentence. Nothing here is proved; the laws stand in proofs/, in files named alike.
+use Prim.Native.Nat.{ℕ, zero, suc}
+use Prim.Native.Char.{code}
+use Prim.Native.String as Text
+use Prim.Native.String.{String}
+use mathlib.Core.List.{List, [], _∷_, List·Memᴰ}
+use mathlib.Core.Bool.{Bool, true, false, cond, _&&_, _||_}
+use lib.Dec.{ltb, eqb}
+
+-- the bytes of a text that is written out
+abbrev pub bytes : String → List ℕ
+bytes Text.[] = []
+bytes (Text._∷_ c text) = code c ∷ bytes text
+
+-- two runs of bytes are the same, byte for byte
+unfoldable pub same-bytes : List ℕ → List ℕ → Bool
+same-bytes [] [] = true
+same-bytes [] (y ∷ ys) = false
+same-bytes (x ∷ xs) [] = false
+same-bytes (x ∷ xs) (y ∷ ys) = eqb x y && same-bytes xs ys
+
+-- the first byte in which two runs differ decides; a run stands before a longer one that it begins
+unfoldable pub bytes-before : List ℕ → List ℕ → Bool
+bytes-before [] [] = false
+bytes-before [] (y ∷ ys) = true
+bytes-before (x ∷ xs) [] = false
+bytes-before (x ∷ xs) (y ∷ ys) = ltb x y || (eqb x y && bytes-before xs ys)
+
+infix 45 _∈_
+-- x stands in the list
+abbrev pub _∈_ : {A : Type 0} → A → List A → Type 0
+x ∈ xs = List·Memᴰ x xs
+
+module _ {A : Type 0} where
+  -- some element passes
+  unfoldable pub any : (A → Bool) → List A → Bool
+  any p [] = false
+  any p (x ∷ xs) = p x || any p xs
+
+  -- every element passes
+  unfoldable pub all : (A → Bool) → List A → Bool
+  all p [] = true
+  all p (x ∷ xs) = p x && all p xs
+
+  -- the first element that passes; d where none does
+  unfoldable pub first : (A → Bool) → A → List A → A
+  first p d [] = d
+  first p d (x ∷ xs) = cond (p x) x (first p d xs)
+
+  -- the list less the elements that pass
+  unfoldable pub without : (A → Bool) → List A → List A
+  without p [] = []
+  without p (x ∷ xs) = cond (p x) (without p xs) (x ∷ without p xs)
+
+  -- each element is before the next
+  unfoldable pub rising : (A → A → Bool) → List A → Bool
+  rising before [] = true
+  rising before (x ∷ []) = true
+  rising before (x ∷ y ∷ xs) = before x y && rising before (y ∷ xs)
+
+  -- a put in at its place in a rising list
+  unfoldable pub put : (A → A → Bool) → A → List A → List A
+  put before a [] = a ∷ []
+  put before a (x ∷ xs) = cond (before x a) (x ∷ put before a xs) (a ∷ x ∷ xs)
+
+-- n is one of the numbers
+abbrev pub among : List ℕ → ℕ → Bool
+among ns n = any (eqb n) ns
+
+-- a number stands in the list twice
+unfoldable pub repeated : List ℕ → Bool
+repeated [] = false
+repeated (n ∷ ns) = among ns n || repeated ns
+
+-- of the `many` numbers from `start` on those that pass, rising
+unfoldable pub numbers : ℕ → ℕ → (ℕ → Bool) → List ℕ
+numbers start zero p = []
+numbers start (suc many) p = cond (p start) (start ∷ numbers (suc start) many p) (numbers (suc start) many p)

@@ -1,0 +1,211 @@
+-- 01, "Things in a base", as a value: names, types, presences, applications, ends. What is allowed of them is said in 06-Good.
+use Prim.Native.Nat.{ℕ, _-_}
+use mathlib.Core.List.{List, [], _∷_}
+use mathlib.Core.Bool.{Bool, true, false, not, _&&_, _||_}
+use lib.Dec.{ltb, eqb}
+use lib.ListN.{getD, replicate}
+use Rattle.rules.specs.01-Lists.{bytes, any, first, among}
+use Rattle.rules.specs.02-Limits.{limits}
+use Rattle.rules.specs.03-Names.{Name, blank, same-name, name-before}
+
+-- "A type has a number 0 to 127 and a kind. What belongs to a type is the same in every SDS."
+-- "A designation type has no reverse. Every other has exactly one."
+pub data Kind : Type 0 where
+  unused : Kind
+  -- its parents
+  object : List ℕ → Kind
+  -- its value kind: "0 boolean, 1 integer, 2 natural, 3 float, 4 time, 5 string"
+  attribute : ℕ → Kind
+  -- a link type of category 4
+  designation : Kind
+  -- a link type of another category, "0 composition, 1 existence, 2 reference, 3 implicit", and its reverse
+  paired : ℕ → ℕ → Kind
+
+-- "A presence says that a type is in an SDS, under a local name"
+pub record Presence : Type 0 where
+  pub sds : ℕ
+  pub name : Name
+  pub type : ℕ
+
+-- "Within an SDS an attribute type may be applied to an object or link type"
+pub record Application : Type 0 where
+  pub sds : ℕ
+  pub to : ℕ
+  pub attribute : ℕ
+
+-- "a link type has ends: origins and destinations, object types"
+pub data Side : Type 0 where
+  origin : Side
+  destination : Side
+
+pub record End : Type 0 where
+  pub sds : ℕ
+  pub link : ℕ
+  pub side : Side
+  pub object : ℕ
+
+pub record Schema : Type 0 where
+  -- by SDS number; a blank name: the number is unused
+  pub sdss : List Name
+  -- by type number
+  pub types : List Kind
+  pub presences : List Presence
+  pub applications : List Application
+  pub ends : List End
+
+-- "A fresh base has SDS 0 "system", holding type 0 "object", and nothing else."
+abbrev pub system-name : Name
+system-name = bytes "system"
+
+abbrev pub system-presence : Presence
+system-presence = record { sds = 0; name = bytes "object"; type = 0 }
+
+unfoldable pub fresh : Schema
+fresh = record {
+  sdss = system-name ∷ replicate (limits .sdss - 1) [];
+  types = object [] ∷ replicate (limits .types - 1) unused;
+  presences = system-presence ∷ [];
+  applications = [];
+  ends = [];
+}
+
+-- ---- SDSs
+
+abbrev pub sds-name : Schema → ℕ → Name
+sds-name s d = getD (s .sdss) d []
+
+unfoldable pub used-sds : Schema → ℕ → Bool
+used-sds s d = not (blank (sds-name s d))
+
+-- ---- types
+
+abbrev pub kind-of : Schema → ℕ → Kind
+kind-of s t = getD (s .types) t unused
+
+abbrev pub is-used : Kind → Bool
+is-used unused = false
+is-used (object ps) = true
+is-used (attribute v) = true
+is-used designation = true
+is-used (paired c r) = true
+
+abbrev pub is-object : Kind → Bool
+is-object unused = false
+is-object (object ps) = true
+is-object (attribute v) = false
+is-object designation = false
+is-object (paired c r) = false
+
+abbrev pub is-attribute : Kind → Bool
+is-attribute unused = false
+is-attribute (object ps) = false
+is-attribute (attribute v) = true
+is-attribute designation = false
+is-attribute (paired c r) = false
+
+abbrev pub is-link : Kind → Bool
+is-link unused = false
+is-link (object ps) = false
+is-link (attribute v) = false
+is-link designation = true
+is-link (paired c r) = true
+
+abbrev pub parents-in : Kind → List ℕ
+parents-in unused = []
+parents-in (object ps) = ps
+parents-in (attribute v) = []
+parents-in designation = []
+parents-in (paired c r) = []
+
+abbrev pub reverse-in : Kind → List ℕ
+reverse-in unused = []
+reverse-in (object ps) = []
+reverse-in (attribute v) = []
+reverse-in designation = []
+reverse-in (paired c r) = r ∷ []
+
+-- the parents of a type, none where it is no object type
+unfoldable pub parents : Schema → ℕ → List ℕ
+parents s t = parents-in (kind-of s t)
+
+-- a is a parent of t
+unfoldable pub is-parent : Schema → ℕ → ℕ → Bool
+is-parent s t a = among (parents s t) a
+
+-- the reverse of a type, if it has one
+unfoldable pub reverse : Schema → ℕ → List ℕ
+reverse s t = reverse-in (kind-of s t)
+
+-- a type, and its reverse if it has one
+abbrev pub with-reverse : Schema → ℕ → List ℕ
+with-reverse s t = t ∷ reverse s t
+
+-- ---- presences
+
+abbrev pub holds-type : ℕ → ℕ → Presence → Bool
+holds-type d t p = eqb (p .sds) d && eqb (p .type) t
+
+abbrev pub holds-name : ℕ → Name → Presence → Bool
+holds-name d n p = eqb (p .sds) d && same-name (p .name) n
+
+-- type t is in SDS d
+unfoldable pub present : Schema → ℕ → ℕ → Bool
+present s d t = any (holds-type d t) (s .presences)
+
+-- some type in SDS d bears the local name n
+unfoldable pub bears : Schema → ℕ → Name → Bool
+bears s d n = any (holds-name d n) (s .presences)
+
+-- what a search that fails hands back: it is never told, since each call refuses first
+abbrev nowhere : Presence
+nowhere = record { sds = 0; name = []; type = 0 }
+
+-- the type that bears the local name n in SDS d
+unfoldable pub type-named : Schema → ℕ → Name → ℕ
+type-named s d n = (first (holds-name d n) nowhere (s .presences)) .type
+
+-- the local name of type t in SDS d
+unfoldable pub local-name : Schema → ℕ → ℕ → Name
+local-name s d t = (first (holds-type d t) nowhere (s .presences)) .name
+
+-- ---- applications and ends
+
+abbrev pub is-application : ℕ → ℕ → ℕ → Application → Bool
+is-application d t a x = eqb (x .sds) d && (eqb (x .to) t && eqb (x .attribute) a)
+
+-- attribute type a is applied to type t in SDS d
+unfoldable pub applied : Schema → ℕ → ℕ → ℕ → Bool
+applied s d t a = any (is-application d t a) (s .applications)
+
+abbrev pub side-code : Side → ℕ
+side-code origin = 0
+side-code destination = 1
+
+abbrev pub other-side : Side → Side
+other-side origin = destination
+other-side destination = origin
+
+abbrev pub is-end : ℕ → ℕ → Side → ℕ → End → Bool
+is-end d l side o e = eqb (e .sds) d && (eqb (e .link) l && (eqb (side-code (e .side)) (side-code side) && eqb (e .object) o))
+
+-- object type o is an origin, or a destination, of link type l in SDS d
+unfoldable pub has-end : Schema → ℕ → ℕ → Side → ℕ → Bool
+has-end s d l side o = any (is-end d l side o) (s .ends)
+
+-- ---- the order in which rows are kept (design: the layout's, not 01's)
+
+-- x comes before y; where they are the same, the rest decides
+abbrev first-by : ℕ → ℕ → Bool → Bool
+first-by x y rest = ltb x y || (eqb x y && rest)
+
+-- by SDS, then name, then type
+unfoldable pub presence-before : Presence → Presence → Bool
+presence-before p q = first-by (p .sds) (q .sds) (name-before (p .name) (q .name) || (not (name-before (q .name) (p .name)) && ltb (p .type) (q .type)))
+
+-- by SDS, then the type applied to, then the attribute type
+unfoldable pub application-before : Application → Application → Bool
+application-before x y = first-by (x .sds) (y .sds) (first-by (x .to) (y .to) (ltb (x .attribute) (y .attribute)))
+
+-- by SDS, then link type, then side, then object type
+unfoldable pub end-before : End → End → Bool
+end-before x y = first-by (x .sds) (y .sds) (first-by (x .link) (y .link) (first-by (side-code (x .side)) (side-code (y .side)) (ltb (x .object) (y .object))))

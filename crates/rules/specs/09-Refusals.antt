@@ -1,0 +1,181 @@
+-- "A refusal is given exactly when its condition holds and no lower number's does." Each condition of 01's table is defined here,
+-- once, under its number; 10-Changes and 11-Asks put them in order. Number 1 is said in 12-Contracts, for all calls.
+use Prim.Native.Nat.{ℕ, _+_}
+use mathlib.Core.List.{List, [], _∷_}
+use mathlib.Core.Bool.{Bool, false, not, cond, _&&_, _||_}
+use lib.Dec.{leb, ltb, eqb}
+use lib.ListN.{length}
+use Rattle.rules.specs.declared.Answer.{Answer}
+use Rattle.rules.specs.01-Lists.{any, numbers}
+use Rattle.rules.specs.02-Limits.{limits}
+use Rattle.rules.specs.03-Names.{Name, well-formed, blank, same-name}
+use Rattle.rules.specs.04-Schema.{Schema, used-sds, kind-of, is-used, is-object, is-attribute, is-link, parents, is-parent, reverse}
+use Rattle.rules.specs.04-Schema.{present, bears, type-named}
+use Rattle.rules.specs.05-Descent.{members}
+use Rattle.rules.specs.08-Working.{listed-sdss, visible}
+
+-- what a call comes to: refused by a number, or done, with its values and what it makes: of a changing call the next schema, of an
+-- asking call the list that it puts down
+pub data Outcome (Made : Type 0) : Type 0 where
+  refused : ℕ → Outcome Made
+  done : ℕ → ℕ → ℕ → Made → Outcome Made
+
+abbrev pub Refusals : Type 0
+Refusals = List (ℕ × Bool)
+
+-- the first condition that holds refuses by its number; where none does, the effect
+unfoldable pub verdict : {Made : Type 0} → Refusals → Outcome Made → Outcome Made
+verdict [] effect = effect
+verdict (c ∷ cs) effect = cond (c .1) (refused (c .0)) (verdict cs effect)
+
+-- "It returns its number and zeros"
+abbrev pub refusal : ℕ → Answer
+refusal n = record { no = n; one = 0; two = 0; three = 0 }
+
+-- "0 is done"
+abbrev pub success : ℕ → ℕ → ℕ → Answer
+success one two three = record { no = 0; one = one; two = two; three = three }
+
+abbrev pub answer-of : {Made : Type 0} → Outcome Made → Answer
+answer-of (refused n) = refusal n
+answer-of (done one two three made) = success one two three
+
+-- ---- 2 "an SDS number over 15 or unused"
+
+unfoldable pub unknown-sds : Schema → ℕ → Bool
+unknown-sds s d = leb (limits .sdss) d || not (used-sds s d)
+
+-- ---- 3 "a changing call is aimed at SDS 0"
+
+unfoldable pub system-sds : ℕ → Bool
+system-sds d = eqb d 0
+
+-- ---- 4 "a name is malformed, or blank outside import's new names"
+
+unfoldable pub malformed : Name → Bool
+malformed n = not (well-formed n)
+
+unfoldable pub malformed-new : Name → Bool
+malformed-new n = not (blank n) && malformed n
+
+-- ---- 5 "unknown kind, category or scan code; category 4 in a pair; both implicit; parents not 1 to 4"
+
+unfoldable pub unknown-value-kind : ℕ → Bool
+unknown-value-kind v = ltb 5 v
+
+unfoldable pub no-pair : ℕ → ℕ → Bool
+no-pair c c′ = ltb 3 c || (ltb 3 c′ || (eqb c 3 && eqb c′ 3))
+
+unfoldable pub unknown-object-scan : ℕ → Bool
+unknown-object-scan code = ltb 9 code
+
+unfoldable pub unknown-link-scan : ℕ → Bool
+unknown-link-scan code = ltb 4 code
+
+unfoldable pub not-1-to-4 : List Name → Bool
+not-1-to-4 ns = ltb (length ns) 1 || ltb 4 (length ns)
+
+-- ---- 6 "no such local name there, or type number unused, not visible or not present there" (what is unused is present nowhere)
+
+unfoldable pub no-such-name : Schema → ℕ → Name → Bool
+no-such-name s d n = not (bears s d n)
+
+unfoldable pub no-name-listed : Schema → List ℕ → Name → Bool
+no-name-listed s w n = not (any (λ d. bears s d n) (listed-sdss s w))
+
+unfoldable pub not-visible : Schema → List ℕ → ℕ → Bool
+not-visible s w t = not (visible s w t)
+
+unfoldable pub not-present : Schema → ℕ → ℕ → Bool
+not-present s d t = not (present s d t)
+
+-- ---- 7 "wrong kind of type, or a reverse name given in an import of a type that has none"
+
+unfoldable pub no-object : Schema → ℕ → Bool
+no-object s t = not (is-object (kind-of s t))
+
+unfoldable pub no-attribute : Schema → ℕ → Bool
+no-attribute s t = not (is-attribute (kind-of s t))
+
+unfoldable pub no-link : Schema → ℕ → Bool
+no-link s t = not (is-link (kind-of s t))
+
+unfoldable pub idle-reverse-name : Schema → ℕ → Name → Bool
+idle-reverse-name s t n = not (blank n) && eqb (length (reverse s t)) 0
+
+-- ---- 8 "the same parent twice, or the same SDS twice in a list" is `repeated` of 01-Lists
+-- ---- 9 "already present, applied or that end" is `present`, `applied` or `has-end` of 04-Schema, and 13 "no such application or
+-- end to take away" its contrary
+
+-- ---- 10 "import: a parent is missing in the target"
+
+unfoldable pub missing-parent : Schema → ℕ → ℕ → Bool
+missing-parent s target t = any (not-present s target) (parents s t)
+
+-- ---- 11 "a new name (blanks filled in) borne by another, or the two of a call equal"
+
+unfoldable pub sds-name-taken : Schema → Name → Bool
+sds-name-taken s n = any (λ m. not (blank m) && same-name m n) (s .sdss)
+
+abbrev two-equal : List Name → Bool
+two-equal [] = false
+two-equal (n ∷ ns) = any (same-name n) ns || two-equal ns
+
+unfoldable pub names-taken : Schema → ℕ → List Name → Bool
+names-taken s d ns = any (bears s d) ns || two-equal ns
+
+-- for a rename of type t
+unfoldable pub borne-by-another : Schema → ℕ → ℕ → Name → Bool
+borne-by-another s d t n = bears s d n && not (eqb (type-named s d n) t)
+
+-- ---- 12 "remove SDS or remove type while still used"
+
+-- "it must hold no presence"
+unfoldable pub holds-presence : Schema → ℕ → Bool
+holds-presence s d = any (λ p. eqb (p .sds) d) (s .presences)
+
+-- "while it has a child present there"
+unfoldable pub has-child : Schema → ℕ → ℕ → Bool
+has-child s d t = any (λ p. eqb (p .sds) d && is-parent s (p .type) t) (s .presences)
+
+-- "is applied or has anything applied to it there"
+unfoldable pub in-application : Schema → ℕ → ℕ → Bool
+in-application s d t = any (λ x. eqb (x .sds) d && (eqb (x .to) t || eqb (x .attribute) t)) (s .applications)
+
+-- "or is or has an end there"
+unfoldable pub in-end : Schema → ℕ → ℕ → Bool
+in-end s d t = any (λ e. eqb (e .sds) d && (eqb (e .link) t || eqb (e .object) t)) (s .ends)
+
+unfoldable pub still-used : Schema → ℕ → ℕ → Bool
+still-used s d t = has-child s d t || (in-application s d t || in-end s d t)
+
+-- ---- 14 "no room in the base"
+
+-- the unused numbers, the lowest first
+unfoldable pub free-sdss : Schema → List ℕ
+free-sdss s = numbers 0 (limits .sdss) (λ d. not (used-sds s d))
+
+unfoldable pub free-types : Schema → List ℕ
+free-types s = members (λ t. not (is-used (kind-of s t)))
+
+unfoldable pub no-free-sds : Schema → Bool
+no-free-sds s = ltb (length (free-sdss s)) 1
+
+-- for so many presences, applications, ends more
+unfoldable pub presences-full : Schema → ℕ → Bool
+presences-full s more = ltb (limits .presences) (length (s .presences) + more)
+
+unfoldable pub applications-full : Schema → ℕ → Bool
+applications-full s more = ltb (limits .applications) (length (s .applications) + more)
+
+unfoldable pub ends-full : Schema → ℕ → Bool
+ends-full s more = ltb (limits .ends) (length (s .ends) + more)
+
+-- for so many new types, each with a presence
+unfoldable pub types-full : Schema → ℕ → Bool
+types-full s more = ltb (length (free-types s)) more || presences-full s more
+
+-- ---- 15 "output shorter than the count"; "room is counted in whole entries"
+
+unfoldable pub short-output : ℕ → ℕ → Bool
+short-output room count = ltb room count

@@ -1,0 +1,317 @@
+-- The changing calls, 1 to 8 of 01: of each its refusals in order, and its effect.
+use Prim.Native.Nat.{ℕ}
+use mathlib.Core.List.{List, [], _∷_, _++_, map}
+use mathlib.Core.Bool.{Bool, not, cond, _&&_, _||_}
+use lib.Dec.{ltb, eqb}
+use lib.ListN.{length, getD, set}
+use Rattle.rules.specs.01-Lists.{any, among, repeated, without, put}
+use Rattle.rules.specs.03-Names.{Name, blank, names-in}
+use Rattle.rules.specs.04-Schema.{Schema, Kind, Presence, Application, Side, End, reverse, with-reverse, present, type-named}
+use Rattle.rules.specs.04-Schema.{local-name, holds-type, applied, is-application, has-end, is-end, other-side, presence-before}
+use Rattle.rules.specs.04-Schema.{application-before, end-before}
+use Rattle.rules.specs.04-Schema.Kind.{unused, object, attribute, designation, paired}
+use Rattle.rules.specs.04-Schema.Side.{origin, destination}
+use Rattle.rules.specs.09-Refusals.{Outcome, Refusals, verdict, unknown-sds, system-sds, malformed, malformed-new, unknown-value-kind}
+use Rattle.rules.specs.09-Refusals.{no-pair, not-1-to-4, no-such-name, no-object, no-attribute, no-link, idle-reverse-name}
+use Rattle.rules.specs.09-Refusals.{missing-parent, sds-name-taken, names-taken, borne-by-another, holds-presence, still-used}
+use Rattle.rules.specs.09-Refusals.{no-free-sds, presences-full, applications-full, ends-full, types-full, free-sdss, free-types}
+use Rattle.rules.specs.09-Refusals.Outcome.{done}
+
+-- ---- a schema with one table changed
+
+abbrev pub with-sdss : Schema → List Name → Schema
+with-sdss s ns = record { sdss = ns; types = s .types; presences = s .presences; applications = s .applications; ends = s .ends }
+
+abbrev pub with-types : Schema → List Kind → Schema
+with-types s ks = record { sdss = s .sdss; types = ks; presences = s .presences; applications = s .applications; ends = s .ends }
+
+abbrev pub with-presences : Schema → List Presence → Schema
+with-presences s ps = record { sdss = s .sdss; types = s .types; presences = ps; applications = s .applications; ends = s .ends }
+
+abbrev pub with-applications : Schema → List Application → Schema
+with-applications s xs = record { sdss = s .sdss; types = s .types; presences = s .presences; applications = xs; ends = s .ends }
+
+abbrev pub with-ends : Schema → List End → Schema
+with-ends s es = record { sdss = s .sdss; types = s .types; presences = s .presences; applications = s .applications; ends = es }
+
+-- each put in at its place
+unfoldable pub put-all : {A : Type 0} → (A → A → Bool) → List A → List A → List A
+put-all before [] rs = rs
+put-all before (a ∷ more) rs = put-all before more (put before a rs)
+
+-- ---- 2 "New SDS by name; remove SDS by number; it must hold no presence."
+
+abbrev pub new-sds-refusals : Name → Schema → Refusals
+new-sds-refusals n s =
+    (4, malformed n)
+    ∷ (11, sds-name-taken s n)
+    ∷ (14, no-free-sds s)
+    ∷ []
+
+-- "New SDS and type numbers are the lowest unused"
+abbrev pub new-sds-number : Schema → ℕ
+new-sds-number s = getD (free-sdss s) 0 0
+
+unfoldable pub new-sds : Name → Schema → Outcome Schema
+new-sds n s = verdict (new-sds-refusals n s) (done (new-sds-number s) 0 0 (with-sdss s (set (s .sdss) (new-sds-number s) n)))
+
+abbrev pub remove-sds-refusals : ℕ → Schema → Refusals
+remove-sds-refusals d s =
+    (2, unknown-sds s d)
+    ∷ (3, system-sds d)
+    ∷ (12, holds-presence s d)
+    ∷ []
+
+unfoldable pub remove-sds : ℕ → Schema → Outcome Schema
+remove-sds d s = verdict (remove-sds-refusals d s) (done 0 0 0 (with-sdss s (set (s .sdss) d [])))
+
+-- ---- 3 new types
+
+-- the lowest unused type numbers: the first and the second
+abbrev pub new-type : Schema → ℕ
+new-type s = getD (free-types s) 0 0
+
+abbrev pub second-new-type : Schema → ℕ
+second-new-type s = getD (free-types s) 1 0
+
+-- type t is of kind k, and in SDS d under the name n
+abbrev pub with-type : ℕ → Kind → ℕ → Name → Schema → Schema
+with-type t k d n s =
+    with-presences (with-types s (set (s .types) t k)) (put presence-before (record { sds = d; name = n; type = t }) (s .presences))
+
+-- "New object type: SDS, name, local names of its parents in that SDS"
+abbrev pub parents-named : Schema → ℕ → List ℕ → List ℕ
+parents-named s d run = map (type-named s d) (names-in run)
+
+abbrev pub new-object-refusals : ℕ → Name → List ℕ → Schema → Refusals
+new-object-refusals d n run s =
+    (2, unknown-sds s d)
+    ∷ (3, system-sds d)
+    ∷ (4, malformed n || any malformed (names-in run))
+    ∷ (5, not-1-to-4 (names-in run))
+    ∷ (6, any (no-such-name s d) (names-in run))
+    ∷ (7, any (no-object s) (parents-named s d run))
+    ∷ (8, repeated (parents-named s d run))
+    ∷ (11, names-taken s d (n ∷ []))
+    ∷ (14, types-full s 1)
+    ∷ []
+
+-- the parents are kept rising
+unfoldable pub new-object : ℕ → Name → List ℕ → Schema → Outcome Schema
+new-object d n run s =
+    verdict (new-object-refusals d n run s)
+    (done (new-type s) 0 0 (with-type (new-type s) (object (put-all ltb (parents-named s d run) [])) d n s))
+
+-- "New attribute type: SDS, name, value kind."
+abbrev pub new-attribute-refusals : ℕ → Name → ℕ → Schema → Refusals
+new-attribute-refusals d n v s =
+    (2, unknown-sds s d)
+    ∷ (3, system-sds d)
+    ∷ (4, malformed n)
+    ∷ (5, unknown-value-kind v)
+    ∷ (11, names-taken s d (n ∷ []))
+    ∷ (14, types-full s 1)
+    ∷ []
+
+unfoldable pub new-attribute : ℕ → Name → ℕ → Schema → Outcome Schema
+new-attribute d n v s = verdict (new-attribute-refusals d n v s) (done (new-type s) 0 0 (with-type (new-type s) (attribute v) d n s))
+
+-- "New designation link type: SDS, name."
+abbrev pub new-designation-refusals : ℕ → Name → Schema → Refusals
+new-designation-refusals d n s =
+    (2, unknown-sds s d)
+    ∷ (3, system-sds d)
+    ∷ (4, malformed n)
+    ∷ (11, names-taken s d (n ∷ []))
+    ∷ (14, types-full s 1)
+    ∷ []
+
+unfoldable pub new-designation : ℕ → Name → Schema → Outcome Schema
+new-designation d n s = verdict (new-designation-refusals d n s) (done (new-type s) 0 0 (with-type (new-type s) designation d n s))
+
+-- "New pair: SDS, two names, two categories from 0 to 3; the forward type takes the lower number."
+abbrev pub new-pair-refusals : ℕ → Name → Name → ℕ → ℕ → Schema → Refusals
+new-pair-refusals d n m c c′ s =
+    (2, unknown-sds s d)
+    ∷ (3, system-sds d)
+    ∷ (4, malformed n || malformed m)
+    ∷ (5, no-pair c c′)
+    ∷ (11, names-taken s d (n ∷ m ∷ []))
+    ∷ (14, types-full s 2)
+    ∷ []
+
+abbrev pub with-pair : ℕ → ℕ → ℕ → Name → Name → ℕ → ℕ → Schema → Schema
+with-pair t r d n m c c′ s = with-type r (paired c′ t) d m (with-type t (paired c r) d n s)
+
+unfoldable pub new-pair : ℕ → Name → Name → ℕ → ℕ → Schema → Outcome Schema
+new-pair d n m c c′ s =
+    verdict (new-pair-refusals d n m c c′ s)
+    (done (new-type s) (second-new-type s) 0 (with-pair (new-type s) (second-new-type s) d n m c c′ s))
+
+-- ---- 4 "Import: target, source, local name there, new name, new name for the reverse."
+
+-- "A blank (length 0) new name means the name in the source."
+abbrev pub filled : Schema → ℕ → ℕ → Name → Name
+filled s source t new = cond (blank new) (local-name s source t) new
+
+-- "A pair is imported together.": the presences that come into the target, the named type's first
+unfoldable pub imported : ℕ → ℕ → ℕ → Name → Name → Schema → List Presence
+imported target source t new new-reverse s =
+    record { sds = target; name = filled s source t new; type = t }
+    ∷ map (λ r. record { sds = target; name = filled s source r new-reverse; type = r }) (reverse s t)
+
+abbrev pub import-refusals : ℕ → ℕ → Name → Name → Name → Schema → Refusals
+import-refusals target source n new new-reverse s =
+    let t = type-named s source n in
+    (2, unknown-sds s target || unknown-sds s source)
+    ∷ (3, system-sds target)
+    ∷ (4, malformed n || (malformed-new new || malformed-new new-reverse))
+    ∷ (6, no-such-name s source n)
+    ∷ (7, idle-reverse-name s t new-reverse)
+    ∷ (9, present s target t)
+    ∷ (10, missing-parent s target t)
+    ∷ (11, names-taken s target (map (λ p. p .name) (imported target source t new new-reverse s)))
+    ∷ (14, presences-full s (length (with-reverse s t)))
+    ∷ []
+
+-- "Applications and ends don't come along."
+unfoldable pub import : ℕ → ℕ → Name → Name → Name → Schema → Outcome Schema
+import target source n new new-reverse s =
+    let t = type-named s source n in
+    verdict (import-refusals target source n new new-reverse s)
+    (done t (getD (reverse s t) 0 0) 0
+    (with-presences s (put-all presence-before (imported target source t new new-reverse s) (s .presences))))
+
+-- ---- 5 "Apply or unapply an attribute type to an object or link type, by local names."
+
+abbrev pub application-refusals : ℕ → Name → Name → Schema → Refusals
+application-refusals d a n s =
+    (2, unknown-sds s d)
+    ∷ (3, system-sds d)
+    ∷ (4, malformed a || malformed n)
+    ∷ (6, no-such-name s d a || no-such-name s d n)
+    ∷ (7, no-attribute s (type-named s d a) || (no-object s (type-named s d n) && no-link s (type-named s d n)))
+    ∷ []
+
+abbrev pub apply-refusals : ℕ → Name → Name → Schema → Refusals
+apply-refusals d a n s =
+    application-refusals d a n s
+    ++ ((9, applied s d (type-named s d n) (type-named s d a))
+    ∷ (14, applications-full s 1)
+    ∷ [])
+
+unfoldable pub apply : ℕ → Name → Name → Schema → Outcome Schema
+apply d a n s =
+    verdict (apply-refusals d a n s)
+    (done 0 0 0
+    (with-applications s
+    (put application-before (record { sds = d; to = type-named s d n; attribute = type-named s d a }) (s .applications))))
+
+abbrev pub unapply-refusals : ℕ → Name → Name → Schema → Refusals
+unapply-refusals d a n s =
+    application-refusals d a n s
+    ++ ((13, not (applied s d (type-named s d n) (type-named s d a)))
+    ∷ [])
+
+unfoldable pub unapply : ℕ → Name → Name → Schema → Outcome Schema
+unapply d a n s =
+    verdict (unapply-refusals d a n s)
+    (done 0 0 0 (with-applications s (without (is-application d (type-named s d n) (type-named s d a)) (s .applications))))
+
+-- ---- 6 "Apply link type and add destination, with their takings-away"
+
+-- "applying makes the object type an origin, and a destination of the reverse; adding a destination is the converse"
+unfoldable pub both-ends : ℕ → ℕ → Side → ℕ → Schema → List End
+both-ends d l side o s =
+    record { sds = d; link = l; side = side; object = o }
+    ∷ map (λ r. record { sds = d; link = r; side = other-side side; object = o }) (reverse s l)
+
+abbrev pub end-refusals : ℕ → Name → Name → Schema → Refusals
+end-refusals d n m s =
+    (2, unknown-sds s d)
+    ∷ (3, system-sds d)
+    ∷ (4, malformed n || malformed m)
+    ∷ (6, no-such-name s d n || no-such-name s d m)
+    ∷ (7, no-link s (type-named s d n) || no-object s (type-named s d m))
+    ∷ []
+
+-- "A reversed link needs two ends, a designation type one."
+abbrev pub add-end-refusals : Side → ℕ → Name → Name → Schema → Refusals
+add-end-refusals side d n m s =
+    end-refusals d n m s
+    ++ ((9, has-end s d (type-named s d n) side (type-named s d m))
+    ∷ (14, ends-full s (length (with-reverse s (type-named s d n))))
+    ∷ [])
+
+unfoldable pub add-end : Side → ℕ → Name → Name → Schema → Outcome Schema
+add-end side d n m s =
+    verdict (add-end-refusals side d n m s)
+    (done 0 0 0 (with-ends s (put-all end-before (both-ends d (type-named s d n) side (type-named s d m) s) (s .ends))))
+
+abbrev pub remove-end-refusals : Side → ℕ → Name → Name → Schema → Refusals
+remove-end-refusals side d n m s =
+    end-refusals d n m s
+    ++ ((13, not (has-end s d (type-named s d n) side (type-named s d m)))
+    ∷ [])
+
+abbrev pub is-one-of : List End → End → Bool
+is-one-of es x = any (λ e. is-end (e .sds) (e .link) (e .side) (e .object) x) es
+
+unfoldable pub remove-end : Side → ℕ → Name → Name → Schema → Outcome Schema
+remove-end side d n m s =
+    verdict (remove-end-refusals side d n m s)
+    (done 0 0 0 (with-ends s (without (is-one-of (both-ends d (type-named s d n) side (type-named s d m) s)) (s .ends))))
+
+abbrev pub apply-link : ℕ → Name → Name → Schema → Outcome Schema
+apply-link = add-end origin
+
+abbrev pub unapply-link : ℕ → Name → Name → Schema → Outcome Schema
+unapply-link = remove-end origin
+
+abbrev pub add-destination : ℕ → Name → Name → Schema → Outcome Schema
+add-destination = add-end destination
+
+abbrev pub remove-destination : ℕ → Name → Name → Schema → Outcome Schema
+remove-destination = remove-end destination
+
+-- ---- 7 "Remove type from an SDS"
+
+-- "A link type goes with its reverse, and the test covers both."
+abbrev pub remove-type-refusals : ℕ → Name → Schema → Refusals
+remove-type-refusals d n s =
+    (2, unknown-sds s d)
+    ∷ (3, system-sds d)
+    ∷ (4, malformed n)
+    ∷ (6, no-such-name s d n)
+    ∷ (12, any (still-used s d) (with-reverse s (type-named s d n)))
+    ∷ []
+
+-- "A type with no presence left is gone.": of the types ts those that are present nowhere
+unfoldable pub less-gone : List ℕ → Schema → Schema
+less-gone [] s = s
+less-gone (t ∷ ts) s = less-gone ts (cond (any (λ p. eqb (p .type) t) (s .presences)) s (with-types s (set (s .types) t unused)))
+
+unfoldable pub remove-type : ℕ → Name → Schema → Outcome Schema
+remove-type d n s =
+    let t = type-named s d n in
+    let ts = with-reverse s t in
+    verdict (remove-type-refusals d n s)
+    (done t 0 0 (less-gone ts (with-presences s (without (λ p. eqb (p .sds) d && among ts (p .type)) (s .presences)))))
+
+-- ---- 8 "Rename a presence. Its own present name is accepted and changes nothing."
+
+abbrev pub rename-refusals : ℕ → Name → Name → Schema → Refusals
+rename-refusals d n new s =
+    (2, unknown-sds s d)
+    ∷ (3, system-sds d)
+    ∷ (4, malformed n || malformed new)
+    ∷ (6, no-such-name s d n)
+    ∷ (11, borne-by-another s d (type-named s d n) new)
+    ∷ []
+
+unfoldable pub rename : ℕ → Name → Name → Schema → Outcome Schema
+rename d n new s =
+    let t = type-named s d n in
+    verdict (rename-refusals d n new s)
+    (done 0 0 0
+    (with-presences s (put presence-before (record { sds = d; name = new; type = t }) (without (holds-type d t) (s .presences)))))

@@ -1,0 +1,51 @@
+-- What each function of the keeper promises, for every input: one sentence for all changing calls, one for all that put a list
+-- down, one for all that only answer, and *fresh*.
+use Prim.Native.Nat.{ℕ, _/_, _%_}
+use mathlib.Core.Path.{_≡_}
+use mathlib.Core.List.{List, [], _∷_, _++_}
+use lib.ListN.{length, drop}
+use Rattle.rules.specs.declared.Answer.{Answer}
+use Rattle.rules.specs.04-Schema.{Schema, fresh}
+use Rattle.rules.specs.06-Good.{Good}
+use Rattle.rules.specs.07-Picture.{Sound, picture, base-length}
+use Rattle.rules.specs.09-Refusals.{Outcome, answer-of, refusal, success}
+use Rattle.rules.specs.09-Refusals.Outcome.{refused, done}
+
+-- "changes nothing lent"
+abbrev pub base-after : List ℕ → Outcome Schema → List ℕ
+base-after before (refused n) = before
+base-after before (done one two three next) = picture next
+
+-- "an entry is two bytes, low byte first"
+unfoldable pub entries : List ℕ → List ℕ
+entries [] = []
+entries (n ∷ ns) = n % 256 ∷ n / 256 ∷ entries ns
+
+-- "room is counted in whole entries"
+abbrev pub room : List ℕ → ℕ
+room out = length out / 2
+
+-- "Output beyond the count is unchanged."
+abbrev pub output-after : List ℕ → Outcome (List ℕ) → List ℕ
+output-after before (refused n) = before
+output-after before (done one two three list) = entries list ++ drop (length (entries list)) before
+
+-- a changing call: on the picture of a good schema answer and base are what the rule gives; on any other bytes the answer is 1
+pub record Kept (before : List ℕ) (rule : Schema → Outcome Schema) (answer : Answer) (after : List ℕ) : Type 0 where
+  pub spoiled : (Sound before → ⊥) → (answer ≡ refusal 1) × (after ≡ before)
+  pub kept : (s : Schema) → Good s → before ≡ picture s → (answer ≡ answer-of (rule s)) × (after ≡ base-after before (rule s))
+
+-- a call that puts a list down in an output
+pub record Listed (base : List ℕ) (rule : Schema → Outcome (List ℕ)) (answer : Answer) (before after : List ℕ) : Type 0 where
+  pub spoiled : (Sound base → ⊥) → (answer ≡ refusal 1) × (after ≡ before)
+  pub kept : (s : Schema) → Good s → base ≡ picture s → (answer ≡ answer-of (rule s)) × (after ≡ output-after before (rule s))
+
+-- a call that only answers
+pub record Answered (base : List ℕ) (rule : Schema → Outcome (List ℕ)) (answer : Answer) : Type 0 where
+  pub spoiled : (Sound base → ⊥) → answer ≡ refusal 1
+  pub kept : (s : Schema) → Good s → base ≡ picture s → answer ≡ answer-of (rule s)
+
+-- "Fresh: writes a fresh base over any bytes of the right length."
+pub record Freshened (before : List ℕ) (answer : Answer) (after : List ℕ) : Type 0 where
+  pub wrong-length : (length before ≡ base-length → ⊥) → (answer ≡ refusal 1) × (after ≡ before)
+  pub written : length before ≡ base-length → (answer ≡ success 0 0 0) × (after ≡ picture fresh)

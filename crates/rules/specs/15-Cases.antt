@@ -1,0 +1,194 @@
+-- 01, "Both sides of each edge": the marked cases, each a sequence of calls from a fresh base with what they answer, and the worked
+-- sequence as lines of the run program. One statement holds over the table: proofs/15-Cases.
+use Prim.Native.Nat.{ℕ}
+use Prim.Native.String.{String}
+use mathlib.Core.List.{List, [], _∷_, _++_}
+use mathlib.Core.Bool.{Bool, true, _&&_}
+use lib.Dec.{eqb}
+use lib.ListN.{replicate}
+use Rattle.rules.specs.declared.Answer.{Answer}
+use Rattle.rules.specs.01-Lists.{bytes, same-bytes}
+use Rattle.rules.specs.04-Schema.{Schema, fresh}
+use Rattle.rules.specs.09-Refusals.{Outcome, answer-of, refusal, success}
+use Rattle.rules.specs.09-Refusals.Outcome.{refused, done}
+use Rattle.rules.specs.13-History.{Change, Ask, Call, change-rule, ask-rule, after}
+use Rattle.rules.specs.13-History.Change.{new-sds, remove-sds, new-object, new-attribute, new-designation, new-pair, import, apply}
+use Rattle.rules.specs.13-History.Change.{unapply, apply-link, unapply-link, add-destination, remove-destination, remove-type, rename}
+use Rattle.rules.specs.13-History.Ask.{scan-object, scan-link, profile, find, depth-of, name, descendant-set}
+use Rattle.rules.specs.13-History.Call.{begin-fresh, change, ask}
+use Rattle.rules.specs.14-Run.{reply}
+
+-- a call, its answer, and the list that it puts down
+pub record Step : Type 0 where
+  pub call : Call
+  pub answer : Answer
+  pub list : List ℕ
+
+-- a row of the table: calls from a fresh base, or lines of the run program
+pub data Row : Type 0 where
+  calls : List Step → Row
+  lines : List (String × String) → Row
+
+abbrev same-answer : Answer → Answer → Bool
+same-answer a b = eqb (a .no) (b .no) && (eqb (a .one) (b .one) && (eqb (a .two) (b .two) && eqb (a .three) (b .three)))
+
+abbrev list-of : Outcome (List ℕ) → List ℕ
+list-of (refused n) = []
+list-of (done one two three list) = list
+
+-- the call answers as the step says
+abbrev answers : Schema → Step → Call → Bool
+answers s x begin-fresh = same-answer (success 0 0 0) (x .answer)
+answers s x (change c) = same-answer (answer-of (change-rule c s)) (x .answer)
+answers s x (ask q) = same-answer (answer-of (ask-rule q s)) (x .answer) && same-bytes (list-of (ask-rule q s)) (x .list)
+
+unfoldable pub calls-hold : Schema → List Step → Bool
+calls-hold s [] = true
+calls-hold s (x ∷ xs) = answers s x (x .call) && calls-hold (after s (x .call)) xs
+
+unfoldable pub lines-hold : Schema → List (String × String) → Bool
+lines-hold s [] = true
+lines-hold s (x ∷ xs) = same-bytes ((reply (bytes (x .0)) s) .line) (bytes (x .1)) && lines-hold ((reply (bytes (x .0)) s) .next) xs
+
+abbrev pub row-holds : Row → Bool
+row-holds (calls xs) = calls-hold fresh xs
+row-holds (lines xs) = lines-hold fresh xs
+
+-- ---- how a row is written
+
+abbrev changes : Change → Answer → Step
+changes c a = record { call = change c; answer = a; list = [] }
+
+abbrev asks : Ask → Answer → List ℕ → Step
+asks q a list = record { call = ask q; answer = a; list = list }
+
+-- SDS 1 "bus", with type 0 in it
+abbrev bus : List Step
+bus = changes (new-sds (bytes "bus")) (success 1 0 0) ∷ changes (import 1 0 (bytes "object") [] []) (success 0 0 0) ∷ []
+
+-- ---- the marked cases
+
+abbrev pub marked : List Row
+marked =
+    -- Fresh, list of SDS 0 alone: depth of type 0 is 0, no descendants, also with an output of length 0.
+    calls (asks (depth-of (0 ∷ []) 0) (success 0 0 0) [] ∷ asks (scan-object (0 ∷ []) 0 1 0) (success 0 0 0) [] ∷ [])
+    -- Name of 16 bytes accepted; 17 refused 4
+    ∷ calls (changes (new-sds (replicate 16 97)) (success 1 0 0) ∷ [])
+    ∷ calls (changes (new-sds (replicate 17 97)) (refusal 4) ∷ [])
+    -- 0 or 5 parents refused 5
+    ∷ calls (bus ++ (changes (new-object 1 (bytes "unit") []) (refusal 5) ∷ []))
+    ∷ calls (bus ++ (changes (new-object 1 (bytes "unit") (bytes "a b c d e")) (refusal 5) ∷ []))
+    -- SDS 16: 2.
+    ∷ calls (changes (new-attribute 16 (bytes "state") 0) (refusal 2) ∷ asks (find (16 ∷ []) (bytes "object")) (refusal 2) [] ∷ [])
+    -- New SDS "system": 11.
+    ∷ calls (changes (new-sds (bytes "system")) (refusal 11) ∷ [])
+    -- Importing what is present is 9, even if the new name is taken.
+    ∷ calls (bus ++ (changes (import 1 0 (bytes "object") (bytes "object") []) (refusal 9) ∷ []))
+    -- Rename to its own name: 0.
+    ∷ calls (bus ++ (changes (rename 1 (bytes "object") (bytes "object")) (success 0 0 0) ∷ asks (find (1 ∷ []) (bytes "object")) (success 0 0 0) [] ∷ []))
+    -- Pair of categories 3 and 3: 5; 0 and 3: done.
+    ∷ calls (bus ++ (changes (new-pair 1 (bytes "has") (bytes "of") 3 3) (refusal 5) ∷ []))
+    ∷ calls (bus ++ (changes (new-pair 1 (bytes "has") (bytes "of") 0 3) (success 1 2 0) ∷ []))
+    -- the worked sequence of the run program
+    ∷ lines
+    (("sds bus", "0 1")
+    ∷ ("import bus system object", "0 0")
+    ∷ ("object bus unit object", "0 1")
+    ∷ ("object bus template unit", "0 2")
+    ∷ ("object bus radio unit", "0 3")
+    ∷ ("object bus fifo template radio", "0 4")
+    ∷ ("object bus fifo2 radio template", "0 5")
+    ∷ ("desc bus template", "0 2 4 5")
+    ∷ ("depth bus fifo", "0 3")
+    ∷ ("remove bus template", "12")
+    ∷ ("remove bus fifo", "0 4")
+    ∷ ("object bus adc fifo2", "0 4")
+    ∷ ("desc bus template", "0 2 4 5")
+    ∷ ("depth bus adc", "0 4")
+    ∷ [])
+    ∷ []
+
+-- ---- rows of our own, set apart from 01's
+
+-- SDS 1 with object types 1 "unit" and 2 "radio" below it, attribute types 3 and 4, the pair 5 "has" and 6 "of", the designation type 7
+abbrev ship : List Step
+ship =
+    bus
+    ++ (changes (new-object 1 (bytes "unit") (bytes "object")) (success 1 0 0)
+    ∷ changes (new-object 1 (bytes "radio") (bytes "unit")) (success 2 0 0)
+    ∷ changes (new-attribute 1 (bytes "state") 5) (success 3 0 0)
+    ∷ changes (new-attribute 1 (bytes "mass") 3) (success 4 0 0)
+    ∷ changes (new-pair 1 (bytes "has") (bytes "of") 0 3) (success 5 6 0)
+    ∷ changes (new-designation 1 (bytes "see")) (success 7 0 0)
+    ∷ [])
+
+abbrev applications-and-ends : List Step
+applications-and-ends =
+    changes (apply 1 (bytes "state") (bytes "unit")) (success 0 0 0)
+    ∷ changes (apply 1 (bytes "state") (bytes "unit")) (refusal 9)
+    ∷ changes (apply 1 (bytes "mass") (bytes "has")) (success 0 0 0)
+    ∷ changes (apply-link 1 (bytes "has") (bytes "unit")) (success 0 0 0)
+    ∷ changes (apply-link 1 (bytes "has") (bytes "unit")) (refusal 9)
+    ∷ changes (add-destination 1 (bytes "of") (bytes "unit")) (refusal 9)
+    ∷ changes (add-destination 1 (bytes "has") (bytes "radio")) (success 0 0 0)
+    ∷ changes (apply-link 1 (bytes "see") (bytes "object")) (success 0 0 0)
+    ∷ []
+
+abbrev pub own : List Row
+own =
+    -- an empty list stands for every SDS
+    calls (asks (find [] (bytes "object")) (success 0 0 0) [] ∷ asks (depth-of [] 0) (success 0 0 0) [] ∷ [])
+    -- a type that is not visible is 6, even if the list has an SDS twice
+    ∷ calls (asks (scan-object (0 ∷ 0 ∷ []) 5 1 0) (refusal 6) [] ∷ asks (scan-object (0 ∷ 0 ∷ []) 0 1 0) (refusal 8) [] ∷ [])
+    -- a pair comes together, by either name
+    ∷ calls
+    (ship
+    ++ (changes (new-sds (bytes "ground")) (success 2 0 0)
+    ∷ changes (import 2 1 (bytes "of") (bytes "part") []) (success 6 5 0)
+    ∷ asks (find (2 ∷ []) (bytes "has")) (success 5 0 0) []
+    ∷ asks (find (2 ∷ []) (bytes "part")) (success 6 0 0) []
+    ∷ changes (import 2 1 (bytes "unit") [] []) (refusal 10)
+    ∷ changes (import 2 1 (bytes "mass") [] (bytes "x")) (refusal 7)
+    ∷ changes (remove-type 2 (bytes "has")) (success 5 0 0)
+    ∷ asks (find (2 ∷ []) (bytes "part")) (refusal 6) []
+    ∷ asks (find (2 ∷ 1 ∷ []) (bytes "of")) (success 6 0 0) []
+    ∷ changes (remove-sds 2) (success 0 0 0)
+    ∷ changes (remove-sds 1) (refusal 12)
+    ∷ []))
+    -- what the asking calls show of applications and ends
+    ∷ calls
+    (ship
+    ++ (applications-and-ends
+    ++ (asks (scan-object (1 ∷ []) 2 4 9) (success 0 0 0) []
+    ∷ asks (scan-object (1 ∷ []) 2 5 1) (success 1 0 0) (3 ∷ [])
+    ∷ asks (scan-object (1 ∷ []) 2 5 0) (refusal 15) []
+    ∷ asks (scan-object (1 ∷ []) 2 7 9) (success 3 0 0) (5 ∷ 6 ∷ 7 ∷ [])
+    ∷ asks (scan-object (1 ∷ []) 1 8 9) (success 1 0 0) (6 ∷ [])
+    ∷ asks (scan-link (1 ∷ []) 5 1 9) (success 2 0 0) (1 ∷ 2 ∷ [])
+    ∷ asks (scan-link (1 ∷ []) 5 2 9) (success 1 0 0) (2 ∷ [])
+    ∷ asks (scan-link (1 ∷ []) 5 4 9) (success 1 0 0) (4 ∷ [])
+    ∷ asks (scan-link (0 ∷ []) 5 4 9) (refusal 6) []
+    ∷ asks (profile (1 ∷ []) 2 6) (success 2 1 3) (0 ∷ 1 ∷ 3 ∷ 5 ∷ 6 ∷ 7 ∷ [])
+    ∷ asks (profile (1 ∷ []) 2 5) (refusal 15) []
+    ∷ asks (descendant-set (1 ∷ []) 0) (success 6 0 2) []
+    ∷ asks (name 1 2) (success 1371 5 0) []
+    ∷ [])))
+    -- what is taken away is gone, and only then can a type go
+    ∷ calls
+    (ship
+    ++ (applications-and-ends
+    ++ (changes (remove-type 1 (bytes "of")) (refusal 12)
+    ∷ changes (unapply-link 1 (bytes "has") (bytes "unit")) (success 0 0 0)
+    ∷ changes (remove-destination 1 (bytes "of") (bytes "unit")) (refusal 13)
+    ∷ changes (remove-destination 1 (bytes "has") (bytes "radio")) (success 0 0 0)
+    ∷ changes (remove-type 1 (bytes "of")) (refusal 12)
+    ∷ changes (unapply 1 (bytes "mass") (bytes "has")) (success 0 0 0)
+    ∷ changes (unapply 1 (bytes "mass") (bytes "has")) (refusal 13)
+    ∷ changes (remove-type 1 (bytes "of")) (success 6 0 0)
+    ∷ asks (find (1 ∷ []) (bytes "has")) (refusal 6) []
+    ∷ changes (rename 1 (bytes "radio") (bytes "tuner")) (success 0 0 0)
+    ∷ asks (find (1 ∷ []) (bytes "tuner")) (success 2 0 0) []
+    ∷ changes (rename 1 (bytes "tuner") (bytes "unit")) (refusal 11)
+    ∷ changes (new-designation 1 (bytes "radio")) (success 5 0 0)
+    ∷ [])))
+    ∷ []

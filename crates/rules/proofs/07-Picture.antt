@@ -25,7 +25,7 @@ use Rattle.rules.proofs.03-Names.{formed-long, formed-no-zero}
 
 -- ---- fields
 
-zeros-long : (n : ℕ) → length (replicate {A = ℕ} n 0) ≡ n
+pub zeros-long : (n : ℕ) → length (replicate {A = ℕ} n 0) ≡ n
 zeros-long n = length-replicate n 0
 
 pub length-pad : (w : ℕ) (l : List ℕ) → length (pad w l) ≡ w
@@ -38,7 +38,7 @@ unfolding pad
 take-pad w l h = lib.Seq.take-take (length l) w (l ++ replicate w 0) h ∙ take-at l (replicate w 0) (length l) refl
 
 -- what stands before the first zero
-pub strip : List ℕ → List ℕ
+unfoldable pub strip : List ℕ → List ℕ
 strip [] = []
 strip (zero ∷ l) = []
 strip (suc x ∷ l) = suc x ∷ strip l
@@ -92,24 +92,24 @@ unfolding end-row
 wide-end e = refl
 
 -- the kind that a row shows
-pub read-kind : List ℕ → Kind
+unfoldable pub read-kind : List ℕ → Kind
 read-kind r =
     cond (eqb (getD r 0 0) 1) (object (take (getD r 3 0) (drop 4 r)))
     (cond (eqb (getD r 0 0) 2) (attribute (getD r 1 0))
     (cond (eqb (getD r 0 0) 3) (cond (eqb (getD r 1 0) 4) designation (paired (getD r 1 0) (getD r 2 0)))
     unused))
 
-pub read-presence : List ℕ → Presence
+unfoldable pub read-presence : List ℕ → Presence
 read-presence r = record { sds = getD r 0 0; name = strip (take 16 (drop 1 r)); type = getD r 17 0 }
 
-pub read-application : List ℕ → Application
+unfoldable pub read-application : List ℕ → Application
 read-application r = record { sds = getD r 0 0; to = getD r 1 0; attribute = getD r 2 0 }
 
-pub read-side : ℕ → Side
+unfoldable pub read-side : ℕ → Side
 read-side zero = origin
 read-side (suc n) = destination
 
-pub read-end : List ℕ → End
+unfoldable pub read-end : List ℕ → End
 read-end r = record { sds = getD r 0 0; link = getD r 1 0; side = read-side (getD r 2 0); object = getD r 3 0 }
 
 -- a kind that a good schema has
@@ -235,14 +235,14 @@ apart : {A : Type 0} (row : A → List ℕ) (read : List ℕ → A) {a b : A} �
 apart row read p q e = sym p ∙ ap read e ∙ q
 
 module _ {s : Schema} (good : Good s) where
-  sds-back : (n : Name) → n ∈ s .sdss → strip (sds-row n) ≡ n
+  pub sds-back : (n : Name) → n ∈ s .sdss → strip (sds-row n) ≡ n
   unfolding sds-row used-sds
   sds-back [] i = strip-blank
   sds-back (x ∷ n) i =
       let (d, h, e) = at-place [] i in
       strip-pad (x ∷ n) (rw e at (good .sds-named d (rw e (ap not (eqb·suc-zero (length n))))))
 
-  fitting : (k : Kind) → k ∈ s .types → Fitting k
+  pub fitting : (k : Kind) → k ∈ s .types → Fitting k
   fitting unused i = fits-unused
   fitting (object ps) i = let (t, h, e) = at-place unused i in fits-object (good .parents-few t ps e)
   fitting (attribute v) i = fits-attribute

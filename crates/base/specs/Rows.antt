@@ -1,0 +1,29 @@
+-- Where the rows of a base start, and the bytes of a row. (docs/LAYOUT.md)
+use Prim.Native.Nat.{ℕ, _+_, _*_, _<_}
+use mathlib.Core.Path.{_≡_}
+use mathlib.Core.List.{List}
+use lib.ListN.{getD, take, drop}
+
+abbrev pub sds-at : ℕ → ℕ
+sds-at d = d * 16
+
+abbrev pub type-at : ℕ → ℕ
+type-at t = 256 + t * 8
+
+abbrev pub presence-at : ℕ → ℕ
+presence-at i = 1280 + i * 18
+
+abbrev pub application-at : ℕ → ℕ
+application-at i = 10496 + i * 3
+
+abbrev pub end-at : ℕ → ℕ
+end-at i = 11264 + i * 4
+
+-- w bytes from `at` on
+abbrev pub part : List ℕ → ℕ → ℕ → List ℕ
+part b at w = take w (drop at b)
+
+-- r is the byte that stands at `at`
+pub record Reads (b : List ℕ) (at r : ℕ) : Type 0 where
+  pub is : r ≡ getD b at 0
+  pub small : r < 256

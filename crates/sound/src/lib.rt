@@ -1,0 +1,1 @@
+// The check of soundness: exactly the pictures of good schemas.

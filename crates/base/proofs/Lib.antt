@@ -1,4 +1,5 @@
 pub mod Rows
+pub mod Scan
 pub mod Back
 pub mod Shown
 pub mod Decides

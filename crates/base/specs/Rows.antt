@@ -1,8 +1,10 @@
 -- Where the rows of a base start, and the bytes of a row. (docs/LAYOUT.md)
-use Prim.Native.Nat.{ℕ, _+_, _*_, _<_}
+use Prim.Native.Nat.{ℕ, suc, _+_, _*_, _≤_, _<_}
 use mathlib.Core.Path.{_≡_}
 use mathlib.Core.List.{List}
+use mathlib.Core.Bool.{true}
 use lib.ListN.{getD, take, drop}
+use Rattle.rules.specs.01-Lists.{bytes-before}
 
 abbrev pub sds-at : ℕ → ℕ
 sds-at d = d * 16
@@ -27,3 +29,13 @@ part b at w = take w (drop at b)
 pub record Reads (b : List ℕ) (at r : ℕ) : Type 0 where
   pub is : r ≡ getD b at 0
   pub small : r < 256
+
+-- r of n rows stand before the first whose byte asked about is 0; that of row 0 stands at `first`
+pub record Filled (b : List ℕ) (first width n r : ℕ) : Type 0 where
+  pub fits : r ≤ n
+  pub used : (k : ℕ) → k < r → getD b (first + k * width) 0 ≡ 0 → ⊥
+  pub free : r < n → getD b (first + r * width) 0 ≡ 0
+
+-- the first w bytes of each of n rows stand before those of the next
+abbrev pub Rising : List ℕ → ℕ → ℕ → ℕ → ℕ → Type 0
+Rising b start stride w n = (i : ℕ) → suc i < n → bytes-before (part b (start + i * stride) w) (part b (start + suc i * stride) w) ≡ true

@@ -1,5 +1,8 @@
 // The lent base: the only crate that knows where a row starts and how wide it is. Everything above reads and writes fields by
 // their number of SDS, type or row.
+pub mod order;
+pub mod used;
+
 use rules::Limits;
 ghost use mathlib.Core.Path.{_≡_};
 ghost use Prim.Native.Nat.{_+_, _<_};

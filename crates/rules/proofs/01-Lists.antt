@@ -160,7 +160,7 @@ less-it : (p : ℕ → Bool) (x : ℕ) → less x p x ≡ false
 less-it p x = rw (eq-eqb x x refl) (and-false (p x))
 
 -- numbers that pass two tests alike
-numbers-alike : (p q : ℕ → Bool) (a m : ℕ) → ((k : ℕ) → a ≤ k → k < a + m → p k ≡ q k) → numbers a m p ≡ numbers a m q
+pub numbers-alike : (p q : ℕ → Bool) (a m : ℕ) → ((k : ℕ) → a ≤ k → k < a + m → p k ≡ q k) → numbers a m p ≡ numbers a m q
 unfolding numbers
 numbers-alike p q a zero h = refl
 numbers-alike p q a (suc m) h = rw (numbers-alike p q (suc a) m (λ k l u. h k (omega arith) (omega arith)), h a (omega arith) (omega arith))

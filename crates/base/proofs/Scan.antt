@@ -1,0 +1,111 @@
+-- What loops over bytes need: a part's first byte, bytes that are all zero, two parts compared byte by byte. Assumes nothing.
+use Prim.Native.Nat.{ℕ, suc, _+_, _*_, _-_, _≤_, _<_}
+use native.Mathlib.Nat.{add-zero, suc-mul}
+use native.Mathlib.Numerals.{add-one}
+use native.Mathlib.Omega.{arith}
+use mathlib.Core.Path.{_≡_, refl, sym, ap, _∙_, subst}
+use mathlib.Core.List.{List, _∷_}
+use mathlib.Core.Bool.{Bool, true, false, _&&_, _||_, true≢false}
+use lib.Dec.{ltb, eqb}
+use lib.ListN.{length, getD, drop, replicate, length-take, length-drop, getD-replicate}
+use lib.Seq.{drop-cons, ext-getD, getD-drop}
+use borrow.Author.Tests.{ltb-true, ltb-false, lt-ltb, le-ltb, eq-eqb, ne-eqb}
+use Rattle.rules.specs.01-Lists.{bytes-before}
+use Rattle.rules.proofs.07-Picture.{zeros-long}
+use Rattle.base.specs.Rows.{part, Rising, Filled}
+use Rattle.base.specs.Back.{filled}
+use Rattle.base.specs.Decides.{Decides}
+use Rattle.base.proofs.Rows.{part-byte, filled-is}
+
+pub part-cons : (b : List ℕ) (at n m : ℕ) → at < length b → n ≡ suc m → part b at n ≡ getD b at 0 ∷ part b (at + 1) m
+part-cons b at n m h e = rw (e, add-one at, drop-cons b at 0 h)
+
+pub length-part : (b : List ℕ) (at n : ℕ) → at + n ≤ length b → length (part b at n) ≡ n
+length-part b at n h = length-take n (drop at b) ∙ omega (arith, length-drop at b)
+
+-- ---- zeros
+
+pub zero-part : (b : List ℕ) (from to : ℕ) → from ≤ to → to ≤ length b → ((i : ℕ) → i < to → from ≤ i → getD b i 0 ≡ 0)
+    → part b from (to - from) ≡ replicate (to - from) 0
+zero-part b from to h l z =
+    let long = length-part b from (to - from) (omega arith) in
+    ext-getD 0 (part b from (to - from)) (replicate (to - from) 0) (long ∙ sym (zeros-long (to - from)))
+    (λ i u.
+    let below : i < to - from = omega arith in
+    part-byte b from (to - from) i below ∙ z (from + i) (omega arith) (omega arith) ∙ sym (getD-replicate (to - from) i 0 0 below))
+
+pub zero-byte : (b : List ℕ) (from to : ℕ) → part b from (to - from) ≡ replicate (to - from) 0 → (i : ℕ) → i < to → from ≤ i → getD b i 0 ≡ 0
+zero-byte b from to e i u l =
+    let below : i - from < to - from = omega arith in
+    let same : from + (i - from) ≡ i = omega arith in
+    ap (λ (k : ℕ). getD b k 0) (sym same) ∙ sym (part-byte b from (to - from) (i - from) below)
+    ∙ ap (λ (x : List ℕ). getD x (i - from) 0) e ∙ getD-replicate (to - from) (i - from) 0 0 below
+
+-- ---- two parts compared: what is left of them decides
+
+module _ (b : List ℕ) (a c w j : ℕ) (la : a + w ≤ length b) (lc : c + w ≤ length b) where
+  abbrev rest-before : ℕ → Bool
+  rest-before i = bytes-before (part b (a + i) (w - i)) (part b (c + i) (w - i))
+
+  step : j < w → rest-before j ≡ ltb (getD b (a + j) 0) (getD b (c + j) 0) || (eqb (getD b (a + j) 0) (getD b (c + j) 0) && rest-before (j + 1))
+  unfolding bytes-before
+  step h =
+      let one : w - j ≡ suc (w - (j + 1)) = omega arith in
+      let pa : a + j + 1 ≡ a + (j + 1) = omega arith in
+      let pc : c + j + 1 ≡ c + (j + 1) = omega arith in
+      rw (part-cons b (a + j) (w - j) (w - (j + 1)) (omega arith) one, part-cons b (c + j) (w - j) (w - (j + 1)) (omega arith) one, pa, pc)
+
+  pub before-less : j < w → getD b (a + j) 0 < getD b (c + j) 0 → rest-before j ≡ true
+  before-less h l = step h ∙ rw (lt-ltb (getD b (a + j) 0) (getD b (c + j) 0) l)
+
+  pub before-more : j < w → getD b (c + j) 0 < getD b (a + j) 0 → rest-before j ≡ false
+  before-more h l =
+      step h ∙ rw (le-ltb (getD b (a + j) 0) (getD b (c + j) 0) (omega arith), ne-eqb (getD b (a + j) 0) (getD b (c + j) 0) (λ e. omega arith))
+
+  pub before-same : j < w → getD b (a + j) 0 ≡ getD b (c + j) 0 → rest-before j ≡ rest-before (j + 1)
+  before-same h e =
+      step h ∙ rw (le-ltb (getD b (a + j) 0) (getD b (c + j) 0) (omega arith), eq-eqb (getD b (a + j) 0) (getD b (c + j) 0) e)
+
+  pub before-none : w ≤ j → rest-before j ≡ false
+  unfolding bytes-before
+  before-none h = let none : w - j ≡ 0 = omega arith in rw none
+
+pub before-start : (b : List ℕ) (a c w : ℕ) → bytes-before (part b a w) (part b c w) ≡ bytes-before (part b (a + 0) (w - 0)) (part b (c + 0) (w - 0))
+before-start b a c w = let all : w - 0 ≡ w = omega arith in rw (all, add-zero a, add-zero c)
+
+-- ---- rows that rise, one more at a time
+
+module _ (b : List ℕ) (start stride w : ℕ) where
+  pub rising-one : Rising b start stride w (0 + 1)
+  rising-one j h = absurd (omega arith)
+
+  pub rising-more : (i at : ℕ) → at ≡ start + i * stride → Rising b start stride w (i + 1)
+      → bytes-before (part b at w) (part b (at + stride) w) ≡ true → Rising b start stride w (i + 1 + 1)
+  rising-more i at e r n j h = go (ltb j i) refl
+    where
+      go : (t : Bool) → ltb j i ≡ t → bytes-before (part b (start + j * stride) w) (part b (start + suc j * stride) w) ≡ true
+      go true q = r j (omega (arith, ltb-true j i q))
+      go false q =
+          let same : i ≡ j = omega (arith, ltb-false j i q) in
+          let here : at ≡ start + j * stride = e ∙ ap (λ (k : ℕ). start + k * stride) same in
+          let next : at + stride ≡ start + suc j * stride = ap (λ (k : ℕ). k + stride) here ∙ omega (arith, suc-mul j stride) in
+          rw (← here, ← next) n
+
+  -- two rows that do not rise
+  pub rising-not : (i at n : ℕ) → at ≡ start + i * stride → suc i < n → bytes-before (part b at w) (part b (at + stride) w) ≡ false → Rising b start stride w n → ⊥
+  rising-not i at n e h f r =
+      let next : at + stride ≡ start + suc i * stride = ap (λ (k : ℕ). k + stride) e ∙ omega (arith, suc-mul i stride) in
+      true≢false (sym (rw (← e, ← next) at (r i h)) ∙ f)
+
+-- ---- counts and the room behind rows
+
+pub counted : (b : List ℕ) (first at f w n r : ℕ) → first ≡ at + f → Filled b first w n r → r ≡ filled w f n (drop at b)
+counted b first at f w n r e h = filled-is w f n (drop at b) r (h .fits) (λ k u z. h .used k u (there k ∙ z)) (λ u. sym (there r) ∙ h .free u)
+  where
+    there : (k : ℕ) → getD b (first + k * w) 0 ≡ getD (drop at b) (k * w + f) 0
+    there k =
+        let same : first + k * w ≡ at + (k * w + f) = omega arith in
+        ap (λ (i : ℕ). getD b i 0) same ∙ sym (getD-drop at b (k * w + f) 0)
+
+pub room-zero : (b : List ℕ) (from to k : ℕ) (r : Bool) → to - from ≡ k → Decides (part b from (to - from) ≡ replicate (to - from) 0) r → Decides (part b from k ≡ replicate k 0) r
+room-zero b from to k r e d = subst (λ (m : ℕ). Decides (part b from m ≡ replicate m 0) r) e d

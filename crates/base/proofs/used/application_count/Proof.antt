@@ -1,0 +1,15 @@
+-- `base::used::application_count` meets its contract: the used rows are those before the first zero byte. Assumes nothing.
+use borrow.Author.Needs.{needs}
+use mathlib.Core.Path.{refl}
+use Rattle.base.proofs.Scan.{counted}
+use Rattle.base.proofs.used.application_count.Statement.{statement}
+use Rattle.base.proofs.used.application_count.Tie as tie
+
+filled-requires : tie.Need-filled-requires
+filled-requires c κs = search needs
+
+returns : tie.Need-returns
+returns c = counted (c .before .before .args .base .now) 10496 10496 0 3 256 (c .filled .result) refl (c .filled .ensures)
+
+pub application-count-spec : {M : Type 1} → statement M
+application-count-spec = tie.close (tie.spec filled-requires returns)

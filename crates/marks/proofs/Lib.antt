@@ -1,0 +1,4 @@
+pub mod Bit
+pub mod Members
+pub mod Set
+pub mod Round

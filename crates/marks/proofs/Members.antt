@@ -1,0 +1,83 @@
+-- Laws of the list of members: tests that agree have one list, a part has no more members, and one with as many is the whole. The ones
+-- of a word of marks are as many as the numbers that it marks. Assumes nothing.
+use Prim.Native.Nat.{ℕ, zero, suc, _+_, _*_, _≤_, _<_}
+use native.Mathlib.Nat.{add-suc, add-zero, suc-add, zero-add}
+use native.Mathlib.Omega.{arith}
+use mathlib.Core.Path.{_≡_, refl, sym, ap, ap₂, _∙_}
+use mathlib.Core.Logic.{⊎-elim}
+use mathlib.Core.List.{List, [], _∷_, _++_, List·Memᴰ·cases-cons}
+use mathlib.Core.Bool.{Bool, true, false, cond, false≢true}
+use lib.Count.{ones, ones-cat}
+use lib.Dec.{lit<}
+use lib.ListN.{length, getD, length-append}
+use Rattle.rules.specs.01-Lists.{_∈_, numbers}
+use Rattle.rules.specs.05-Descent.{members}
+use Rattle.rules.specs.11-Asks.{one-if, marks}
+use Rattle.rules.proofs.01-Lists.{Different, at-place, numbers-alike}
+use Rattle.rules.proofs.05-Descent.{members-in, members-once, members-at-most}
+
+-- ---- two tests
+
+-- members of two tests that agree on the types are the same list
+pub members-alike : (p q : ℕ → Bool) → ((k : ℕ) → k < 128 → p k ≡ q k) → members p ≡ members q
+unfolding members
+members-alike p q h = numbers-alike p q 0 128 (λ k l u. h k (omega arith))
+
+-- a list with no number at two places
+once-different : (l : List ℕ) → ((i j : ℕ) → i < length l → j < length l → getD l i 0 ≡ getD l j 0 → i ≡ j) → Different l
+once-different [] once = tt
+once-different (x ∷ l) once = (
+  (λ m. let (i, u, e) = at-place 0 m in omega (arith, once 0 (suc i) (omega arith) (omega arith) (sym e))),
+  once-different l (λ i j u v e. omega (arith, once (suc i) (suc j) (omega arith) (omega arith) e)),
+)
+
+module _ (p q : ℕ → Bool) (part : (k : ℕ) → p k ≡ true → q k ≡ true) where
+  different : Different (members p)
+  different = once-different (members p) (members-once p)
+
+  passes : (k : ℕ) → k ∈ members p → (k < 128) × (q k ≡ true)
+  passes k i = let (u, e) = members-in p k i in (u, part k e)
+
+  -- a part has no more members
+  pub members-le : length (members p) ≤ length (members q)
+  members-le = members-at-most q (members p) different passes
+
+  -- and one with as many members is the whole: a type that it lacked would be one more
+  pub members-same : length (members q) ≤ length (members p) → (k : ℕ) → k < 128 → q k ≡ true → p k ≡ true
+  members-same le k u e = go (p k) refl
+    where
+      go : (b : Bool) → p k ≡ b → b ≡ true
+      go true g = refl
+      go false g =
+          let new : k ∈ members p → ⊥ = λ i. false≢true (sym g ∙ members-in p k i .1) in
+          let more = members-at-most q (k ∷ members p) (new, different) (λ x i. ⊎-elim (λ s. rw s (u, e)) (passes x) (List·Memᴰ·cases-cons i)) in
+          absurd (omega arith)
+
+-- ---- the count
+
+-- the numbers of two stretches
+numbers-add : (p : ℕ → Bool) (a m n : ℕ) → numbers a (m + n) p ≡ numbers a m p ++ numbers (a + m) n p
+unfolding numbers
+numbers-add p a zero n = rw (zero-add n, add-zero a)
+numbers-add p a (suc m) n = rw (suc-add m n, numbers-add p (suc a) m n, suc-add a m, add-suc a m) (go (p a))
+  where
+    go : (b : Bool) → cond b (a ∷ (numbers (suc a) m p ++ numbers (suc (a + m)) n p)) (numbers (suc a) m p ++ numbers (suc (a + m)) n p)
+        ≡ cond b (a ∷ numbers (suc a) m p) (numbers (suc a) m p) ++ numbers (suc (a + m)) n p
+    go true = refl
+    go false = refl
+
+-- a word has as many ones as the numbers that it marks
+ones-marks : (p : ℕ → Bool) (a n : ℕ) → ones (marks a n p) ≡ length (numbers a n p)
+unfolding marks numbers ones
+ones-marks p a zero = refl
+ones-marks p a (suc n) = go (p a) (ones-marks p (suc a) n)
+  where
+    go : (b : Bool) → ones (marks (suc a) n p) ≡ length (numbers (suc a) n p)
+        → ones (marks (suc a) n p * 2 + one-if b) ≡ length (cond b (a ∷ numbers (suc a) n p) (numbers (suc a) n p))
+    go true h = omega (arith, ones-cat 1 (marks (suc a) n p) 1 (lit< tt))
+    go false h = omega (arith, ones-cat 1 (marks (suc a) n p) 0 (lit< tt))
+
+pub ones-members : (p : ℕ → Bool) → ones (marks 0 64 p) + ones (marks 64 64 p) ≡ length (members p)
+unfolding members
+ones-members p =
+    ap₂ _+_ (ones-marks p 0 64) (ones-marks p 64 64) ∙ sym (ap length (numbers-add p 0 64 64) ∙ length-append (numbers 0 64 p) (numbers 64 64 p))

@@ -1,0 +1,25 @@
+-- A name in a field: its bytes, and zeros behind them.
+use Prim.Native.Nat.{ℕ, _≤_}
+use mathlib.Core.Path.{_≡_}
+use mathlib.Core.List.{List}
+use mathlib.Core.Bool.{Bool, _&&_}
+use lib.ListN.{length, take, replicate}
+use Rattle.rules.specs.01-Lists.{same-bytes}
+use Rattle.rules.specs.02-Limits.{limits}
+use Rattle.rules.specs.03-Names.{well-formed}
+use Rattle.rules.specs.07-Picture.{pad}
+use Rattle.rules.proofs.07-Picture.{strip}
+
+-- the field holds a well-formed name
+unfoldable pub name-field : List ℕ → Bool
+name-field f = well-formed (strip f) && same-bytes (pad (limits .name) (strip f)) f
+
+-- the field holds nothing
+unfoldable pub blank-field : List ℕ → Bool
+blank-field f = same-bytes (replicate (length f) 0) f
+
+-- r bytes of the field are its name
+pub record Stripped (field : List ℕ) (r : ℕ) : Type 0 where
+  pub fits : r ≤ length field
+  pub name : take r field ≡ strip field
+  pub long : r ≡ length (strip field)

@@ -3,3 +3,4 @@ pub mod Scan
 pub mod Back
 pub mod Shown
 pub mod Decides
+pub mod TableLaws

@@ -1,5 +1,5 @@
 -- What loops over bytes need: a part's first byte, bytes that are all zero, two parts compared byte by byte. Assumes nothing.
-use Prim.Native.Nat.{ℕ, suc, _+_, _*_, _-_, _≤_, _<_}
+use Prim.Native.Nat.{ℕ, zero, suc, _+_, _*_, _-_, _≤_, _<_}
 use native.Mathlib.Nat.{add-zero, suc-mul}
 use native.Mathlib.Numerals.{add-one}
 use native.Mathlib.Omega.{arith}
@@ -11,8 +11,9 @@ use lib.ListN.{length, getD, drop, replicate, length-take, length-drop, getD-rep
 use lib.Seq.{drop-cons, ext-getD, getD-drop}
 use borrow.Author.Tests.{ltb-true, ltb-false, lt-ltb, le-ltb, eq-eqb, ne-eqb}
 use Rattle.rules.specs.01-Lists.{bytes-before}
+use Rattle.rules.proofs.01-Lists.{before-transitive, before-first}
 use Rattle.rules.proofs.07-Picture.{zeros-long}
-use Rattle.base.specs.Rows.{part, Rising, Filled}
+use Rattle.base.specs.Rows.{part, Rising, Filled, Counted, Level, Split}
 use Rattle.base.specs.Back.{filled}
 use Rattle.base.specs.Decides.{Decides}
 use Rattle.base.proofs.Rows.{part-byte, filled-is}
@@ -99,8 +100,11 @@ module _ (b : List ℕ) (start stride w : ℕ) where
 
 -- ---- counts and the room behind rows
 
-pub counted : (b : List ℕ) (first at f w n r : ℕ) → first ≡ at + f → Filled b first w n r → r ≡ filled w f n (drop at b)
-counted b first at f w n r e h = filled-is w f n (drop at b) r (h .fits) (λ k u z. h .used k u (there k ∙ z)) (λ u. sym (there r) ∙ h .free u)
+pub counted : (b : List ℕ) (first at f w n r : ℕ) → first ≡ at + f → Filled b first w n r → Counted (filled w f n (drop at b)) n r
+counted b first at f w n r e h = record {
+  is = filled-is w f n (drop at b) r (h .fits) (λ k u z. h .used k u (there k ∙ z)) (λ u. sym (there r) ∙ h .free u);
+  fits = h .fits;
+}
   where
     there : (k : ℕ) → getD b (first + k * w) 0 ≡ getD (drop at b) (k * w + f) 0
     there k =
@@ -109,3 +113,37 @@ counted b first at f w n r e h = filled-is w f n (drop at b) r (h .fits) (λ k u
 
 pub room-zero : (b : List ℕ) (from to k : ℕ) (r : Bool) → to - from ≡ k → Decides (part b from (to - from) ≡ replicate (to - from) 0) r → Decides (part b from k ≡ replicate k 0) r
 room-zero b from to k r e d = subst (λ (m : ℕ). Decides (part b from m ≡ replicate m 0) r) e d
+
+-- rows that rise one by one rise over any distance
+pub rising-far : (b : List ℕ) (start stride w n : ℕ) → Rising b start stride w n → (i j : ℕ) → i < j → j < n
+    → bytes-before (part b (start + i * stride) w) (part b (start + j * stride) w) ≡ true
+rising-far b start stride w n r i zero h l = absurd (omega arith)
+rising-far b start stride w n r i (suc j) h l = go (ltb i j) refl (λ q. rising-far b start stride w n r i j q (omega arith))
+  where
+    row : ℕ → List ℕ
+    row k = part b (start + k * stride) w
+
+    go : (t : Bool) → ltb i j ≡ t → (i < j → bytes-before (row i) (row j) ≡ true) → bytes-before (row i) (row (suc j)) ≡ true
+    go true q ih = before-transitive (row i) (row j) (row (suc j)) (ih (ltb-true i j q)) (r j l)
+    go false q ih = let same : i ≡ j = omega (arith, ltb-false i j q) in rw same (r j l)
+
+-- ---- where the rows of one SDS end
+
+pub rising-level : (b : List ℕ) (start stride w n : ℕ) → ((i : ℕ) → i < n → start + i * stride < length b) → Rising b start stride (suc w) n → Level b start stride n
+rising-level b start stride w n l r i j h k =
+    let x = start + i * stride in
+    let y = start + j * stride in
+    before-first (getD b x 0) (part b (x + 1) w) (getD b y 0) (part b (y + 1) w)
+    (rw (← part-cons b x (suc w) w (l i (omega arith)) refl, ← part-cons b y (suc w) w (l j k) refl) (rising-far b start stride (suc w) n r i j h k))
+
+module _ (b : List ℕ) (first width n d i : ℕ) (fits : i ≤ n) (below : (k : ℕ) → k < i → getD b (first + k * width) 0 < d + 1) where
+  -- a row that is in a higher SDS, and so are those behind it
+  pub split-here : Level b first width n → d < getD b (first + i * width) 0 → Split b first width n (d + 1) i
+  split-here v h = record { fits = fits; below = below; above = λ k l q. go k l (ltb i k) refl q }
+    where
+      go : (k : ℕ) → k < n → (t : Bool) → ltb i k ≡ t → i ≤ k → d + 1 ≤ getD b (first + k * width) 0
+      go k l true e q = let le = v i k (ltb-true i k e) l in omega arith
+      go k l false e q = let same : i ≡ k = omega (arith, ltb-false i k e) in rw (← same) (omega arith)
+
+  pub split-end : n ≤ i → Split b first width n (d + 1) i
+  split-end h = record { fits = fits; below = below; above = λ k l q. absurd (omega arith) }

@@ -36,6 +36,21 @@ pub record Filled (b : List ℕ) (first width n r : ℕ) : Type 0 where
   pub used : (k : ℕ) → k < r → getD b (first + k * width) 0 ≡ 0 → ⊥
   pub free : r < n → getD b (first + r * width) 0 ≡ 0
 
+-- r is a count, and at most what there is room for
+pub record Counted (count most r : ℕ) : Type 0 where
+  pub is : r ≡ count
+  pub fits : r ≤ most
+
 -- the first w bytes of each of n rows stand before those of the next
 abbrev pub Rising : List ℕ → ℕ → ℕ → ℕ → ℕ → Type 0
 Rising b start stride w n = (i : ℕ) → suc i < n → bytes-before (part b (start + i * stride) w) (part b (start + suc i * stride) w) ≡ true
+
+-- the SDSs of n rows do not fall; that of row 0 stands at `first`
+abbrev pub Level : List ℕ → ℕ → ℕ → ℕ → Type 0
+Level b first width n = (i j : ℕ) → i < j → j < n → getD b (first + i * width) 0 ≤ getD b (first + j * width) 0
+
+-- the rows before r are in SDSs below d, the others are not
+pub record Split (b : List ℕ) (first width n d r : ℕ) : Type 0 where
+  pub fits : r ≤ n
+  pub below : (i : ℕ) → i < r → getD b (first + i * width) 0 < d
+  pub above : (i : ℕ) → i < n → r ≤ i → d ≤ getD b (first + i * width) 0

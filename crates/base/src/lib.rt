@@ -1,13 +1,16 @@
 // The lent base: the only crate that knows where a row starts and how wide it is. Everything above reads and writes fields by
 // their number of SDS, type or row.
 pub mod order;
+pub mod split;
+pub mod table;
 pub mod used;
 
 use rules::Limits;
 ghost use mathlib.Core.Path.{_≡_};
 ghost use Prim.Native.Nat.{_+_, _<_};
 ghost use lib.ListN.{length};
-ghost use Rattle.rules.specs.07-Picture.{base-length};
+ghost use Rattle.rules.specs.04-Schema.{fresh};
+ghost use Rattle.rules.specs.07-Picture.{picture, base-length};
 ghost use Rattle.base.specs.Rows.{sds-at, type-at, presence-at, application-at, end-at, part, Reads};
 
 // A base by value, for a program that holds its own.
@@ -37,6 +40,14 @@ impl Base {
         + Limits::APPLICATIONS * Base::APPLICATION_WIDTH;
 
     pub const LENGTH: usize = Base::ENDS_AT + Limits::ENDS * Base::END_WIDTH;
+
+    pub fn fresh() -> Base
+        ensures { λ r. ⌜ r .bytes ≡ picture fresh ⌝ }
+    {
+        let mut bytes: [u8; Base::LENGTH] = [0; Base::LENGTH];
+        table::write_fresh(&mut bytes);
+        Base { bytes }
+    }
 }
 
 fn byte(base: &[u8], at: usize) -> usize

@@ -5,7 +5,7 @@ ghost use mathlib.Core.Path.{_≡_};
 ghost use Prim.Native.Nat.{ℕ, _+_, _*_, _-_, _≤_, _<_};
 ghost use lib.ListN.{length, replicate};
 ghost use Rattle.rules.specs.07-Picture.{base-length};
-ghost use Rattle.base.specs.Rows.{part, presence-at, application-at, end-at, Filled};
+ghost use Rattle.base.specs.Rows.{part, presence-at, application-at, end-at, Filled, Counted};
 ghost use Rattle.base.specs.Back.{presence-count, application-count, end-count};
 ghost use Rattle.base.specs.Decides.{Decides};
 
@@ -29,7 +29,7 @@ fn filled(base: &[u8], first: usize, width: usize, n: usize) -> usize
 
 pub fn presence_count(base: &[u8]) -> usize
     requires { ⌜ length (now base) ≡ base-length ⌝ }
-    ensures { λ r. ⌜ r ≡ presence-count (now (base .entry)) ⌝ }
+    ensures { λ r. ⌜ Counted (presence-count (now (base .entry))) 512 r ⌝ }
 {
     filled(
         base,
@@ -41,7 +41,7 @@ pub fn presence_count(base: &[u8]) -> usize
 
 pub fn application_count(base: &[u8]) -> usize
     requires { ⌜ length (now base) ≡ base-length ⌝ }
-    ensures { λ r. ⌜ r ≡ application-count (now (base .entry)) ⌝ }
+    ensures { λ r. ⌜ Counted (application-count (now (base .entry))) 256 r ⌝ }
 {
     filled(
         base,
@@ -53,7 +53,7 @@ pub fn application_count(base: &[u8]) -> usize
 
 pub fn end_count(base: &[u8]) -> usize
     requires { ⌜ length (now base) ≡ base-length ⌝ }
-    ensures { λ r. ⌜ r ≡ end-count (now (base .entry)) ⌝ }
+    ensures { λ r. ⌜ Counted (end-count (now (base .entry))) 512 r ⌝ }
 {
     filled(base, Base::ENDS_AT, Base::END_WIDTH, Limits::ENDS)
 }

@@ -6,12 +6,12 @@ use mathlib.Core.Path.{_≡_, refl, sym, ap, _∙_}
 use mathlib.Core.Logic.{⊎-elim}
 use mathlib.Core.List.{List, [], _∷_, List·Memᴰ·not-nil, List·Memᴰ·cases-cons}
 use mathlib.Core.List.List·Memᴰ.{List·Memᴰ·head, List·Memᴰ·tail}
-use mathlib.Core.Bool.{Bool, true, false, not, cond, _&&_, false≢true, and-false}
+use mathlib.Core.Bool.{Bool, true, false, not, cond, _&&_, _||_, true≢false, false≢true, and-false}
 use lib.Dec.{ltb, eqb}
 use lib.ListN.{length, getD}
-use borrow.Author.Tests.{ltb-true, lt-ltb, eqb-true, eqb-false, eq-eqb, ne-eqb}
-use Rattle.rules.specs.01-Lists.{_∈_, same-bytes, any, all, rising, numbers}
-use Rattle.rules.proofs.Bools.{or-cases, or-left, or-right, and-both, and-of}
+use borrow.Author.Tests.{ltb-true, ltb-false, lt-ltb, le-ltb, eqb-true, eqb-false, eq-eqb, ne-eqb}
+use Rattle.rules.specs.01-Lists.{_∈_, same-bytes, bytes-before, any, all, rising, numbers}
+use Rattle.rules.proofs.Bools.{or-cases, or-left, or-right, or-neither, and-both, and-of, and-rest}
 
 -- ---- tests over a list
 
@@ -205,3 +205,80 @@ numbers-most p a (suc m) = go (p a) (numbers-most p (suc a) m)
     go : (b : Bool) → length (numbers (suc a) m p) ≤ m → length (cond b (a ∷ numbers (suc a) m p) (numbers (suc a) m p)) ≤ suc m
     go true h = omega arith
     go false h = omega arith
+
+-- ---- the order of bytes: strict and total
+
+pub before-irreflexive : (a : List ℕ) → bytes-before a a ≡ false
+unfolding bytes-before
+before-irreflexive [] = refl
+before-irreflexive (x ∷ a) = rw (le-ltb x x (omega arith), eq-eqb x x refl) (before-irreflexive a)
+
+-- x ∷ a before y ∷ b, in its two ways
+data Way (x : ℕ) (a : List ℕ) (y : ℕ) (b : List ℕ) : Type 0 where
+  smaller : x < y → Way x a y b
+  same : x ≡ y → bytes-before a b ≡ true → Way x a y b
+
+way : (x : ℕ) (a : List ℕ) (y : ℕ) (b : List ℕ) → bytes-before (x ∷ a) (y ∷ b) ≡ true → Way x a y b
+unfolding bytes-before
+way x a y b e =
+    ⊎-elim (λ h. smaller (ltb-true x y h)) (λ h. let (q, r) = and-both (eqb x y) (bytes-before a b) h in same (eqb-true x y q) r)
+    (or-cases (ltb x y) (eqb x y && bytes-before a b) e)
+
+pub before-by-less : (x : ℕ) (a : List ℕ) (y : ℕ) (b : List ℕ) → x < y → bytes-before (x ∷ a) (y ∷ b) ≡ true
+unfolding bytes-before
+before-by-less x a y b h = or-left (ltb x y) (eqb x y && bytes-before a b) (lt-ltb x y h)
+
+pub before-by-same : (x : ℕ) (a : List ℕ) (y : ℕ) (b : List ℕ) → x ≡ y → bytes-before a b ≡ true → bytes-before (x ∷ a) (y ∷ b) ≡ true
+unfolding bytes-before
+before-by-same x a y b h e = or-right (ltb x y) (eqb x y && bytes-before a b) (and-of (eqb x y) (bytes-before a b) (eq-eqb x y h) e)
+
+pub before-first : (x : ℕ) (a : List ℕ) (y : ℕ) (b : List ℕ) → bytes-before (x ∷ a) (y ∷ b) ≡ true → x ≤ y
+before-first x a y b e = go (way x a y b e)
+  where
+    go : Way x a y b → x ≤ y
+    go (smaller h) = omega arith
+    go (same h q) = omega arith
+
+pub before-transitive : (a b c : List ℕ) → bytes-before a b ≡ true → bytes-before b c ≡ true → bytes-before a c ≡ true
+unfolding bytes-before
+before-transitive [] [] c p q = absurd (false≢true p)
+before-transitive [] (y ∷ b) [] p q = absurd (false≢true q)
+before-transitive [] (y ∷ b) (z ∷ c) p q = refl
+before-transitive (x ∷ a) [] c p q = absurd (false≢true p)
+before-transitive (x ∷ a) (y ∷ b) [] p q = absurd (false≢true q)
+before-transitive (x ∷ a) (y ∷ b) (z ∷ c) p q = go (way x a y b p) (way y b z c q) (before-transitive a b c)
+  where
+    go : Way x a y b → Way y b z c → (bytes-before a b ≡ true → bytes-before b c ≡ true → bytes-before a c ≡ true) → bytes-before (x ∷ a) (z ∷ c) ≡ true
+    go (smaller h) (smaller k) f = before-by-less x a z c (omega arith)
+    go (smaller h) (same k e) f = before-by-less x a z c (omega arith)
+    go (same h e) (smaller k) f = before-by-less x a z c (omega arith)
+    go (same h e) (same k d) f = before-by-same x a z c (h ∙ k) (f e d)
+
+-- of two that are not the same one is before the other
+pub before-connected : (a b : List ℕ) → bytes-before a b ≡ false → bytes-before b a ≡ false → a ≡ b
+unfolding bytes-before
+before-connected [] [] p q = refl
+before-connected [] (y ∷ b) p q = absurd (true≢false p)
+before-connected (x ∷ a) [] p q = absurd (true≢false q)
+before-connected (x ∷ a) (y ∷ b) p q =
+    let (l, e) = or-neither (ltb x y) (eqb x y && bytes-before a b) p in
+    let (m, f) = or-neither (ltb y x) (eqb y x && bytes-before b a) q in
+    let same : x ≡ y = omega (arith, ltb-false x y l, ltb-false y x m) in
+    let rest = before-connected a b (and-rest (eqb x y) (bytes-before a b) (eq-eqb x y same) e) (and-rest (eqb y x) (bytes-before b a) (eq-eqb y x (sym same)) f) in
+    λ i. same i ∷ rest i
+
+-- ---- a rising list, neighbour by neighbour
+
+module _ {A : Type 0} (before : A → A → Bool) (d : A) where
+  pub rising-at : (l : List A) → rising before l ≡ true → (i : ℕ) → suc i < length l → before (getD l i d) (getD l (suc i) d) ≡ true
+  unfolding rising
+  rising-at [] e i h = absurd (omega arith)
+  rising-at (x ∷ []) e i h = absurd (omega arith)
+  rising-at (x ∷ y ∷ l) e zero h = and-both (before x y) (rising before (y ∷ l)) e .0
+  rising-at (x ∷ y ∷ l) e (suc i) h = rising-at (y ∷ l) (and-both (before x y) (rising before (y ∷ l)) e .1) i (omega arith)
+
+  pub at-rising : (l : List A) → ((i : ℕ) → suc i < length l → before (getD l i d) (getD l (suc i) d) ≡ true) → rising before l ≡ true
+  unfolding rising
+  at-rising [] h = refl
+  at-rising (x ∷ []) h = refl
+  at-rising (x ∷ y ∷ l) h = and-of (before x y) (rising before (y ∷ l)) (h 0 (omega arith)) (at-rising (y ∷ l) (λ i q. h (suc i) (omega arith)))

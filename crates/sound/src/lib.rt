@@ -1,1 +1,2 @@
 // The check of soundness: exactly the pictures of good schemas.
+mod rest;

@@ -1,0 +1,42 @@
+-- Settling: an object type is settled once all its parents are. No type is its own ancestor exactly where every object type is
+-- settled in the end.
+use Prim.Native.Nat.{ℕ, _<_}
+use mathlib.Core.Path.{_≡_}
+use mathlib.Core.List.{List}
+use mathlib.Core.Bool.{Bool, true}
+use lib.ListN.{length}
+use Rattle.rules.specs.04-Schema.{Schema, is-object, kind-of}
+use Rattle.rules.specs.05-Descent.{Parent}
+use Rattle.rules.specs.07-Picture.{type-row, base-length}
+use Rattle.base.specs.Rows.{type-at, part}
+use Rattle.base.specs.Back.{schema-of, kind-shown}
+
+-- t is an object type of the base b
+abbrev pub object-in : List ℕ → ℕ → Bool
+object-in b t = is-object (kind-of (schema-of b) t)
+
+-- the rows of types are as they would be written, and parents are object types
+pub record Parental (b : List ℕ) : Type 0 where
+  pub long : length b ≡ base-length
+  pub type-rows : (t : ℕ) → t < 128 → type-row (kind-shown b t) ≡ part b (type-at t) 8
+  pub parents-objects : (t a : ℕ) → Parent (schema-of b) t a → is-object (kind-of (schema-of b) a) ≡ true
+
+-- every way up from t ends, whichever parents it takes
+pub data Grounded (s : Schema) : ℕ → Type 0 where
+  ground : {t : ℕ} → ((a : ℕ) → Parent s t a → Grounded s a) → Grounded s t
+
+-- an object type whose parents are all in p
+pub record Ready (s : Schema) (p : ℕ → Bool) (t : ℕ) : Type 0 where
+  pub object : is-object (kind-of s t) ≡ true
+  pub parents : (a : ℕ) → Parent s t a → p a ≡ true
+
+-- p holds of object types alone, and every way up from them ends
+pub record Settled (s : Schema) (p : ℕ → Bool) : Type 0 where
+  pub objects : (t : ℕ) → p t ≡ true → is-object (kind-of s t) ≡ true
+  pub grounded : (t : ℕ) → p t ≡ true → Grounded s t
+
+-- a round that has passed the first n types has made q of p: what was in stays, settled stays settled, and what was ready is in
+pub record Round (s : Schema) (n : ℕ) (p q : ℕ → Bool) : Type 0 where
+  pub kept : (t : ℕ) → p t ≡ true → q t ≡ true
+  pub settled : Settled s p → Settled s q
+  pub taken : (t : ℕ) → t < n → Ready s p t → q t ≡ true

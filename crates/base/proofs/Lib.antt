@@ -4,3 +4,5 @@ pub mod Back
 pub mod Shown
 pub mod Decides
 pub mod TableLaws
+pub mod FindLaws
+pub mod KindBytes

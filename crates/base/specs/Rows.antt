@@ -54,3 +54,12 @@ pub record Split (b : List ℕ) (first width n d r : ℕ) : Type 0 where
   pub fits : r ≤ n
   pub below : (i : ℕ) → i < r → getD b (first + i * width) 0 < d
   pub above : (i : ℕ) → i < n → r ≤ i → d ≤ getD b (first + i * width) 0
+
+-- one of the n ends has these bytes
+pub record End-row (b : List ℕ) (n d l side o : ℕ) : Type 0 where
+  pub place : ℕ
+  pub below : place < n
+  pub sds : getD b (end-at place) 0 ≡ d
+  pub link : getD b (end-at place + 1) 0 ≡ l
+  pub turned : getD b (end-at place + 2) 0 ≡ side
+  pub object : getD b (end-at place + 3) 0 ≡ o

@@ -41,7 +41,14 @@ pub fn applications_past(base: &[u8], n: usize, from: usize, d: usize) -> usize
     requires { ⌜ Split (now base) 10496 3 n d from ⌝ }
     ensures { λ r. ⌜ (from ≤ r) × Split (now (base .entry)) 10496 3 n (d + 1) r ⌝ }
 {
-    past(base, Base::APPLICATIONS_AT, Base::APPLICATION_WIDTH, n, from, d)
+    past(
+        base,
+        Base::APPLICATIONS_AT,
+        Base::APPLICATION_WIDTH,
+        n,
+        from,
+        d,
+    )
 }
 
 pub fn ends_past(base: &[u8], n: usize, from: usize, d: usize) -> usize

@@ -89,7 +89,7 @@ module _ {s : Schema} where
   past (by-parent x) by = by-step x (by-parent by)
   past (by-step x d) by = by-step x (past d by)
 
-  child-object : {t a : ℕ} → Parent s t a → is-object (kind-of s t) ≡ true
+  pub child-object : {t a : ℕ} → Parent s t a → is-object (kind-of s t) ≡ true
   unfolding parents
   child-object {t} {a} by = parents-object (kind-of s t) a (by .listed)
 

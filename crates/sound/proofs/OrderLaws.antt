@@ -101,7 +101,17 @@ module _ (b : List ℕ)
       rw (presence-is b i system-presence (omega arith), presence-is b (suc i) system-presence k)
       (front-presence (presence-shown b i) (presence-shown b (suc i)) (sym (fronts i (suc i) (omega arith) k) ∙ r i k)))
 
-  -- rows i and j of one SDS and one name are one row
+  -- rows with one front are one row
+  pub front-once : Rising b 1280 18 17 (presence-count b) → (i j : ℕ) → i < presence-count b → j < presence-count b
+      → front (presence-shown b i) ≡ front (presence-shown b j) → i ≡ j
+  front-once r i j h k e = equal i j (λ l. never i j h k l e) (λ l. never j i k h l (sym e))
+    where
+      never : (i j : ℕ) → i < presence-count b → j < presence-count b → i < j → front (presence-shown b i) ≡ front (presence-shown b j) → ⊥
+      never i j h k l f =
+          true≢false (sym (rising-far b 1280 18 17 (presence-count b) r i j l k)
+          ∙ rw (row-front b i (written i h), row-front b j (written j k), f) (before-irreflexive (front (presence-shown b j))))
+
+  -- rows of one SDS and one name are one row
   pub rise-unique : Rising b 1280 18 17 (presence-count b) → (p q : Presence) → p ∈ (schema-of b) .presences → q ∈ (schema-of b) .presences
       → p .sds ≡ q .sds → same-name (p .name) (q .name) ≡ true → p ≡ q
   rise-unique r p q m n s e =
@@ -109,11 +119,8 @@ module _ (b : List ℕ)
       let (j, k, qj) = presence-in b q n in
       let alike : front (presence-shown b i) ≡ front (presence-shown b j)
       = ap front (sym pi) ∙ (λ x. s x ∷ pad 16 (same-name-is (p .name) (q .name) e x)) ∙ ap front qj in
-      let never : (i j : ℕ) → i < presence-count b → j < presence-count b → i < j → front (presence-shown b i) ≡ front (presence-shown b j) → ⊥
-      = λ i j h k l f. true≢false (sym (rising-far b 1280 18 17 (presence-count b) r i j l k)
-      ∙ rw (row-front b i (written i h), row-front b j (written j k), f) (before-irreflexive (front (presence-shown b j)))) in
-      let same : i ≡ j = equal i j (λ l. never i j h k l alike) (λ l. never j i k h l (sym alike)) in
-      pi ∙ ap (presence-shown b) same ∙ sym qj
+      pi ∙ ap (presence-shown b) (front-once r i j h k alike) ∙ sym qj
+
   pub presences-rise : rising presence-before ((schema-of b) .presences) ≡ true
       → ((p q : Presence) → p ∈ (schema-of b) .presences → q ∈ (schema-of b) .presences → p .sds ≡ q .sds → same-name (p .name) (q .name) ≡ true → p ≡ q)
       → Rising b 1280 18 17 (presence-count b)

@@ -45,10 +45,11 @@ returns c =
     let x = at .before .before in
     let b = x .args .base .now in
     let byte : getD b (at .loop .at) 0 ≡ getD b (x .args .first + at .loop .i * x .args .width) 0 = ap (λ (i : ℕ). getD b i 0) (at .loop .inv .2) in
-    let least = x .pre .1 .1 .0 .above (at .loop .i) (c .before .before .before .loop-test .taken) (at .loop .inv .0) in
-    (at .loop .inv .0,
-    split-here b (x .args .first) (x .args .width) (x .args .n) (x .args .d) (at .loop .i) (at .loop .inv .1) (at .loop .inv .3) (x .pre .1 .1 .1)
-    (omega (arith, c .before .wide .ensures .0, c .if1 .taken, byte)))
+    let least = x .pre .1 .1 .0 .above (at .loop .i) (c .before .before .before .loop-test .taken) (at .loop .inv .0) in (
+      at .loop .inv .0,
+      split-here b (x .args .first) (x .args .width) (x .args .n) (x .args .d) (at .loop .i) (at .loop .inv .1) (at .loop .inv .3) (x .pre .1 .1 .1)
+          (omega (arith, c .before .wide .ensures .0, c .if1 .taken, byte)),
+    )
 
 add-at-2 : tie.Need-add-at-2 Inv-loop μ-loop
 add-at-2 c =
@@ -73,9 +74,10 @@ loop-again c =
 returns-2 : tie.Need-returns-2 Inv-loop μ-loop
 returns-2 c =
     let at = c .before in
-    let x = at .before .before in
-    (at .loop .inv .0,
-    split-end (x .args .base .now) (x .args .first) (x .args .width) (x .args .n) (x .args .d) (at .loop .i) (at .loop .inv .1) (at .loop .inv .3) (omega arith))
+    let x = at .before .before in (
+      at .loop .inv .0,
+      split-end (x .args .base .now) (x .args .first) (x .args .width) (x .args .n) (x .args .d) (at .loop .i) (at .loop .inv .1) (at .loop .inv .3) (omega arith),
+    )
 
 pub past-spec : {M : Type 1} → statement M
 past-spec =

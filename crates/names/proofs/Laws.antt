@@ -12,7 +12,7 @@ use borrow.Author.Count.{below-more}
 use borrow.Author.Tests.{lt-ltb, le-ltb, lt-leb, le-leb, eq-eqb, ne-eqb, ltb-true, ltb-false}
 use Rattle.rules.specs.01-Lists.{same-bytes, bytes-before, all}
 use Rattle.rules.specs.02-Limits.{limits}
-use Rattle.rules.specs.03-Names.{Name, letter, letter-or-digit, well-formed, same-name, name-before, parted, names-in}
+use Rattle.rules.specs.03-Names.{Name, letter, letter-or-digit, well-formed, name-before, parted, names-in}
 use Rattle.rules.proofs.Bools.{and-both}
 use Rattle.names.specs.declared.Run.{Run}
 use Rattle.names.specs.Bytes.{bit, marked}
@@ -36,11 +36,11 @@ module _ (low high c : ℕ) where
   marked-none h = rw (le-ltb c 64 (omega arith), le-ltb c 128 h)
 
 -- the test passes at each number below n
-abbrev every : (ℕ → Bool) → ℕ → Bool
+abbrev pub every : (ℕ → Bool) → ℕ → Bool
 every p zero = true
 every p (suc n) = p n && every p n
 
-every-at : (p : ℕ → Bool) (n : ℕ) → every p n ≡ true → (k : ℕ) → k < n → p k ≡ true
+pub every-at : (p : ℕ → Bool) (n : ℕ) → every p n ≡ true → (k : ℕ) → k < n → p k ≡ true
 every-at p zero e k h = absurd (omega arith)
 every-at p (suc n) e k h =
     let (here, below) = and-both (p n) (every p n) e in
@@ -53,7 +53,7 @@ same-test false true e = e
 same-test false false e = refl
 
 -- two tests that agree at each of the 256 bytes
-agree : (f g : ℕ → Bool) → every (λ c. Bool·beq (f c) (g c)) 256 ≡ true → (c : ℕ) → c < 256 → f c ≡ g c
+pub agree : (f g : ℕ → Bool) → every (λ c. Bool·beq (f c) (g c)) 256 ≡ true → (c : ℕ) → c < 256 → f c ≡ g c
 agree f g e c h = same-test (f c) (g c) (every-at (λ x. Bool·beq (f x) (g x)) 256 e c h)
 
 pub marked-letter : (c : ℕ) → c < 256 → marked 0 0x07ff_fffe_07ff_fffe c ≡ letter c
@@ -101,8 +101,8 @@ letters-end l i h = rw (drop-of-length-le l h)
 
 -- ---- two names, byte for byte
 
-pub same-length : (a b : Name) → (length a ≡ length b → ⊥) → same-name a b ≡ false
-unfolding same-name same-bytes
+pub same-length : (a b : List ℕ) → (length a ≡ length b → ⊥) → same-bytes a b ≡ false
+unfolding same-bytes
 same-length [] [] h = absurd (h refl)
 same-length [] (y ∷ b) h = refl
 same-length (x ∷ a) [] h = refl
@@ -110,12 +110,12 @@ same-length (x ∷ a) (y ∷ b) h = rw (same-length a b (λ e. h (ap suc e))) (a
 
 -- both have a byte more
 module _ (a b : Name) (i : ℕ) (h : i < length a) (k : i < length b) where
-  pub same-stop : (getD a i 0 ≡ getD b i 0 → ⊥) → same-name (drop i a) (drop i b) ≡ false
-  unfolding same-name same-bytes
+  pub same-stop : (getD a i 0 ≡ getD b i 0 → ⊥) → same-bytes (drop i a) (drop i b) ≡ false
+  unfolding same-bytes
   same-stop n = rw (drop-cons a i 0 h, drop-cons b i 0 k, ne-eqb (getD a i 0) (getD b i 0) n)
 
-  pub same-go-on : getD a i 0 ≡ getD b i 0 → same-name (drop i a) (drop i b) ≡ same-name (drop (i + 1) a) (drop (i + 1) b)
-  unfolding same-name same-bytes
+  pub same-go-on : getD a i 0 ≡ getD b i 0 → same-bytes (drop i a) (drop i b) ≡ same-bytes (drop (i + 1) a) (drop (i + 1) b)
+  unfolding same-bytes
   same-go-on e = rw (add-one, drop-cons a i 0 h, drop-cons b i 0 k, eq-eqb (getD a i 0) (getD b i 0) e)
 
   pub before-less : getD a i 0 < getD b i 0 → name-before (drop i a) (drop i b) ≡ true
@@ -145,8 +145,8 @@ module _ (a b : Name) (i : ℕ) (h : i < length a) (k : i < length b) where
 
 -- one of the two has come to its end
 module _ (a b : Name) (i : ℕ) where
-  pub same-end : length a ≤ i → length b ≤ i → same-name (drop i a) (drop i b) ≡ true
-  unfolding same-name same-bytes
+  pub same-end : length a ≤ i → length b ≤ i → same-bytes (drop i a) (drop i b) ≡ true
+  unfolding same-bytes
   same-end h k = rw (drop-of-length-le a h, drop-of-length-le b k)
 
   pub before-second-ends : i < length a → length b ≤ i → name-before (drop i a) (drop i b) ≡ false

@@ -113,13 +113,15 @@ module _ {b : List ℕ} {n at : Places} {d : ℕ} (ready : Ready b n) (here : At
       → (i : ℕ) → i < p → at .presences ≤ i → Closed-type b (has (h .types)) (type-in b i)
   asked-types sp x i u l =
       let fits = sp .fits in
-      closed-alike b (present (schema-of b) d) (has (h .types)) (λ t. sym (shows t)) (type-in b i) (x .types i (omega (arith, ready .presences .is)) (range-in (here .presences) sp i u l))
+      closed-alike b (present (schema-of b) d) (has (h .types)) (λ t. sym (shows t)) (type-in b i) (x .types i (omega (arith, ready .presences .is))
+      (range-in (here .presences) sp i u l))
 
   pub asked-applications : {a : ℕ} → Split b 10496 3 (n .applications) (d + 1) a → Sds-closed b d
       → (i : ℕ) → i < a → at .applications ≤ i → Applied b (has (h .types)) i
   asked-applications sa x i u l =
       let fits = sa .fits in
-      applied-alike b (present (schema-of b) d) (has (h .types)) (λ t. sym (shows t)) i (x .applications i (omega (arith, ready .applications .is)) (range-in (here .applications) sa i u l))
+      applied-alike b (present (schema-of b) d) (has (h .types)) (λ t. sym (shows t)) i (x .applications i (omega (arith, ready .applications .is))
+      (range-in (here .applications) sa i u l))
 
   pub asked-ends : {e : ℕ} → Split b 11264 4 (n .ends) (d + 1) e → Sds-closed b d
       → (i : ℕ) → i < e → at .ends ≤ i → Ended b (has (h .types)) i

@@ -83,7 +83,8 @@ module _ (b : List ℕ) (set : ℕ → Bool) (i : ℕ) where
     within = and-of (set ((application-shown b i) .to)) (set ((application-shown b i) .attribute)) (ap set (sym f) ∙ n) (ap set (sym e) ∙ m);
   }
 
-  pub applied-neither : (t : ℕ) → t ≡ getD b (application-at i + 1) 0 → is-object (kind-of (schema-of b) t) ≡ false → is-link (kind-of (schema-of b) t) ≡ false → Applied b set i → ⊥
+  pub applied-neither : (t : ℕ) → t ≡ getD b (application-at i + 1) 0 → is-object (kind-of (schema-of b) t) ≡ false → is-link (kind-of
+      (schema-of b) t) ≡ false → Applied b set i → ⊥
   applied-neither t e o l x =
       ⊎-elim (λ h. true≢false (sym h ∙ o)) (λ h. true≢false (sym h ∙ l))
       (or-cases (is-object (kind-of (schema-of b) t)) (is-link (kind-of (schema-of b) t)) (rw (← e) at (x .to)))
@@ -102,7 +103,8 @@ module _ (b : List ℕ) (t : ℕ) (h : t < 128) where
       reverse-same : paired c r ≡ paired (getD b (type-at t + 1) 0) (getD b (type-at t + 2) 0) → r ≡ getD b (type-at t + 2) 0
       reverse-same q = cc
 
-  pub link-paired : is-link (kind-of (schema-of b) t) ≡ true → (getD b (type-at t + 1) 0 ≡ 4 → ⊥) → kind-of (schema-of b) t ≡ paired (getD b (type-at t + 1) 0) (getD b (type-at t + 2) 0)
+  pub link-paired : is-link (kind-of (schema-of b) t) ≡ true → (getD b (type-at t + 1) 0 ≡ 4 → ⊥) → kind-of (schema-of b) t ≡ paired (getD b
+      (type-at t + 1) 0) (getD b (type-at t + 2) 0)
   link-paired e n =
       kind-is b t h ∙ shows-paired b t (eqb-true (getD b (type-at t) 0) 3 (link-byte b t (getD b (type-at t) 0) h refl ∙ e)) n
 
@@ -180,7 +182,8 @@ module _ {b : List ℕ} {n : ℕ} (ends : Ends b n) (d l : ℕ) (side : Side) (o
         below = below;
         sds = sym (ap (λ (y : End). y .sds) e) ∙ eqb-true (x .sds) d sd;
         link = sym (ap (λ (y : End). y .link) e) ∙ eqb-true (x .link) l li;
-        turned = sym (side-same (getD b (end-at i + 2) 0) (ends .sides i below)) ∙ sym (ap (λ (y : End). side-code (y .side)) e) ∙ eqb-true (side-code (x .side)) (side-code side) si;
+        turned = sym (side-same (getD b (end-at i + 2) 0) (ends .sides i below)) ∙ sym (ap (λ (y : End). side-code (y .side)) e) ∙ eqb-true (side-code
+            (x .side)) (side-code side) si;
         object = sym (ap (λ (y : End). y .object) e) ∙ eqb-true (x .object) o ob;
       }
 

@@ -57,7 +57,8 @@ module _ (b : List ℕ) (t x : ℕ) where
   object-byte h e =
       let row = part b (type-at t) 8 in
       ap (λ (y : ℕ). eqb y 1) (first e)
-      ∙ picks-object (take (getD row 3 0) (drop 4 row)) (getD row 1 0) (getD row 1 0) (getD row 2 0) (eqb (getD row 0 0) 1) (eqb (getD row 0 0) 2) (eqb (getD row 0 0) 3) (eqb (getD row 1 0) 4)
+      ∙ picks-object (take (getD row 3 0) (drop 4 row)) (getD row 1 0) (getD row 1 0) (getD row 2 0) (eqb (getD row 0 0) 1) (eqb (getD row 0 0) 2)
+      (eqb (getD row 0 0) 3) (eqb (getD row 1 0) 4)
       ∙ ap is-object (sym (kind-is b t h))
 
   pub attribute-byte : t < 128 → x ≡ getD b (type-at t) 0 → eqb x 2 ≡ is-attribute (kind-of (schema-of b) t)
@@ -65,7 +66,8 @@ module _ (b : List ℕ) (t x : ℕ) where
   attribute-byte h e =
       let row = part b (type-at t) 8 in
       ap (λ (y : ℕ). eqb y 2) (first e)
-      ∙ picks-attribute (take (getD row 3 0) (drop 4 row)) (getD row 1 0) (getD row 1 0) (getD row 2 0) (eqb (getD row 0 0) 1) (eqb (getD row 0 0) 2) (eqb (getD row 0 0) 3) (eqb (getD row 1 0) 4)
+      ∙ picks-attribute (take (getD row 3 0) (drop 4 row)) (getD row 1 0) (getD row 1 0) (getD row 2 0) (eqb (getD row 0 0) 1) (eqb (getD row 0 0) 2)
+      (eqb (getD row 0 0) 3) (eqb (getD row 1 0) 4)
       (apart (getD row 0 0) 1 2 (λ q. omega arith))
       ∙ ap is-attribute (sym (kind-is b t h))
 
@@ -74,7 +76,8 @@ module _ (b : List ℕ) (t x : ℕ) where
   link-byte h e =
       let row = part b (type-at t) 8 in
       ap (λ (y : ℕ). eqb y 3) (first e)
-      ∙ picks-link (take (getD row 3 0) (drop 4 row)) (getD row 1 0) (getD row 1 0) (getD row 2 0) (eqb (getD row 0 0) 1) (eqb (getD row 0 0) 2) (eqb (getD row 0 0) 3) (eqb (getD row 1 0) 4)
+      ∙ picks-link (take (getD row 3 0) (drop 4 row)) (getD row 1 0) (getD row 1 0) (getD row 2 0) (eqb (getD row 0 0) 1) (eqb (getD row 0 0) 2) (eqb
+      (getD row 0 0) 3) (eqb (getD row 1 0) 4)
       (apart (getD row 0 0) 1 3 (λ q. omega arith)) (apart (getD row 0 0) 2 3 (λ q. omega arith))
       ∙ ap is-link (sym (kind-is b t h))
 

@@ -90,7 +90,8 @@ module _ {b : List ℕ} (pres : Presences b) where
     pub application-below : (i : ℕ) → i < application-count b → getD b (application-at i) 0 < 16
     application-below i h =
         let x = application-shown b i in
-        present-below (x .sds) (x .to) (and-both (present (schema-of b) (x .sds) (x .to)) (present (schema-of b) (x .sds) (x .attribute)) (c .application-present x (application-there b i h)) .0)
+        present-below (x .sds) (x .to) (and-both (present (schema-of b) (x .sds) (x .to)) (present (schema-of b) (x .sds) (x .attribute))
+        (c .application-present x (application-there b i h)) .0)
 
     pub end-below : (i : ℕ) → i < end-count b → getD b (end-at i) 0 < 16
     end-below i h =
@@ -105,8 +106,10 @@ module _ {b : List ℕ} (pres : Presences b) where
   sds-closed-all f la le w = record {
     one-presence = λ p q m n s e. one p q m n s e;
     somewhere = w;
-    parents-present = λ d t a e by. let (i, h, s, y) = row-present b d t e in with-type y (λ u. (a : ℕ) → Parent (schema-of b) u a → present (schema-of b) d a ≡ true) (f d (present-below d t e) .types i h s .parents) a by;
-    reverse-present = λ d t c r e q. let (i, h, s, y) = row-present b d t e in with-type y (λ u. (c r : ℕ) → kind-of (schema-of b) u ≡ paired c r → present (schema-of b) d r ≡ true) (f d (present-below d t e) .types i h s .reverse) c r q;
+    parents-present = λ d t a e by. let (i, h, s, y) = row-present b d t e in with-type y (λ u. (a : ℕ) → Parent (schema-of b) u a → present
+        (schema-of b) d a ≡ true) (f d (present-below d t e) .types i h s .parents) a by;
+    reverse-present = λ d t c r e q. let (i, h, s, y) = row-present b d t e in with-type y (λ u. (c r : ℕ) → kind-of
+        (schema-of b) u ≡ paired c r → present (schema-of b) d r ≡ true) (f d (present-below d t e) .types i h s .reverse) c r q;
     applied-attribute = λ x m. let (i, h, e) = application-in b x m in rw e (applied i h .attribute);
     applied-to = λ x m. let (i, h, e) = application-in b x m in rw e (applied i h .to);
     application-present = λ x m. let (i, h, e) = application-in b x m in rw e (applied i h .within);
@@ -143,7 +146,8 @@ used-byte {b} p t h n = rw (kind-is b t h) (go (kind-shown b t) refl)
   where
     go : (k : Kind) → kind-shown b t ≡ k → is-used k ≡ true
     go unused e =
-        absurd (n (ap (λ (m : ℕ). getD b m 0) (omega arith) ∙ sym (part-byte b (type-at t) 8 0 (omega arith)) ∙ ap (λ (l : List ℕ). getD l 0 0) (sym (p .type-rows t h) ∙ ap type-row e)))
+        absurd (n (ap (λ (m : ℕ). getD b m 0) (omega arith) ∙ sym (part-byte b (type-at t) 8 0 (omega arith)) ∙ ap (λ (l : List ℕ). getD l 0 0) (sym
+        (p .type-rows t h) ∙ ap type-row e)))
     go (object ps) e = refl
     go (attribute v) e = refl
     go designation e = refl

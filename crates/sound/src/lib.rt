@@ -1,4 +1,40 @@
-// The check of soundness: exactly the pictures of good schemas.
+// The check of soundness: exactly the pictures of good schemas. Each part of it decides some fields of `Good`, and what they need of
+// the bytes; every call of the keeper begins with it.
 mod closed;
+mod named;
 mod rest;
 mod types;
+
+use base::Base;
+ghost use Rattle.rules.specs.07-Picture.{Sound};
+ghost use Rattle.base.specs.Decides.{Decides};
+
+pub fn is_sound(base: &[u8]) -> bool
+    ensures { λ r. ⌜ Decides (Sound (now (base .entry))) r ⌝ }
+{
+    if base.len() != Base::LENGTH {
+        return false;
+    }
+    if !named::sdss_fine(base) {
+        return false;
+    }
+    if !types::kinds_fine(base) {
+        return false;
+    }
+    if !types::parents_fine(base) {
+        return false;
+    }
+    if !types::reverses_fine(base) {
+        return false;
+    }
+    if !graph::is_acyclic(base) {
+        return false;
+    }
+    if !named::presences_fine(base) {
+        return false;
+    }
+    if !rest::rest_fine(base) {
+        return false;
+    }
+    closed::closed_fine(base)
+}

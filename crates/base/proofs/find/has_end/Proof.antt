@@ -54,7 +54,8 @@ returns-3 c =
     let x = c .before .before .before .before .before .before .before .before in
     let b = x .args .base .now in
     decides-no (λ e. c .if3 .taken (c .before .end-link .ensures .is
-    ∙ ap (λ (i : ℕ). getD b (end-at i + 1) 0) (sym (there (x .pre .0 .0) (x .pre .0 .1) (x .pre .1 .1) (x .pre .1 .0) (c .before .before .before .before .before .place .ensures) e)) ∙ e .link))
+    ∙ ap (λ (i : ℕ). getD b (end-at i + 1) 0) (sym (there (x .pre .0 .0) (x .pre .0 .1) (x .pre .1 .1) (x .pre .1 .0)
+    (c .before .before .before .before .before .place .ensures) e)) ∙ e .link))
 
 end-side-requires : tie.Need-end-side-requires
 end-side-requires c κs = search needs
@@ -64,7 +65,8 @@ returns-4 c =
     let x = c .before .before .before .before .before .before .before .before .before .before in
     let b = x .args .base .now in
     decides-no (λ e. c .if4 .taken (c .before .end-side .ensures .is
-    ∙ ap (λ (i : ℕ). getD b (end-at i + 2) 0) (sym (there (x .pre .0 .0) (x .pre .0 .1) (x .pre .1 .1) (x .pre .1 .0) (c .before .before .before .before .before .before .before .place .ensures) e)) ∙ e .turned))
+    ∙ ap (λ (i : ℕ). getD b (end-at i + 2) 0) (sym (there (x .pre .0 .0) (x .pre .0 .1) (x .pre .1 .1) (x .pre .1 .0)
+    (c .before .before .before .before .before .before .before .place .ensures) e)) ∙ e .turned))
 
 end-object-requires : tie.Need-end-object-requires
 end-object-requires c κs = search needs
@@ -83,7 +85,8 @@ returns-5 c =
         object = sym is ∙ eqb-true (c .end-object .result) (x .args .o) h;
       };
       fails = λ h e. eqb-false (c .end-object .result) (x .args .o) h
-          (is ∙ ap (λ (i : ℕ). getD b (end-at i + 3) 0) (sym (there (x .pre .0 .0) (x .pre .0 .1) (x .pre .1 .1) (x .pre .1 .0) (c .before .before .before .before .before .before .before .before .place .ensures) e)) ∙ e .object);
+          (is ∙ ap (λ (i : ℕ). getD b (end-at i + 3) 0) (sym (there (x .pre .0 .0) (x .pre .0 .1) (x .pre .1 .1) (x .pre .1 .0)
+          (c .before .before .before .before .before .before .before .before .place .ensures) e)) ∙ e .object);
     }
 
 pub has-end-spec : {M : Type 1} → statement M

@@ -30,7 +30,8 @@ is-in-requires c κs = search needs
 returns-2 : tie.Need-returns-2
 returns-2 c =
     let x = c .before .before .before .before .before .before .args in
-    decides-no (applied-attribute-out (x .base .now) (has (x .set)) (x .i) (c .before .before .before .before .application-attribute .result) (c .before .before .before .before .application-attribute .ensures .is)
+    decides-no (applied-attribute-out (x .base .now) (has (x .set)) (x .i) (c .before .before .before .before .application-attribute .result)
+    (c .before .before .before .before .application-attribute .ensures .is)
     (sym (c .before .is-in .ensures) ∙ not-true _ (c .if2 .taken)))
 
 application-to-requires : tie.Need-application-to-requires
@@ -53,8 +54,13 @@ returns-4 c =
     let x = c .before .before .before .before .before .before .before .before .before .before .before .args in
     let b = x .base .now in
     let to = c .before .before .before .before .application-to .result in
-    decides-yes (applied-of b (has (x .set)) (x .i) (c .before .before .before .before .before .before .before .before .before .application-attribute .result) to (c .before .before .before .before .before .before .before .before .before .application-attribute .ensures .is) (c .before .before .before .before .application-to .ensures .is)
-    (sym (c .before .before .before .before .before .before .before .before .is-attribute .ensures) ∙ not-false _ (c .before .before .before .before .before .before .before .if1 .left)) (sym (c .before .before .before .before .before .before .is-in .ensures) ∙ not-false _ (c .before .before .before .before .before .if2 .left))
+    decides-yes (applied-of b (has (x .set)) (x .i)
+    (c .before .before .before .before .before .before .before .before .before .application-attribute .result) to
+    (c .before .before .before .before .before .before .before .before .before .application-attribute .ensures .is)
+    (c .before .before .before .before .application-to .ensures .is)
+    (sym (c .before .before .before .before .before .before .before .before .is-attribute .ensures) ∙ not-false _
+    (c .before .before .before .before .before .before .before .if1 .left)) (sym (c .before .before .before .before .before .before .is-in .ensures)
+    ∙ not-false _ (c .before .before .before .before .before .if2 .left))
     (sym (c .before .before .before .is-in2 .ensures) ∙ not-false _ (c .before .before .if3 .left))
     (or-left (is-object (kind-of (schema-of b) to)) (is-link (kind-of (schema-of b) to)) (sym (c .before .is-object .ensures) ∙ c .if4 .taken)))
 
@@ -66,11 +72,17 @@ returns-5 c =
     let x = c .before .before .before .before .before .before .before .before .before .before .before .before .args in
     let b = x .base .now in
     let to = c .before .before .before .before .before .application-to .result in record {
-      holds = λ e. applied-of b (has (x .set)) (x .i) (c .before .before .before .before .before .before .before .before .before .before .application-attribute .result) to (c .before .before .before .before .before .before .before .before .before .before .application-attribute .ensures .is) (c .before .before .before .before .before .application-to .ensures .is)
-          (sym (c .before .before .before .before .before .before .before .before .before .is-attribute .ensures) ∙ not-false _ (c .before .before .before .before .before .before .before .before .if1 .left)) (sym (c .before .before .before .before .before .before .before .is-in .ensures) ∙ not-false _ (c .before .before .before .before .before .before .if2 .left))
+      holds = λ e. applied-of b (has (x .set)) (x .i)
+          (c .before .before .before .before .before .before .before .before .before .before .application-attribute .result) to
+          (c .before .before .before .before .before .before .before .before .before .before .application-attribute .ensures .is)
+          (c .before .before .before .before .before .application-to .ensures .is)
+          (sym (c .before .before .before .before .before .before .before .before .before .is-attribute .ensures) ∙ not-false _
+          (c .before .before .before .before .before .before .before .before .if1 .left)) (sym
+          (c .before .before .before .before .before .before .before .is-in .ensures) ∙ not-false _ (c .before .before .before .before .before .before .if2 .left))
           (sym (c .before .before .before .before .is-in2 .ensures) ∙ not-false _ (c .before .before .before .if3 .left))
           (or-right (is-object (kind-of (schema-of b) to)) (is-link (kind-of (schema-of b) to)) (sym (c .is-link .ensures) ∙ e));
-      fails = λ e. applied-neither b (has (x .set)) (x .i) to (c .before .before .before .before .before .application-to .ensures .is) (sym (c .before .before .is-object .ensures) ∙ c .before .if4 .left) (sym (c .is-link .ensures) ∙ e);
+      fails = λ e. applied-neither b (has (x .set)) (x .i) to (c .before .before .before .before .before .application-to .ensures .is) (sym
+          (c .before .before .is-object .ensures) ∙ c .before .if4 .left) (sym (c .is-link .ensures) ∙ e);
     }
 
 pub application-fine-spec : {M : Type 1} → statement M

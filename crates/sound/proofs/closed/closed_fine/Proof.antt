@@ -34,14 +34,16 @@ returns-2 c =
     let x = c .before .before .before .before .before .before .before .before .before .before in
     let g = c .before .before .before .before .before .sdss-fine .ensures in
     let n = c .before .before .before .before .before .before .before .application-count .ensures in
-    decides-no (λ q. one-left (g .places (not-false _ (c .before .before .before .if1 .left)) .applications) (c .if2 .taken) (λ i h. application-below (x .pre .1 .0) q i (omega (arith, n .is))))
+    decides-no (λ q. one-left (g .places (not-false _ (c .before .before .before .if1 .left)) .applications) (c .if2 .taken) (λ i h. application-below
+    (x .pre .1 .0) q i (omega (arith, n .is))))
 
 returns-3 : tie.Need-returns-3
 returns-3 c =
     let x = c .before .before .before .before .before .before .before .before .before .before .before .before .before in
     let g = c .before .before .before .before .before .before .before .before .sdss-fine .ensures in
     let n = c .before .before .before .before .before .before .before .before .before .end-count .ensures in
-    decides-no (λ q. one-left (g .places (not-false _ (c .before .before .before .before .before .before .if1 .left)) .ends) (c .if3 .taken) (λ i h. end-below (x .pre .1 .0) q i (omega (arith, n .is))))
+    decides-no (λ q. one-left (g .places (not-false _ (c .before .before .before .before .before .before .if1 .left)) .ends) (c .if3 .taken)
+    (λ i h. end-below (x .pre .1 .0) q i (omega (arith, n .is))))
 
 used-in-requires : tie.Need-used-in-requires
 used-in-requires c κs = search needs

@@ -45,7 +45,8 @@ returns-3 : tie.Need-returns-3
 returns-3 c =
     let x = c .before .before .before .before .before .before .before .before .before in
     let o = c .before .before .end-object in
-    decides-no (ended-no-object (x .args .base .now) (has (x .args .set)) (x .args .i) (o .result) (o .ensures .is) (sym (c .before .is-object .ensures) ∙ not-true _ (c .if3 .taken)))
+    decides-no (ended-no-object (x .args .base .now) (has (x .args .set)) (x .args .i) (o .result) (o .ensures .is) (sym
+    (c .before .is-object .ensures) ∙ not-true _ (c .if3 .taken)))
 
 is-in-requires-2 : tie.Need-is-in-requires-2
 is-in-requires-2 c κs = search needs
@@ -54,12 +55,17 @@ returns-4 : tie.Need-returns-4
 returns-4 c =
     let x = c .before .before .before .before .before .before .before .before .before .before .before in
     let o = c .before .before .before .before .end-object in
-    decides-no (ended-object-out (x .args .base .now) (has (x .args .set)) (x .args .i) (o .result) (o .ensures .is) (sym (c .before .is-in2 .ensures) ∙ not-true _ (c .if4 .taken)))
+    decides-no (ended-object-out (x .args .base .now) (has (x .args .set)) (x .args .i) (o .result) (o .ensures .is) (sym (c .before .is-in2 .ensures)
+    ∙ not-true _ (c .if4 .taken)))
 
 value-requires : tie.Need-value-requires
 value-requires c κs =
-    let x = c .before .before .before .before .before .before .before .before .before .before .before in
-    (x .pre .0 .long, link-below (x .args .base .now) (c .before .before .before .before .before .before .before .before .before .end-link .result) (sym (c .before .before .before .before .before .before .before .before .is-link .ensures) ∙ not-false _ (c .before .before .before .before .before .before .before .if1 .left)))
+    let x = c .before .before .before .before .before .before .before .before .before .before .before in (
+      x .pre .0 .long,
+      link-below (x .args .base .now) (c .before .before .before .before .before .before .before .before .before .end-link .result)
+          (sym (c .before .before .before .before .before .before .before .before .is-link .ensures) ∙ not-false _
+          (c .before .before .before .before .before .before .before .if1 .left)),
+    )
 
 returns-5 : tie.Need-returns-5
 returns-5 c =
@@ -67,8 +73,11 @@ returns-5 c =
     let l = c .before .before .before .before .before .before .before .before .before .before .before .end-link in
     let o = c .before .before .before .before .before .before .end-object in
     decides-yes (ended-alone (x .args .base .now) (has (x .args .set)) (x .args .i) (l .result) (o .result) (l .ensures .is) (o .ensures .is)
-    (sym (c .before .before .before .before .before .before .before .before .before .before .is-link .ensures) ∙ not-false _ (c .before .before .before .before .before .before .before .before .before .if1 .left)) (sym (c .before .before .before .before .before .before .before .before .is-in .ensures) ∙ not-false _ (c .before .before .before .before .before .before .before .if2 .left))
-    (sym (c .before .before .before .before .before .is-object .ensures) ∙ not-false _ (c .before .before .before .before .if3 .left)) (sym (c .before .before .before .is-in2 .ensures) ∙ not-false _ (c .before .before .if4 .left))
+    (sym (c .before .before .before .before .before .before .before .before .before .before .is-link .ensures) ∙ not-false _
+    (c .before .before .before .before .before .before .before .before .before .if1 .left)) (sym
+    (c .before .before .before .before .before .before .before .before .is-in .ensures) ∙ not-false _ (c .before .before .before .before .before .before .before .if2 .left))
+    (sym (c .before .before .before .before .before .is-object .ensures) ∙ not-false _ (c .before .before .before .before .if3 .left)) (sym
+    (c .before .before .before .is-in2 .ensures) ∙ not-false _ (c .before .before .if4 .left))
     (sym (c .before .value .ensures .is) ∙ c .if5 .taken))
 
 end-side-requires : tie.Need-end-side-requires
@@ -83,8 +92,13 @@ end-sds-requires c κs =
 
 reverse-requires : tie.Need-reverse-requires
 reverse-requires c κs =
-    let x = c .before .before .before .before .before .before .before .before .before .before .before .before .before .before .before in
-    (x .pre .0 .long, link-below (x .args .base .now) (c .before .before .before .before .before .before .before .before .before .before .before .before .before .end-link .result) (sym (c .before .before .before .before .before .before .before .before .before .before .before .before .is-link .ensures) ∙ not-false _ (c .before .before .before .before .before .before .before .before .before .before .before .if1 .left)))
+    let x = c .before .before .before .before .before .before .before .before .before .before .before .before .before .before .before in (
+      x .pre .0 .long,
+      link-below (x .args .base .now)
+          (c .before .before .before .before .before .before .before .before .before .before .before .before .before .end-link .result) (sym
+          (c .before .before .before .before .before .before .before .before .before .before .before .before .is-link .ensures) ∙ not-false _
+          (c .before .before .before .before .before .before .before .before .before .before .before .if1 .left)),
+    )
 
 sub-has-end : tie.Need-sub-has-end
 sub-has-end c =
@@ -95,7 +109,16 @@ has-end-requires : tie.Need-has-end-requires
 has-end-requires c κs =
     let x = c .before .before .before .before .before .before .before .before .before .before .before .before .before .before .before .before in (
       (x .pre .0 .long, x .pre .0 .counted .fits),
-      ((c .before .end-sds .ensures .small, (c .reverse .ensures .small, (omega arith, c .before .before .before .before .before .before .before .before .before .end-object .ensures .small))), x .pre .0 .rise),
+      (
+        (
+          c .before .end-sds .ensures .small,
+          (
+            c .reverse .ensures .small,
+            (omega arith, c .before .before .before .before .before .before .before .before .before .end-object .ensures .small),
+          ),
+        ),
+        x .pre .0 .rise,
+      ),
     )
 
 returns-6 : tie.Need-returns-6
@@ -103,13 +126,20 @@ returns-6 c =
     let x = c .before .before .before .before .before .before .before .before .before .before .before .before .before .before .before .before .before in
     let l = c .before .before .before .before .before .before .before .before .before .before .before .before .before .before .before .end-link in
     let o = c .before .before .before .before .before .before .before .before .before .before .end-object in
-    let kl = sym (c .before .before .before .before .before .before .before .before .before .before .before .before .before .before .is-link .ensures) ∙ not-false _ (c .before .before .before .before .before .before .before .before .before .before .before .before .before .if1 .left) in
+    let kl = sym (c .before .before .before .before .before .before .before .before .before .before .before .before .before .before .is-link .ensures)
+    ∙ not-false _ (c .before .before .before .before .before .before .before .before .before .before .before .before .before .if1 .left) in
     decides-iff
     (ended-both (x .args .base .now) (has (x .args .set)) (x .args .i) (l .result) (o .result) (l .ensures .is) (o .ensures .is) kl (x .pre .0) (x .pre .1)
-    (c .before .before .end-sds .result) (c .before .reverse .result) (c .before .before .before .end-side .result) (c .before .before .end-sds .ensures .is) (c .before .reverse .ensures .is) (c .before .before .before .end-side .ensures .is)
-    (sym (c .before .before .before .before .before .before .before .before .before .before .before .before .is-in .ensures) ∙ not-false _ (c .before .before .before .before .before .before .before .before .before .before .before .if2 .left)) (sym (c .before .before .before .before .before .before .before .before .before .is-object .ensures) ∙ not-false _ (c .before .before .before .before .before .before .before .before .if3 .left)) (sym (c .before .before .before .before .before .before .before .is-in2 .ensures) ∙ not-false _ (c .before .before .before .before .before .before .if4 .left)))
+    (c .before .before .end-sds .result) (c .before .reverse .result) (c .before .before .before .end-side .result)
+    (c .before .before .end-sds .ensures .is) (c .before .reverse .ensures .is) (c .before .before .before .end-side .ensures .is)
+    (sym (c .before .before .before .before .before .before .before .before .before .before .before .before .is-in .ensures) ∙ not-false _
+    (c .before .before .before .before .before .before .before .before .before .before .before .if2 .left)) (sym
+    (c .before .before .before .before .before .before .before .before .before .is-object .ensures) ∙ not-false _
+    (c .before .before .before .before .before .before .before .before .if3 .left)) (sym
+    (c .before .before .before .before .before .before .before .is-in2 .ensures) ∙ not-false _ (c .before .before .before .before .before .before .if4 .left)))
     (ended-mirror (x .args .base .now) (has (x .args .set)) (x .args .i) (l .result) (o .result) (l .ensures .is) (o .ensures .is) kl (x .pre .0) (x .pre .1)
-    (c .before .before .end-sds .result) (c .before .reverse .result) (c .before .before .before .end-side .result) (c .before .before .end-sds .ensures .is) (c .before .reverse .ensures .is) (c .before .before .before .end-side .ensures .is)
+    (c .before .before .end-sds .result) (c .before .reverse .result) (c .before .before .before .end-side .result)
+    (c .before .before .end-sds .ensures .is) (c .before .reverse .ensures .is) (c .before .before .before .end-side .ensures .is)
     (λ q. c .before .before .before .before .if5 .left (c .before .before .before .before .before .value .ensures .is ∙ q)))
     (c .has-end .ensures)
 

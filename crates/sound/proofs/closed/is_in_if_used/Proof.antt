@@ -22,7 +22,8 @@ returns-2 : tie.Need-returns-2
 returns-2 c =
     let x = c .before .before .before .before in record {
       holds = λ e u. sym (c .test .ensures) ∙ e;
-      fails = λ e f. true≢false (sym (f (used-byte (x .pre .0) (x .args .t) (x .pre .1) (λ q. c .before .if1 .left (c .before .before .kind .ensures .is ∙ q)))) ∙ sym (c .test .ensures) ∙ e);
+      fails = λ e f. true≢false (sym (f (used-byte (x .pre .0) (x .args .t) (x .pre .1) (λ q. c .before .if1 .left
+          (c .before .before .kind .ensures .is ∙ q)))) ∙ sym (c .test .ensures) ∙ e);
     }
 
 pub is-in-if-used-spec : {M : Type 1} → statement M

@@ -31,7 +31,8 @@ returns : tie.Need-returns Inv-loop μ-loop
 returns c =
     let at = c .before .before .before .before in
     let set = at .before .before .args .set in
-    decides-no (λ f. true≢false (sym (f (at .loop .i) (c .before .before .before .loop-test .taken)) ∙ ap (has set) (sym (c .before .before .parent .ensures .is)) ∙ sym (c .before .is-in .ensures) ∙ not-true _ (c .if1 .taken)))
+    decides-no (λ f. true≢false (sym (f (at .loop .i) (c .before .before .before .loop-test .taken)) ∙ ap (has set) (sym
+    (c .before .before .parent .ensures .is)) ∙ sym (c .before .is-in .ensures) ∙ not-true _ (c .if1 .taken)))
 
 add-i : tie.Need-add-i Inv-loop μ-loop
 add-i c = search needs

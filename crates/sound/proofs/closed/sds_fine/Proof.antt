@@ -22,7 +22,8 @@ gather-requires c κs =
 returns : tie.Need-returns
 returns c =
     let x = c .before .before .before .before .before .before in
-    checks-no refl (gathered-twice (x .pre .0 .presences) (x .pre .1 .presences) (c .before .before .before .before .presences-past .ensures .1) (c .before .before .before .gather .ensures) (not-true _ (c .if1 .taken)))
+    checks-no refl (gathered-twice (x .pre .0 .presences) (x .pre .1 .presences) (c .before .before .before .before .presences-past .ensures .1)
+    (c .before .before .before .gather .ensures) (not-true _ (c .if1 .taken)))
 
 types-closed-requires : tie.Need-types-closed-requires
 types-closed-requires c κs =
@@ -34,8 +35,10 @@ returns-2 : tie.Need-returns-2
 returns-2 c =
     let x = c .before .before .before .before .before .before .before .before in
     let s = c .before .before .before .before .before .before .presences-past .ensures .1 in
-    let shows = gathered-shows (x .pre .0 .presences) (x .pre .1 .presences) s (c .before .before .before .before .before .gather .ensures) (not-false _ (c .before .before .if1 .left)) in
-    checks-no refl (λ q. c .before .types-closed .ensures .fails (not-true _ (c .if2 .taken)) (asked-types (x .pre .0) (x .pre .1) (c .before .before .before .before .before .gather .result) shows s q))
+    let shows = gathered-shows (x .pre .0 .presences) (x .pre .1 .presences) s (c .before .before .before .before .before .gather .ensures)
+    (not-false _ (c .before .before .if1 .left)) in
+    checks-no refl (λ q. c .before .types-closed .ensures .fails (not-true _ (c .if2 .taken)) (asked-types (x .pre .0) (x .pre .1)
+    (c .before .before .before .before .before .gather .result) shows s q))
 
 applications-past-requires : tie.Need-applications-past-requires
 applications-past-requires c κs = search needs
@@ -47,8 +50,10 @@ returns-3 : tie.Need-returns-3
 returns-3 c =
     let x = c .before .before .before .before .before .before .before .before .before .before .before in
     let s = c .before .before .before .before .before .before .before .before .before .presences-past .ensures .1 in
-    let shows = gathered-shows (x .pre .0 .presences) (x .pre .1 .presences) s (c .before .before .before .before .before .before .before .before .gather .ensures) (not-false _ (c .before .before .before .before .before .if1 .left)) in
-    checks-no refl (λ q. c .before .applications-fine .ensures .fails (not-true _ (c .if3 .taken)) (asked-applications (x .pre .0) (x .pre .1) (c .before .before .before .before .before .before .before .before .gather .result) shows (c .before .before .applications-past .ensures .1) q))
+    let shows = gathered-shows (x .pre .0 .presences) (x .pre .1 .presences) s
+    (c .before .before .before .before .before .before .before .before .gather .ensures) (not-false _ (c .before .before .before .before .before .if1 .left)) in
+    checks-no refl (λ q. c .before .applications-fine .ensures .fails (not-true _ (c .if3 .taken)) (asked-applications (x .pre .0) (x .pre .1)
+    (c .before .before .before .before .before .before .before .before .gather .result) shows (c .before .before .applications-past .ensures .1) q))
 
 ends-past-requires : tie.Need-ends-past-requires
 ends-past-requires c κs = search needs
@@ -60,8 +65,11 @@ returns-4 : tie.Need-returns-4
 returns-4 c =
     let x = c .before .before .before .before .before .before .before .before .before .before .before .before .before .before in
     let s = c .before .before .before .before .before .before .before .before .before .before .before .before .presences-past .ensures .1 in
-    let shows = gathered-shows (x .pre .0 .presences) (x .pre .1 .presences) s (c .before .before .before .before .before .before .before .before .before .before .before .gather .ensures) (not-false _ (c .before .before .before .before .before .before .before .before .if1 .left)) in
-    checks-no refl (λ q. c .before .ends-fine .ensures .fails (not-true _ (c .if4 .taken)) (asked-ends (x .pre .0) (x .pre .1) (c .before .before .before .before .before .before .before .before .before .before .before .gather .result) shows (c .before .before .ends-past .ensures .1) q))
+    let shows = gathered-shows (x .pre .0 .presences) (x .pre .1 .presences) s
+    (c .before .before .before .before .before .before .before .before .before .before .before .gather .ensures) (not-false _
+    (c .before .before .before .before .before .before .before .before .if1 .left)) in
+    checks-no refl (λ q. c .before .ends-fine .ensures .fails (not-true _ (c .if4 .taken)) (asked-ends (x .pre .0) (x .pre .1)
+    (c .before .before .before .before .before .before .before .before .before .before .before .gather .result) shows (c .before .before .ends-past .ensures .1) q))
 
 returns-5 : tie.Need-returns-5
 returns-5 c =
@@ -70,10 +78,13 @@ returns-5 c =
     let sa = c .before .before .before .before .before .applications-past .ensures .1 in
     let se = c .before .before .ends-past .ensures .1 in
     let o = not-false _ (c .before .before .before .before .before .before .before .before .if1 .left) in
-    let shows = gathered-shows (x .pre .0 .presences) (x .pre .1 .presences) sp (c .before .before .before .before .before .before .before .before .before .before .before .gather .ensures) o in
+    let shows = gathered-shows (x .pre .0 .presences) (x .pre .1 .presences) sp
+    (c .before .before .before .before .before .before .before .before .before .before .before .gather .ensures) o in
     record {
       fails = λ e. absurd (true≢false e);
-      holds = λ e. sds-closed (x .pre .0) (x .pre .1) (c .before .before .before .before .before .before .before .before .before .before .before .gather .result) shows sp sa se (c .before .before .before .before .before .before .before .before .before .before .before .gather .ensures) o
+      holds = λ e. sds-closed (x .pre .0) (x .pre .1)
+          (c .before .before .before .before .before .before .before .before .before .before .before .gather .result) shows sp sa se
+          (c .before .before .before .before .before .before .before .before .before .before .before .gather .ensures) o
           (c .before .before .before .before .before .before .before .types-closed .ensures .holds (not-false _ (c .before .before .before .before .before .before .if2 .left)))
           (c .before .before .before .before .applications-fine .ensures .holds (not-false _ (c .before .before .before .if3 .left)))
           (c .before .ends-fine .ensures .holds (not-false _ (c .if4 .left)));

@@ -45,7 +45,8 @@ returns-3 : tie.Need-returns-3
 returns-3 c =
     let x = c .before .before .before .before .before .before in
     let is = c .before .before .before .before .kind .ensures .is in
-    decides-yes (closed-designation (x .pre .1) (has (x .args .set)) (x .args .t) (x .pre .0 .1) (sym is ∙ c .before .before .if2 .left) (sym (c .before .value .ensures .is) ∙ c .if3 .taken))
+    decides-yes (closed-designation (x .pre .1) (has (x .args .set)) (x .args .t) (x .pre .0 .1) (sym is ∙ c .before .before .if2 .left) (sym
+    (c .before .value .ensures .is) ∙ c .if3 .taken))
 
 reverse-requires : tie.Need-reverse-requires
 reverse-requires c κs = search needs
@@ -60,7 +61,8 @@ returns-4 c =
     let three = sym is ∙ c .before .before .before .before .if2 .left in
     let same = ap (has (x .args .set)) (c .before .reverse .ensures .is) in record {
       holds = λ e. closed-paired (x .pre .1) (has (x .args .set)) (x .args .t) (x .pre .0 .1) three (sym same ∙ sym (c .is-in .ensures) ∙ e);
-      fails = λ e g. true≢false (sym (closed-reverse (x .pre .1) (has (x .args .set)) (x .args .t) (x .pre .0 .1) three (λ q. c .before .before .if3 .left (c .before .before .before .value .ensures .is ∙ q)) g)
+      fails = λ e g. true≢false (sym (closed-reverse (x .pre .1) (has (x .args .set)) (x .args .t) (x .pre .0 .1) three
+          (λ q. c .before .before .if3 .left (c .before .before .before .value .ensures .is ∙ q)) g)
           ∙ sym same ∙ sym (c .is-in .ensures) ∙ e);
     }
 

@@ -43,8 +43,11 @@ loop-less c = search needs
 
 loop-again : tie.Need-loop-again Inv-loop μ-loop
 loop-again c =
-    let at = c .before .before .before .before in
-    (omega arith, below-more _ _ (at .loop .inv .1) (λ l. rw (c .before .before .presence-type .ensures .is) at (c .before .type-closed .ensures .holds (not-false _ (c .if1 .left)))))
+    let at = c .before .before .before .before in (
+      omega arith,
+      below-more _ _ (at .loop .inv .1) (λ l. rw (c .before .before .presence-type .ensures .is) at
+          (c .before .type-closed .ensures .holds (not-false _ (c .if1 .left)))),
+    )
 
 returns-2 : tie.Need-returns-2 Inv-loop μ-loop
 returns-2 c = decides-yes (λ k h l. c .before .loop .inv .1 k (omega arith) l)

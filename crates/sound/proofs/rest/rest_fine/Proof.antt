@@ -60,8 +60,10 @@ returns-5 c =
     let n = m .before .before .before .before .before in
     let long = n .before .before .pre in record {
       holds = λ e. found-rest long (n .application-count .ensures) (m .end-count .ensures) (record {
-        application-rest = c .before .before .before .before .before .before .before .before .before .no-application-from .ensures .holds (not-false _ (c .before .before .before .before .before .before .before .before .if1 .left));
-        applications-rise = c .before .before .before .before .before .before .before .applications-rise .ensures .holds (not-false _ (c .before .before .before .before .before .before .if2 .left));
+        application-rest = c .before .before .before .before .before .before .before .before .before .no-application-from .ensures .holds (not-false _
+            (c .before .before .before .before .before .before .before .before .if1 .left));
+        applications-rise = c .before .before .before .before .before .before .before .applications-rise .ensures .holds (not-false _
+            (c .before .before .before .before .before .before .if2 .left));
         end-rest = c .before .before .before .before .no-end-from .ensures .holds (not-false _ (c .before .before .before .if3 .left));
         sides = c .before .before .sides-fine .ensures .holds (not-false _ (c .before .if4 .left));
         ends-rise = c .ends-rise .ensures .holds e;

@@ -29,7 +29,8 @@ returns-4 : tie.Need-returns-4
 returns-4 c = decides-yes (omega arith)
 
 returns-5 : tie.Need-returns-5
-returns-5 c = decides-iff (λ other. omega arith) (λ x. x .not-both-implicit (omega arith)) (decides-other (c .before .before .before .before .before .before .before .before .args .c) 3)
+returns-5 c = decides-iff (λ other. omega arith) (λ x. x .not-both-implicit (omega arith)) (decides-other
+    (c .before .before .before .before .before .before .before .before .args .c) 3)
 
 pub answers-spec : {M : Type 1} → statement M
 answers-spec =

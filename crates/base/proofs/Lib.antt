@@ -6,3 +6,5 @@ pub mod Decides
 pub mod TableLaws
 pub mod FindLaws
 pub mod KindBytes
+pub mod SdsShown
+pub mod SdsWritten

@@ -2,3 +2,4 @@ pub mod Rows
 pub mod Back
 pub mod Decides
 pub mod Table
+pub mod Found

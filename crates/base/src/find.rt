@@ -1,11 +1,118 @@
-// Rows found by halving.
+// What a base holds of an SDS, a presence or an end, and where.
 use super::Base;
+use rules::Limits;
 ghost use mathlib.Core.Path.{_≡_};
+ghost use mathlib.Core.Bool.{true};
 ghost use Prim.Native.Nat.{_≤_, _<_};
 ghost use lib.ListN.{length};
+ghost use Rattle.rules.specs.03-Names.{well-formed};
+ghost use Rattle.rules.specs.04-Schema.{sds-name, used-sds};
 ghost use Rattle.rules.specs.07-Picture.{base-length};
+ghost use Rattle.rules.specs.09-Refusals.{sds-name-taken, holds-presence};
 ghost use Rattle.base.specs.Rows.{Rising, End-row};
+ghost use Rattle.base.specs.Back.{schema-of, presence-count};
+ghost use Rattle.base.specs.Found.{Free-sds, Row-of, Presence-row};
 ghost use Rattle.base.specs.Decides.{Decides};
+
+// ---- SDSs
+
+// Whether d is the number of an SDS: its name has a first byte.
+pub fn is_sds(base: &[u8], d: usize) -> bool
+    requires { ⌜ length (now base) ≡ base-length ⌝ }
+    ensures { λ r. ⌜ r ≡ used-sds (schema-of (now (base .entry))) d ⌝ }
+{
+    if Limits::SDSS <= d {
+        return false;
+    }
+    let field = super::sds_field(base, d);
+    field[0] != 0
+}
+
+// The name of an SDS, blank where the number is unused.
+fn sds_name(base: &[u8], d: usize) -> &[u8]
+    requires { ⌜ (length (now base) ≡ base-length) × (d < 16) ⌝ }
+    ensures { λ r. ⌜ now r ≡ sds-name (schema-of (now (base .entry))) d ⌝ }
+{
+    let field = super::sds_field(base, d);
+    let n = names::name_length(field);
+    &field[0..n]
+}
+
+pub fn has_sds_named(base: &[u8], name: &[u8]) -> bool
+    requires { ⌜ (length (now base) ≡ base-length) × (well-formed (now name) ≡ true) ⌝ }
+    ensures { λ r. ⌜ r ≡ sds-name-taken (schema-of (now (base .entry))) (now (name .entry)) ⌝ }
+{
+    let mut d = 0;
+    while d < Limits::SDSS {
+        if names::is_same(sds_name(base, d), name) {
+            return true;
+        }
+        d += 1;
+    }
+    false
+}
+
+// The lowest number that no SDS has, or as many as there are numbers.
+pub fn free_sds(base: &[u8]) -> usize
+    requires { ⌜ length (now base) ≡ base-length ⌝ }
+    ensures { λ r. ⌜ Free-sds (now (base .entry)) r ⌝ }
+{
+    let mut d = 0;
+    while d < Limits::SDSS {
+        if !is_sds(base, d) {
+            return d;
+        }
+        d += 1;
+    }
+    d
+}
+
+// ---- presences
+
+// Whether some type is in SDS d.
+pub fn holds_presence(base: &[u8], d: usize) -> bool
+    requires { ⌜ length (now base) ≡ base-length ⌝ }
+    ensures { λ r. ⌜ r ≡ holds-presence (schema-of (now (base .entry))) d ⌝ }
+{
+    let n = super::used::presence_count(base);
+    let mut i = 0;
+    while i < n {
+        if super::presence_sds(base, i) == d {
+            return true;
+        }
+        i += 1;
+    }
+    false
+}
+
+// Whether row i says that type t is in SDS d.
+fn is_presence(base: &[u8], i: usize, d: usize, t: usize) -> bool
+    requires { ⌜ (length (now base) ≡ base-length) × (i < 512) ⌝ }
+    ensures { λ r. ⌜ Decides (Row-of (now (base .entry)) i d t) r ⌝ }
+{
+    if super::presence_sds(base, i) != d {
+        return false;
+    }
+    super::presence_type(base, i) == t
+}
+
+// The row that says that type t is in SDS d, or as many as there are rows.
+pub fn presence_row(base: &[u8], d: usize, t: usize) -> usize
+    requires { ⌜ length (now base) ≡ base-length ⌝ }
+    ensures { λ r. ⌜ Presence-row (now (base .entry)) (presence-count (now (base .entry))) d t r ⌝ }
+{
+    let n = super::used::presence_count(base);
+    let mut i = 0;
+    while i < n {
+        if is_presence(base, i, d, t) {
+            return i;
+        }
+        i += 1;
+    }
+    i
+}
+
+// ---- ends, by halving
 
 // Whether one of the n ends is that of link type l, on that side, at object type o, in SDS d.
 pub fn has_end(base: &[u8], n: usize, d: usize, l: usize, side: usize, o: usize) -> bool

@@ -1,6 +1,6 @@
 -- Laws of the words on lists: what a test over a list says, the numbers that pass, and how many different ones there can be.
 -- Assumes nothing.
-use Prim.Native.Nat.{ℕ, zero, suc, _+_, _≤_, _<_}
+use Prim.Native.Nat.{ℕ, zero, suc, _+_, _-_, _≤_, _<_}
 use native.Mathlib.Omega.{arith}
 use mathlib.Core.Path.{_≡_, refl, sym, ap, _∙_}
 use mathlib.Core.Logic.{⊎-elim}
@@ -45,6 +45,13 @@ module _ {A : Type 0} where
   place-in d (x ∷ l) zero h = List·Memᴰ·head refl
   place-in d (x ∷ l) (suc i) h = List·Memᴰ·tail (place-in d l i (omega arith))
 
+  pub any-none : (p : A → Bool) (l : List A) → ((x : A) → x ∈ l → p x ≡ false) → any p l ≡ false
+  any-none p l none = go (any p l) refl
+    where
+      go : (t : Bool) → any p l ≡ t → any p l ≡ false
+      go true e = let (x, i, h) = any-where p l e in absurd (true≢false (sym h ∙ none x i))
+      go false e = e
+
 -- ---- bytes
 
 pub same-bytes-is : (a b : List ℕ) → same-bytes a b ≡ true → a ≡ b
@@ -72,6 +79,28 @@ module _ (p : ℕ → Bool) where
   numbers-passed : (a m : ℕ) → p a ≡ false → numbers a (suc m) p ≡ numbers (suc a) m p
   unfolding numbers
   numbers-passed a m e = rw e
+
+  -- the lowest that passes comes first
+  pub numbers-first : (a m n : ℕ) → a ≤ n → n < a + m → ((k : ℕ) → a ≤ k → k < n → p k ≡ false) → p n ≡ true
+      → numbers a m p ≡ n ∷ numbers (suc n) (a + m - suc n) p
+  numbers-first a zero n l u none e = absurd (omega arith)
+  numbers-first a (suc m) n l u none e = go (eqb n a) refl (λ h. numbers-first (suc a) m n h (omega arith) (λ k h w. none k (omega arith) w) e)
+    where
+      go : (b : Bool) → eqb n a ≡ b → (suc a ≤ n → numbers (suc a) m p ≡ n ∷ numbers (suc n) (suc a + m - suc n) p)
+          → numbers a (suc m) p ≡ n ∷ numbers (suc n) (a + suc m - suc n) p
+      go true g ih =
+          let same : n ≡ a = eqb-true n a g in
+          let rest : a + suc m - suc a ≡ m = omega arith in
+          rw (same, rest) (numbers-taken a m (ap p (sym same) ∙ e))
+      go false g ih =
+          let ne = eqb-false n a g in
+          let along : suc a + m - suc n ≡ a + suc m - suc n = omega arith in
+          numbers-passed a m (none a (omega arith) (omega arith)) ∙ ih (omega arith) ∙ ap (λ (j : ℕ). n ∷ numbers (suc n) j p) along
+
+  pub numbers-none : (a m : ℕ) → ((k : ℕ) → a ≤ k → k < a + m → p k ≡ false) → numbers a m p ≡ []
+  unfolding numbers
+  numbers-none a zero none = refl
+  numbers-none a (suc m) none = numbers-passed a m (none a (omega arith) (omega arith)) ∙ numbers-none (suc a) m (λ k h w. none k (omega arith) (omega arith))
 
   pub numbers-in : (a m n : ℕ) → n ∈ numbers a m p → (a ≤ n) × (n < a + m) × (p n ≡ true)
   unfolding numbers

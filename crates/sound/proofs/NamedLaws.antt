@@ -24,6 +24,7 @@ use Rattle.base.specs.Back.{schema-of, sds-shown, presence-shown}
 use Rattle.base.proofs.Rows.{part-byte}
 use Rattle.base.proofs.Scan.{part-cons, length-part}
 use Rattle.base.proofs.Shown.{sds-is, sds-none, kind-is, kind-none, shows-unused}
+use Rattle.base.proofs.SdsShown.{used-past}
 use Rattle.sound.specs.Parts.{Sdss}
 use Rattle.sound.specs.Named.{fine-field, Alone}
 
@@ -60,26 +61,12 @@ module _ (b : List ℕ) (long : length b ≡ 13312) where
   field-long : (d : ℕ) → d < 16 → length (part b (sds-at d) 16) ≡ 16
   field-long d h = length-part b (sds-at d) 16 (omega arith)
 
-  -- an SDS is used exactly where the first byte of its field is not 0
-  pub used-first : (d : ℕ) → d < 16 → (f : List ℕ) → f ≡ part b (sds-at d) 16 → not (eqb (getD f 0 0) 0) ≡ used-sds (schema-of b) d
-  unfolding used-sds strip
-  used-first d h f e = rw (sds-is b d h, ← e) (go f (ap length e ∙ field-long d h))
-    where
-      go : (f : List ℕ) → length f ≡ 16 → not (eqb (getD f 0 0) 0) ≡ not (eqb (length (strip f)) 0)
-      go [] l = absurd (omega arith)
-      go (zero ∷ f) l = refl
-      go (suc x ∷ f) l = ap not (eqb·suc-zero x ∙ sym (eqb·suc-zero (length (strip f))))
-
-  pub used-past : (d : ℕ) → 16 ≤ d → false ≡ used-sds (schema-of b) d
-  unfolding used-sds
-  used-past d h = rw (sds-none b d h)
-
   below : (d : ℕ) → used-sds (schema-of b) d ≡ true → d < 16
   below d u = go (ltb d 16) refl
     where
       go : (t : Bool) → ltb d 16 ≡ t → d < 16
       go true q = ltb-true d 16 q
-      go false q = absurd (false≢true (used-past d (ltb-false d 16 q) ∙ u))
+      go false q = absurd (false≢true (used-past b long d (ltb-false d 16 q) ∙ u))
 
   -- a fine field is written back as it stands
   fine-written : (d : ℕ) → d < 16 → fine-field b d ≡ true → sds-row (sds-shown b d) ≡ part b (sds-at d) 16

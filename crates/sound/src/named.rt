@@ -36,18 +36,6 @@ fn sds_fields_fine(base: &[u8]) -> bool
     true
 }
 
-// Whether d is the number of an SDS: its name has a first byte.
-fn is_sds(base: &[u8], d: usize) -> bool
-    requires { ⌜ length (now base) ≡ base-length ⌝ }
-    ensures { λ r. ⌜ r ≡ used-sds (schema-of (now (base .entry))) d ⌝ }
-{
-    if 16 <= d {
-        return false;
-    }
-    let field = base::sds_field(base, d);
-    field[0] != 0
-}
-
 // Whether no SDS past d has the name of SDS d.
 fn alone_after(base: &[u8], d: usize) -> bool
     requires { ⌜ (length (now base) ≡ base-length) × (d < 16) ⌝ }
@@ -67,7 +55,7 @@ fn alone_if_used(base: &[u8], d: usize) -> bool
     requires { ⌜ (length (now base) ≡ base-length) × (d < 16) ⌝ }
     ensures { λ r. ⌜ Decides (Alone (now (base .entry)) d) r ⌝ }
 {
-    if !is_sds(base, d) {
+    if !base::find::is_sds(base, d) {
         return true;
     }
     alone_after(base, d)
@@ -123,7 +111,7 @@ fn presence_fine(base: &[u8], i: usize) -> bool
     if !names::is_name_field(base::presence_field(base, i)) {
         return false;
     }
-    if !is_sds(base, base::presence_sds(base, i)) {
+    if !base::find::is_sds(base, base::presence_sds(base, i)) {
         return false;
     }
     is_type(base, base::presence_type(base, i))

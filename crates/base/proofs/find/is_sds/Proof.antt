@@ -1,13 +1,13 @@
--- `sound::named::is_sds` meets its contract: an SDS is used exactly where its field has a first byte. Assumes nothing.
+-- `base::find::is_sds` meets its contract: an SDS is used exactly where its field has a first byte. Assumes nothing.
 use borrow.Author.Needs.{needs}
 use native.Mathlib.Omega.{arith}
 use mathlib.Core.Path.{ap}
 use lib.ListN.{length}
 use Rattle.base.specs.Rows.{sds-at}
 use Rattle.base.proofs.Scan.{length-part}
-use Rattle.sound.proofs.NamedLaws.{used-first, used-past}
-use Rattle.sound.proofs.named.is_sds.Statement.{statement}
-use Rattle.sound.proofs.named.is_sds.Tie as tie
+use Rattle.base.proofs.SdsShown.{used-first, used-past}
+use Rattle.base.proofs.find.is_sds.Statement.{statement}
+use Rattle.base.proofs.find.is_sds.Tie as tie
 
 returns : tie.Need-returns
 returns c =

@@ -1,0 +1,91 @@
+-- A name over the field of an SDS is that name in the schema. Assumes nothing.
+use Prim.Native.Nat.{ℕ, zero, suc, _+_, _*_, _-_, _≤_, _<_}
+use native.Mathlib.Nat.{le-of-suc-le-suc, not-suc-le-zero}
+use native.Mathlib.Omega.{arith}
+use mathlib.Core.Path.{_≡_, refl, sym, ap, _∙_, subst}
+use mathlib.Core.List.{List, [], _∷_, _++_, append-assoc}
+use lib.ListN.{length, take, drop, set, replicate, length-append, length-take, length-drop}
+use lib.Seq.{take-at, drop-at, take-append-le, drop-append-le, take-append-add, drop-append-add, drop-drop, length-take-le}
+use borrow.Rule.Slice.PartMut.{putMid}
+use Rattle.rules.specs.03-Names.{Name}
+use Rattle.rules.specs.04-Schema.{Schema}
+use Rattle.rules.specs.06-Good.{Good}
+use Rattle.rules.specs.07-Picture.{Sound, pad, sds-row, table, sds-table, type-table, presence-table, application-table, end-table, picture}
+use Rattle.rules.specs.10-Changes.{with-sdss}
+use Rattle.rules.proofs.07-Picture.{length-pad, length-table, wide-sds}
+use Rattle.base.specs.Rows.{sds-at}
+use Rattle.base.specs.Table.{written}
+
+-- ---- a name over zeros
+
+zeros : (m j : ℕ) → m ≤ j → replicate {A = ℕ} m 0 ≡ take m (replicate j 0)
+zeros zero j h = refl
+zeros (suc m) zero h = absurd (not-suc-le-zero h)
+zeros (suc m) (suc j) h = ap (λ (l : List ℕ). 0 ∷ l) (zeros m j (le-of-suc-le-suc h))
+
+over-zeros : (n : List ℕ) (m j : ℕ) → length n ≤ m → m ≤ j → n ++ drop (length n) (replicate m 0) ≡ take m (n ++ replicate j 0)
+over-zeros [] m j h l = zeros m j l
+over-zeros (x ∷ xs) zero j h l = absurd (not-suc-le-zero h)
+over-zeros (x ∷ xs) (suc m) j h l = ap (λ (r : List ℕ). x ∷ r) (over-zeros xs m j (le-of-suc-le-suc h) (omega arith))
+
+-- the field cleared, and then the name
+pub name-written : (b z y n : List ℕ) (at : ℕ) → at + 16 ≤ length b → length n ≤ 16 → z ≡ replicate (length (take ((at + 16) - at) (drop at b))) 0
+    → y ≡ written (putMid at ((at + 16) - at) b z) at n → y ≡ written b at (sds-row n)
+unfolding written sds-row pad
+name-written b z y n at h l f q =
+    let w : (at + 16) - at ≡ 16 = omega arith in
+    let many : length (take 16 (drop at b)) ≡ 16 = length-take 16 (drop at b) ∙ omega (arith, length-drop at b) in
+    let rest = drop (at + 16) b in
+    let blank = replicate {A = ℕ} 16 0 in
+    let front : length (take at b) ≡ at = length-take-le at b (omega arith) in
+    let z-is : z ≡ blank = f ∙ rw (w, many) in
+    let m-is : putMid at ((at + 16) - at) b z ≡ take at b ++ (blank ++ rest) = rw (w, z-is, drop-drop 16 at b) in
+    let first : take at (take at b ++ (blank ++ rest)) ≡ take at b = take-at (take at b) (blank ++ rest) at front in
+    let behind : drop (at + length n) (take at b ++ (blank ++ rest)) ≡ drop (length n) blank ++ rest
+    = ap (λ (k : ℕ). drop (k + length n) (take at b ++ (blank ++ rest))) (sym front) ∙ drop-append-add (take at b) (blank ++ rest) (length n)
+    ∙ drop-append-le (length n) blank rest (omega arith) in
+    let wide : length (take 16 (n ++ replicate 16 0)) ≡ 16 = length-pad 16 n in
+    q ∙ ap (λ (m : List ℕ). written m at n) m-is ∙ rw (first, behind, wide)
+    (ap (λ (r : List ℕ). take at b ++ r) (sym (append-assoc n (drop (length n) blank) rest) ∙ ap (λ (r : List ℕ). r ++ rest) (over-zeros n 16 16 l (omega arith))))
+
+-- ---- a row written over another
+
+-- behind p
+written-past : (p q r : List ℕ) (at m : ℕ) → at ≡ length p + m → written (p ++ q) at r ≡ p ++ written q m r
+unfolding written
+written-past p q r at m e =
+    let far : at + length r ≡ length p + (m + length r) = omega arith in
+    rw (far, drop-append-add p q (m + length r), e, take-append-add p q m) (append-assoc p (take m q) (r ++ drop (m + length r) q))
+
+-- over p
+written-over : (p q r : List ℕ) → length p ≡ length r → written (p ++ q) 0 r ≡ r ++ q
+unfolding written
+written-over p q r e = ap (λ (x : List ℕ). r ++ x) (drop-at p q (0 + length r) (omega (arith, e)))
+
+-- before q
+written-before : (p q r : List ℕ) (m : ℕ) → m + length r ≤ length p → written (p ++ q) m r ≡ written p m r ++ q
+unfolding written
+written-before p q r m h =
+    rw (take-append-le m p q (omega arith), drop-append-le (m + length r) p q h)
+    (sym (append-assoc (take m p) (r ++ drop (m + length r) p) q ∙ ap (λ (x : List ℕ). take m p ++ x) (append-assoc r (drop (m + length r) p) q)))
+
+module _ {A : Type 0} (w : ℕ) (row : A → List ℕ) (wide : (a : A) → length (row a) ≡ w) where
+  pub table-set : (n : ℕ) (rs : List A) (k : ℕ) (a : A) → k < length rs → length rs ≤ n
+      → table w row n (set rs k a) ≡ written (table w row n rs) (k * w) (row a)
+  unfolding table
+  table-set n [] k a h l = absurd (not-suc-le-zero h)
+  table-set zero (x ∷ rs) k a h l = absurd (not-suc-le-zero l)
+  table-set (suc n) (x ∷ rs) zero a h l =
+      let start : 0 * w ≡ 0 = omega arith in
+      rw start (sym (written-over (row x) (table w row n rs) (row a) (wide x ∙ sym (wide a))))
+  table-set (suc n) (x ∷ rs) (suc k) a h l =
+      ap (λ (t : List ℕ). row x ++ t) (table-set n rs k a (le-of-suc-le-suc h) (le-of-suc-le-suc l))
+      ∙ sym (written-past (row x) (table w row n rs) (row a) (suc k * w) (k * w) (omega (arith, wide x)))
+
+pub sds-written : {s : Schema} → Good s → (d : ℕ) (n : Name) → d < 16 → written (picture s) (sds-at d) (sds-row n) ≡ picture (with-sdss s (set (s .sdss) d n))
+unfolding picture
+sds-written {s} g d n h =
+    let room = g .sds-room in
+    let rest = type-table s ++ (presence-table s ++ (application-table s ++ end-table s)) in
+    written-before (sds-table s) rest (sds-row n) (d * 16) (omega (arith, wide-sds n, length-table 16 sds-row wide-sds 16 (s .sdss)))
+    ∙ ap (λ (t : List ℕ). t ++ rest) (sym (table-set 16 sds-row wide-sds 16 (s .sdss) d n (omega arith) (omega arith)))

@@ -114,7 +114,8 @@ module _ {s : Schema} (good : Good s) where
       = whole 16 strip sds-row wide-sds 16 16 (s .sdss) (picture s) (type-table s ++ (presence-table s ++ (application-table s ++ end-table s))) refl (sym (good .sds-room))
       (omega (arith, good .sds-room)) (omega (arith, good .sds-room)) (sds-back good) in
       let types : rows 8 read-kind 128 (drop 256 (picture s)) ≡ s .types
-      = whole 8 read-kind type-row wide-type 128 128 (s .types) (drop 256 (picture s)) (presence-table s ++ (application-table s ++ end-table s)) (from-types s) (sym (good .type-room))
+      = whole 8 read-kind type-row wide-type 128 128 (s .types) (drop 256 (picture s)) (presence-table s ++ (application-table s ++ end-table s))
+      (from-types s) (sym (good .type-room))
       (omega (arith, good .type-room)) (omega (arith, good .type-room)) (λ k i. kind-back (fitting good k i)) in
       let presences : rows 18 read-presence (presence-count (picture s)) (drop 1280 (picture s)) ≡ s .presences
       = whole 18 read-presence presence-row wide-presence 512 (presence-count (picture s)) (s .presences) (drop 1280 (picture s))

@@ -8,3 +8,4 @@ pub mod FindLaws
 pub mod KindBytes
 pub mod SdsShown
 pub mod SdsWritten
+pub mod Kept

@@ -1,25 +1,24 @@
 -- What the field of an SDS and the rows of presences say of the schema that the bytes show. Assumes nothing.
-use Prim.Native.Nat.{ℕ, zero, suc, _+_, _*_, _-_, _≤_, _<_}
+use Prim.Native.Nat.{ℕ, zero, suc, _+_, _-_, _≤_, _<_}
 use native.Mathlib.Omega.{arith}
 use mathlib.Core.Path.{_≡_, refl, sym, ap, _∙_}
-use mathlib.Core.List.{List, [], _∷_, _++_}
-use mathlib.Core.Bool.{Bool, true, false, not, cond, _&&_, true≢false, false≢true}
+use mathlib.Core.List.{List, [], _∷_}
+use mathlib.Core.Bool.{Bool, true, false, not, _&&_, false≢true}
 use lib.Dec.{leb, ltb, eqb, eqb·suc-zero}
-use lib.ListN.{length, getD, take, drop}
-use borrow.Author.Tests.{ltb-true, ltb-false, lt-ltb, le-ltb, eqb-true, eqb-false, eq-eqb, ne-eqb}
-use Rattle.rules.specs.01-Lists.{_∈_, any, first, numbers}
+use lib.ListN.{length, getD}
+use borrow.Author.Tests.{ltb-true, ltb-false, le-ltb, eq-eqb, ne-eqb, lt-leb}
+use Rattle.rules.specs.01-Lists.{numbers}
 use Rattle.rules.specs.03-Names.{Name, well-formed, blank, same-name}
-use Rattle.rules.specs.04-Schema.{Presence, sds-name, used-sds, holds-type, present, local-name}
-use Rattle.rules.specs.07-Picture.{base-length}
-use Rattle.rules.specs.09-Refusals.{sds-name-taken, holds-presence, free-sdss, no-free-sds}
+use Rattle.rules.specs.04-Schema.{Presence, sds-name, used-sds}
+use Rattle.rules.specs.09-Refusals.{unknown-sds, sds-name-taken, holds-presence, free-sdss, no-free-sds}
 use Rattle.rules.specs.10-Changes.{new-sds-number}
-use Rattle.rules.proofs.Bools.{and-both, and-of}
+use Rattle.rules.proofs.Bools.{and-of, or-right}
 use Rattle.rules.proofs.01-Lists.{any-at, any-none, at-place, place-in, numbers-first, numbers-none}
 use Rattle.rules.proofs.03-Names.{same-name-is}
 use Rattle.rules.proofs.07-Picture.{strip}
-use Rattle.base.specs.Rows.{sds-at, presence-at, part, Reads, Counted}
-use Rattle.base.specs.Back.{schema-of, sds-shown, presence-shown, presence-count}
-use Rattle.base.specs.Found.{Free-sds, Presence-row}
+use Rattle.base.specs.Rows.{sds-at, presence-at, part}
+use Rattle.base.specs.Back.{schema-of, presence-count}
+use Rattle.base.specs.Found.{Free-sds}
 use Rattle.base.proofs.Scan.{length-part}
 use Rattle.base.proofs.Shown.{sdss-long, sds-is, sds-none, presence-there, presence-in}
 
@@ -40,6 +39,21 @@ module _ (b : List ℕ) (long : length b ≡ 13312) where
   unfolding used-sds
   used-past d h = rw (sds-none b d h)
 
+  pub used-below : (d : ℕ) → used-sds (schema-of b) d ≡ true → d < 16
+  used-below d u = go (ltb d 16) refl
+    where
+      go : (t : Bool) → ltb d 16 ≡ t → d < 16
+      go true q = ltb-true d 16 q
+      go false q = absurd (false≢true (used-past d (ltb-false d 16 q) ∙ u))
+
+  pub known : (d : ℕ) → used-sds (schema-of b) d ≡ true → unknown-sds (schema-of b) d ≡ false
+  unfolding unknown-sds
+  known d u = rw (lt-leb 16 d (used-below d u), u)
+
+  pub unknown : (d : ℕ) → used-sds (schema-of b) d ≡ false → unknown-sds (schema-of b) d ≡ true
+  unfolding unknown-sds
+  unknown d u = or-right (leb 16 d) (not (used-sds (schema-of b) d)) (ap not u)
+
 -- ---- the name of an SDS is taken
 
 formed-filled : (n : Name) → well-formed n ≡ true → n ≡ [] → ⊥
@@ -52,9 +66,9 @@ pub taken-at : (b : List ℕ) (d : ℕ) (n m : Name) → d < 16 → m ≡ sds-na
 unfolding sds-name-taken
 taken-at b d n m h e w q =
     sym (any-at (λ x. not (blank x) && same-name x n) (place-in [] ((schema-of b) .sdss) d (omega (arith, sdss-long b)))
-      (and-of (not (blank (sds-name (schema-of b) d))) (same-name (sds-name (schema-of b) d) n)
-        (filled (sds-name (schema-of b) d) (λ z. formed-filled n w (sym (same-name-is m n q) ∙ e ∙ z)))
-        (ap (λ (x : Name). same-name x n) (sym e) ∙ q)))
+    (and-of (not (blank (sds-name (schema-of b) d))) (same-name (sds-name (schema-of b) d) n)
+    (filled (sds-name (schema-of b) d) (λ z. formed-filled n w (sym (same-name-is m n q) ∙ e ∙ z)))
+    (ap (λ (x : Name). same-name x n) (sym e) ∙ q)))
   where
     filled : (x : Name) → (x ≡ [] → ⊥) → not (blank x) ≡ true
     filled [] z = absurd (z refl)
@@ -65,8 +79,8 @@ pub taken-nowhere : (b : List ℕ) (n : Name) → ((d : ℕ) → d < 16 → same
 unfolding sds-name-taken
 taken-nowhere b n none =
     sym (any-none (λ x. not (blank x) && same-name x n) ((schema-of b) .sdss) (λ x i.
-      let (d, h, e) = at-place [] i in
-      other x (ap (λ (y : Name). same-name y n) (sym e) ∙ none d (omega (arith, sdss-long b)))))
+    let (d, h, e) = at-place [] i in
+    other x (ap (λ (y : Name). same-name y n) (sym e) ∙ none d (omega (arith, sdss-long b)))))
   where
     other : (x : Name) → same-name x n ≡ false → (not (blank x) && same-name x n) ≡ false
     other x q = rw q (and-no (not (blank x)))
@@ -103,5 +117,5 @@ pub holds-nowhere : (b : List ℕ) (d : ℕ) → ((i : ℕ) → i < presence-cou
 unfolding holds-presence
 holds-nowhere b d none =
     sym (any-none (λ p. eqb (p .sds) d) ((schema-of b) .presences) (λ p i.
-      let (k, h, e) = presence-in b p i in
-      ne-eqb (p .sds) d (λ q. none k h (ap (λ (x : Presence). x .sds) (sym e) ∙ q))))
+    let (k, h, e) = presence-in b p i in
+    ne-eqb (p .sds) d (λ q. none k h (ap (λ (x : Presence). x .sds) (sym e) ∙ q))))

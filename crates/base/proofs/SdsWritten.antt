@@ -2,15 +2,15 @@
 use Prim.Native.Nat.{ℕ, zero, suc, _+_, _*_, _-_, _≤_, _<_}
 use native.Mathlib.Nat.{le-of-suc-le-suc, not-suc-le-zero}
 use native.Mathlib.Omega.{arith}
-use mathlib.Core.Path.{_≡_, refl, sym, ap, _∙_, subst}
+use mathlib.Core.Path.{_≡_, refl, sym, ap, _∙_}
 use mathlib.Core.List.{List, [], _∷_, _++_, append-assoc}
-use lib.ListN.{length, take, drop, set, replicate, length-append, length-take, length-drop}
+use lib.ListN.{length, take, drop, set, replicate, length-take, length-drop}
 use lib.Seq.{take-at, drop-at, take-append-le, drop-append-le, take-append-add, drop-append-add, drop-drop, length-take-le}
 use borrow.Rule.Slice.PartMut.{putMid}
 use Rattle.rules.specs.03-Names.{Name}
 use Rattle.rules.specs.04-Schema.{Schema}
 use Rattle.rules.specs.06-Good.{Good}
-use Rattle.rules.specs.07-Picture.{Sound, pad, sds-row, table, sds-table, type-table, presence-table, application-table, end-table, picture}
+use Rattle.rules.specs.07-Picture.{pad, sds-row, table, sds-table, type-table, presence-table, application-table, end-table, picture}
 use Rattle.rules.specs.10-Changes.{with-sdss}
 use Rattle.rules.proofs.07-Picture.{length-pad, length-table, wide-sds}
 use Rattle.base.specs.Rows.{sds-at}

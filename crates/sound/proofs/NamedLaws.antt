@@ -23,8 +23,8 @@ use Rattle.base.specs.Rows.{sds-at, type-at, presence-at, part}
 use Rattle.base.specs.Back.{schema-of, sds-shown, presence-shown}
 use Rattle.base.proofs.Rows.{part-byte}
 use Rattle.base.proofs.Scan.{part-cons, length-part}
-use Rattle.base.proofs.Shown.{sds-is, sds-none, kind-is, kind-none, shows-unused}
-use Rattle.base.proofs.SdsShown.{used-past}
+use Rattle.base.proofs.Shown.{sds-is, kind-is, kind-none, shows-unused}
+use Rattle.base.proofs.SdsShown.{used-below}
 use Rattle.sound.specs.Parts.{Sdss}
 use Rattle.sound.specs.Named.{fine-field, Alone}
 
@@ -60,13 +60,6 @@ used-name n u e = false≢true (rw e at u)
 module _ (b : List ℕ) (long : length b ≡ 13312) where
   field-long : (d : ℕ) → d < 16 → length (part b (sds-at d) 16) ≡ 16
   field-long d h = length-part b (sds-at d) 16 (omega arith)
-
-  below : (d : ℕ) → used-sds (schema-of b) d ≡ true → d < 16
-  below d u = go (ltb d 16) refl
-    where
-      go : (t : Bool) → ltb d 16 ≡ t → d < 16
-      go true q = ltb-true d 16 q
-      go false q = absurd (false≢true (used-past b long d (ltb-false d 16 q) ∙ u))
 
   -- a fine field is written back as it stands
   fine-written : (d : ℕ) → d < 16 → fine-field b d ≡ true → sds-row (sds-shown b d) ≡ part b (sds-at d) 16
@@ -120,10 +113,10 @@ module _ (b : List ℕ) (long : length b ≡ 13312) where
     unique a d e u v q = go (ltb d e) refl (ltb e d) refl
       where
         go : (x : Bool) → ltb d e ≡ x → (y : Bool) → ltb e d ≡ y → d ≡ e
-        go true l y m = absurd (a d (below d u) u e (below e v) (ltb-true d e l) (same-fields d e (below d u) (below e v) q))
+        go true l y m = absurd (a d (used-below b long d u) u e (used-below b long e v) (ltb-true d e l) (same-fields d e (used-below b long d u) (used-below b long e v) q))
         go false l true m =
-            absurd (a e (below e v) v d (below d u) (ltb-true e d m)
-            (same-fields e d (below e v) (below d u) (rw (same-name-is (sds-name (schema-of b) d) (sds-name (schema-of b) e) q) (same-name-refl (sds-name (schema-of b) e)))))
+            absurd (a e (used-below b long e v) v d (used-below b long d u) (ltb-true e d m)
+            (same-fields e d (used-below b long e v) (used-below b long d u) (rw (same-name-is (sds-name (schema-of b) d) (sds-name (schema-of b) e) q) (same-name-refl (sds-name (schema-of b) e)))))
         go false l false m = omega (arith, ltb-false d e l, ltb-false e d m)
 
   pub fields-of : Sdss b → (d : ℕ) → d < 16 → fine-field b d ≡ true
@@ -148,7 +141,7 @@ module _ (b : List ℕ) (long : length b ≡ 13312) where
   unfolding pad strip
   sdss-of fine a f e q = record {
     sds-fields = λ d h. fine-written d h (fine d h);
-    sds-named = λ d u. fine-named d (below d u) (fine d (below d u)) u;
+    sds-named = λ d u. fine-named d (used-below b long d u) (fine d (used-below b long d u)) u;
     sds-names-unique = unique fine a;
     system-named = sds-is b 0 (omega arith) ∙ ap strip (sym e ∙ same-bytes-is f (pad 16 system-name) q);
   }

@@ -24,8 +24,8 @@ is-sds-requires c κs = search needs
 
 returns : tie.Need-returns Inv-loop μ-loop
 returns c =
-  let at = c .before .before .before in
-  record { fits = at .loop .inv .0; used = at .loop .inv .1; free = λ h. sym (c .before .is-sds .ensures) ∙ not-true _ (c .if1 .taken) }
+    let at = c .before .before .before in
+    record { fits = at .loop .inv .0; used = at .loop .inv .1; free = λ h. sym (c .before .is-sds .ensures) ∙ not-true _ (c .if1 .taken) }
 
 add-d : tie.Need-add-d Inv-loop μ-loop
 add-d c = search needs
@@ -35,13 +35,13 @@ loop-less c = search needs
 
 loop-again : tie.Need-loop-again Inv-loop μ-loop
 loop-again c =
-  let at = c .before .before .before in
-  (omega arith, below-more _ _ (at .loop .inv .1) (sym (c .before .is-sds .ensures) ∙ not-false _ (c .if1 .left)))
+    let at = c .before .before .before in
+    (omega arith, below-more _ _ (at .loop .inv .1) (sym (c .before .is-sds .ensures) ∙ not-false _ (c .if1 .left)))
 
 returns-2 : tie.Need-returns-2 Inv-loop μ-loop
 returns-2 c =
-  let at = c .before in
-  record { fits = at .loop .inv .0; used = at .loop .inv .1; free = λ h. absurd (omega arith) }
+    let at = c .before in
+    record { fits = at .loop .inv .0; used = at .loop .inv .1; free = λ h. absurd (omega arith) }
 
 pub free-sds-spec : {M : Type 1} → statement M
 free-sds-spec =

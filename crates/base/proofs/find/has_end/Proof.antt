@@ -1,12 +1,12 @@
 -- `base::find::has_end` meets its contract: where the row is, it stands at its place. Assumes nothing.
 use native.Mathlib.Omega.{arith}
 use borrow.Author.Needs.{needs}
-use mathlib.Core.Path.{_≡_, sym, ap, _∙_}
+use mathlib.Core.Path.{sym, ap, _∙_}
 use borrow.Author.Tests.{eqb-true, eqb-false}
 use Prim.Native.Nat.{ℕ, _+_}
 use lib.ListN.{getD}
 use Rattle.base.specs.Rows.{end-at}
-use Rattle.base.proofs.Decides.{decides-yes, decides-no}
+use Rattle.base.proofs.Decides.{decides-no}
 use Rattle.base.proofs.FindLaws.{ends-rises, there}
 use Rattle.base.proofs.find.has_end.Statement.{statement}
 use Rattle.base.proofs.find.has_end.Tie as tie

@@ -5,7 +5,6 @@ use mathlib.Core.Path.{_≡_, sym, ap, _∙_}
 use mathlib.Core.List.{List}
 use mathlib.Core.Bool.{false}
 use borrow.Author.Count.{below-none, below-more}
-use borrow.Author.Tests.{not-true, not-false}
 use Rattle.rules.specs.03-Names.{same-name}
 use Rattle.rules.specs.04-Schema.{sds-name}
 use Rattle.base.specs.Back.{schema-of}
@@ -30,8 +29,9 @@ is-same-requires c κs = search needs
 
 returns : tie.Need-returns Inv-loop μ-loop
 returns c =
-  let x = c .before .before .before .before .before .before .before in
-  taken-at (x .args .base .now) (c .before .before .before .before .loop .d) (x .args .name .now) _ (c .before .before .before .loop-test .taken) (c .before .before .sds-name .ensures) (x .pre .1) (sym (c .before .is-same .ensures) ∙ c .if1 .taken)
+    let x = c .before .before .before .before .before .before .before in
+    taken-at (x .args .base .now) (c .before .before .before .before .loop .d) (x .args .name .now) _ (c .before .before .before .loop-test .taken)
+    (c .before .before .sds-name .ensures) (x .pre .1) (sym (c .before .is-same .ensures) ∙ c .if1 .taken)
 
 add-d : tie.Need-add-d Inv-loop μ-loop
 add-d c = search needs
@@ -41,14 +41,17 @@ loop-less c = search needs
 
 loop-again : tie.Need-loop-again Inv-loop μ-loop
 loop-again c =
-  let x = c .before .before .before .before .before .before .before in
-  let n = x .args .name .now in
-  (omega arith, below-more _ _ (c .before .before .before .before .loop .inv .1) (ap (λ (m : List ℕ). same-name m n) (sym (c .before .before .sds-name .ensures)) ∙ sym (c .before .is-same .ensures) ∙ c .if1 .left))
+    let x = c .before .before .before .before .before .before .before in
+    let n = x .args .name .now in (
+      omega arith,
+      below-more _ _ (c .before .before .before .before .loop .inv .1) (ap (λ (m : List ℕ). same-name m n) (sym
+          (c .before .before .sds-name .ensures)) ∙ sym (c .before .is-same .ensures) ∙ c .if1 .left),
+    )
 
 returns-2 : tie.Need-returns-2 Inv-loop μ-loop
 returns-2 c =
-  let x = c .before .before .before .before in
-  taken-nowhere (x .args .base .now) (x .args .name .now) (λ d h. c .before .loop .inv .1 d (omega arith))
+    let x = c .before .before .before .before in
+    taken-nowhere (x .args .base .now) (x .args .name .now) (λ d h. c .before .loop .inv .1 d (omega arith))
 
 pub has-sds-named-spec : {M : Type 1} → statement M
 has-sds-named-spec =

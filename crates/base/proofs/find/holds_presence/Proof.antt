@@ -26,8 +26,9 @@ presence-sds-requires c κs = (c .before .before .before .before .pre, omega (ar
 
 returns : tie.Need-returns Inv-loop μ-loop
 returns c =
-  let x = c .before .before .before .before .before .before in
-  holds-at (x .args .base .now) (c .before .before .before .loop .i) (x .args .d) (omega (arith, c .before .before .before .before .presence-count .ensures .is, c .before .before .loop-test .taken)) (sym (c .before .presence-sds .ensures .is) ∙ c .if1 .taken)
+    let x = c .before .before .before .before .before .before in
+    holds-at (x .args .base .now) (c .before .before .before .loop .i) (x .args .d) (omega
+    (arith, c .before .before .before .before .presence-count .ensures .is, c .before .before .loop-test .taken)) (sym (c .before .presence-sds .ensures .is) ∙ c .if1 .taken)
 
 add-i : tie.Need-add-i Inv-loop μ-loop
 add-i c = search needs
@@ -40,8 +41,8 @@ loop-again c = (omega arith, below-more _ _ (c .before .before .before .loop .in
 
 returns-2 : tie.Need-returns-2 Inv-loop μ-loop
 returns-2 c =
-  let x = c .before .before .before .before in
-  holds-nowhere (x .args .base .now) (x .args .d) (λ i h. c .before .loop .inv .1 i (omega (arith, c .before .before .presence-count .ensures .is)))
+    let x = c .before .before .before .before in
+    holds-nowhere (x .args .base .now) (x .args .d) (λ i h. c .before .loop .inv .1 i (omega (arith, c .before .before .presence-count .ensures .is)))
 
 pub holds-presence-spec : {M : Type 1} → statement M
 holds-presence-spec =

@@ -1,5 +1,5 @@
 use borrow.Author.Needs.{needs}
-use mathlib.Core.Path.{_≡_, sym, _∙_}
+use mathlib.Core.Path.{sym, _∙_}
 use borrow.Author.Tests.{eqb-true, eqb-false}
 use Rattle.base.proofs.Decides.{decides-no}
 use Rattle.base.proofs.find.is_presence.Statement.{statement}
@@ -16,11 +16,11 @@ presence-type-requires c κs = search needs
 
 returns-2 : tie.Need-returns-2
 returns-2 c =
-  let x = c .before .before .before .before in
-  record {
-    holds = λ e. (sym (c .before .before .presence-sds .ensures .is) ∙ c .before .if1 .left, sym (c .presence-type .ensures .is) ∙ eqb-true _ (x .args .t) e);
-    fails = λ e w. eqb-false _ (x .args .t) e (c .presence-type .ensures .is ∙ w .1);
-  }
+    let x = c .before .before .before .before in
+    record {
+      holds = λ e. (sym (c .before .before .presence-sds .ensures .is) ∙ c .before .if1 .left, sym (c .presence-type .ensures .is) ∙ eqb-true _ (x .args .t) e);
+      fails = λ e w. eqb-false _ (x .args .t) e (c .presence-type .ensures .is ∙ w .1);
+    }
 
 pub is-presence-spec : {M : Type 1} → statement M
 is-presence-spec =

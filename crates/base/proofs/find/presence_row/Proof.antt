@@ -1,7 +1,6 @@
 use borrow.Author.Needs.{needs}
 use Prim.Native.Nat.{ℕ, _≤_, _<_, _-_}
 use native.Mathlib.Omega.{arith}
-use mathlib.Core.Path.{_≡_}
 use borrow.Author.Count.{below-none, below-more}
 use Rattle.base.specs.Found.{Row-of}
 use Rattle.base.proofs.find.presence_row.Statement.{statement}
@@ -24,11 +23,11 @@ is-presence-requires c κs = (c .before .before .before .before .pre, omega (ari
 
 returns : tie.Need-returns Inv-loop μ-loop
 returns c =
-  record {
-    fits = omega (arith, c .before .before .before .loop .inv .0, c .before .before .before .before .presence-count .ensures .is);
-    others = c .before .before .before .loop .inv .1;
-    found = λ h. c .before .is-presence .ensures .holds (c .if1 .taken);
-  }
+    record {
+      fits = omega (arith, c .before .before .before .loop .inv .0, c .before .before .before .before .presence-count .ensures .is);
+      others = c .before .before .before .loop .inv .1;
+      found = λ h. c .before .is-presence .ensures .holds (c .if1 .taken);
+    }
 
 add-i : tie.Need-add-i Inv-loop μ-loop
 add-i c = search needs
@@ -41,11 +40,11 @@ loop-again c = (omega arith, below-more _ _ (c .before .before .before .loop .in
 
 returns-2 : tie.Need-returns-2 Inv-loop μ-loop
 returns-2 c =
-  record {
-    fits = omega (arith, c .before .loop .inv .0, c .before .before .presence-count .ensures .is);
-    others = c .before .loop .inv .1;
-    found = λ h. absurd (omega (arith, c .loop-test .left, c .before .before .presence-count .ensures .is));
-  }
+    record {
+      fits = omega (arith, c .before .loop .inv .0, c .before .before .presence-count .ensures .is);
+      others = c .before .loop .inv .1;
+      found = λ h. absurd (omega (arith, c .loop-test .left, c .before .before .presence-count .ensures .is));
+    }
 
 pub presence-row-spec : {M : Type 1} → statement M
 presence-row-spec =

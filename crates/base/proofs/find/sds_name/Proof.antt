@@ -25,10 +25,11 @@ part-result-end c = search needs
 
 returns : tie.Need-returns
 returns c =
-  let x = c .before .before .before .before in
-  let f = c .before .before .sds-field .result .now in
-  let whole : c .before .name-length .result - 0 ≡ c .before .name-length .result = omega arith in
-  ap (λ (k : ℕ). take k f) whole ∙ c .before .name-length .ensures .name ∙ ap strip (c .before .before .sds-field .ensures) ∙ sym (sds-is (x .args .base .now) (x .args .d) (x .pre .1))
+    let x = c .before .before .before .before in
+    let f = c .before .before .sds-field .result .now in
+    let whole : c .before .name-length .result - 0 ≡ c .before .name-length .result = omega arith in
+    ap (λ (k : ℕ). take k f) whole ∙ c .before .name-length .ensures .name ∙ ap strip (c .before .before .sds-field .ensures) ∙ sym (sds-is
+    (x .args .base .now) (x .args .d) (x .pre .1))
 
 pub sds-name-spec : {M : Type 1} → statement M
 sds-name-spec =

@@ -3,13 +3,14 @@ use super::Base;
 use rules::Limits;
 ghost use mathlib.Core.Path.{_≡_};
 ghost use mathlib.Core.Bool.{true};
-ghost use Prim.Native.Nat.{_≤_, _<_};
+ghost use Prim.Native.Nat.{_+_, _≤_, _<_};
 ghost use lib.ListN.{length};
 ghost use Rattle.rules.specs.03-Names.{well-formed};
 ghost use Rattle.rules.specs.04-Schema.{sds-name, used-sds};
 ghost use Rattle.rules.specs.07-Picture.{base-length};
 ghost use Rattle.rules.specs.09-Refusals.{sds-name-taken, holds-presence};
-ghost use Rattle.base.specs.Rows.{Rising, End-row};
+ghost use Rattle.rules.proofs.07-Picture.{strip};
+ghost use Rattle.base.specs.Rows.{presence-at, part, Rising, End-row};
 ghost use Rattle.base.specs.Back.{schema-of, presence-count};
 ghost use Rattle.base.specs.Found.{Free-sds, Row-of, Presence-row};
 ghost use Rattle.base.specs.Decides.{Decides};
@@ -110,6 +111,14 @@ pub fn presence_row(base: &[u8], d: usize, t: usize) -> usize
         i += 1;
     }
     i
+}
+
+// How many bytes the local name in row i has.
+pub fn name_length(base: &[u8], i: usize) -> usize
+    requires { ⌜ (length (now base) ≡ base-length) × (i < 512) ⌝ }
+    ensures { λ r. ⌜ r ≡ length (strip (part (now (base .entry)) (presence-at i + 1) 16)) ⌝ }
+{
+    names::name_length(super::presence_field(base, i))
 }
 
 // ---- ends, by halving

@@ -129,9 +129,17 @@ pub fn presence_field(base: &[u8], i: usize) -> &[u8]
     requires { ⌜ (length (now base) ≡ base-length) × (i < 512) ⌝ }
     ensures { λ r. ⌜ now r ≡ part (now (base .entry)) (presence-at i + 1) 16 ⌝ }
 {
-    let at = Base::PRESENCES_AT + i * Base::PRESENCE_WIDTH + 1;
+    let at = name_at(i);
     let end = at + Limits::NAME;
     &base[at..end]
+}
+
+// Where that name starts.
+pub fn name_at(i: usize) -> usize
+    requires { ⌜ i < 512 ⌝ }
+    ensures { λ r. ⌜ r ≡ presence-at i + 1 ⌝ }
+{
+    Base::PRESENCES_AT + i * Base::PRESENCE_WIDTH + 1
 }
 
 pub fn presence_type(base: &[u8], i: usize) -> usize

@@ -1,12 +1,12 @@
 -- The stretch of a local name. The words of the set of descendants: bit n mod 64 of word n div 64 is the mark of type n. And the list of descendants is whole.
 -- Assumes nothing.
-use Prim.Native.Nat.{ℕ, zero, suc, _+_, _*_, _/_, _%_, _^_, _<_}
+use Prim.Native.Nat.{ℕ, zero, suc, _+_, _*_, _/_, _%_, _^_, _≤_, _<_}
 use native.Mathlib.Nat.{div-one, add-zero, pow-suc}
 use native.Mathlib.Numerals.{one-add}
 use native.Mathlib.Omega.{arith}
 use mathlib.Core.Path.{_≡_, refl, sym, ap, _∙_, subst}
 use mathlib.Core.List.{List, [], _∷_}
-use mathlib.Core.Bool.{Bool, true, false, cond, _&&_, false≢true}
+use mathlib.Core.Bool.{Bool, true, false, not, cond, _&&_, true≢false, false≢true}
 use lib.Arith.{digits-mod, digits-div}
 use lib.ListN.{length, getD, take, drop}
 use lib.Pow.{shr-shr}
@@ -15,17 +15,28 @@ use Rattle.rules.specs.03-Names.{Name}
 use Rattle.rules.specs.04-Schema.{Schema, Presence, system-presence, holds-type, present, local-name}
 use Rattle.rules.specs.05-Descent.{descends, members}
 use Rattle.rules.specs.06-Good.{Good}
-use Rattle.rules.specs.07-Picture.{picture, name-start}
+use Rattle.rules.specs.07-Picture.{sds-row, type-row, picture, name-start}
 use Rattle.rules.specs.08-Working.{visible, shown}
-use Rattle.rules.specs.11-Asks.{place, one-if, marks, visible-descendant, object-scan-list}
+use Rattle.rules.specs.09-Refusals.{Outcome, answer-of, not-present}
+use Rattle.rules.specs.11-Asks.{place, name, name-refusals, one-if, marks, visible-descendant, object-scan-list}
 use Rattle.rules.specs.13-History.{Whole-list}
 use Rattle.rules.proofs.05-Descent.{members-rising, descends-sound, descends-full}
-use Rattle.rules.proofs.07-Picture.{name-stretch}
+use Rattle.rules.proofs.01-Lists.{place-in}
+use Rattle.rules.proofs.03-Names.{formed-long}
+use Rattle.rules.proofs.07-Picture.{length-table, wide-sds, wide-type, name-stretch}
 use Rattle.rules.proofs.08-Working.{shown-in, shown-of}
+use Rattle.rules.proofs.09-Refusals.{verdict-keeps}
 
 -- ---- the stretch that a name call tells of holds the local name
 
-first-at : {A : Type 0} (p : A → Bool) (d e : A) (l : List A) → any p l ≡ true → (place p l < length l) × (first p d l ≡ getD l (place p l) e)
+pub place-is : {A : Type 0} (p : A → Bool) (e : A) (l : List A) (r : ℕ) → r < length l → ((i : ℕ) → i < r → p (getD l i e) ≡ false) → p (getD l r e) ≡ true
+    → place p l ≡ r
+unfolding place
+place-is p e [] r h others here = absurd (omega arith)
+place-is p e (x ∷ l) zero h others here = rw here
+place-is p e (x ∷ l) (suc r) h others here = rw (others 0 (omega arith)) (ap suc (place-is p e l r (omega arith) (λ i k. others (suc i) (omega arith)) here))
+
+pub first-at : {A : Type 0} (p : A → Bool) (d e : A) (l : List A) → any p l ≡ true → (place p l < length l) × (first p d l ≡ getD l (place p l) e)
 unfolding any first place
 first-at p d e [] h = absurd (false≢true h)
 first-at p d e (x ∷ l) h = go (p x) refl (first-at p d e l)
@@ -42,6 +53,32 @@ name-shown {s} good d t e =
     let (u, f) = first-at (holds-type d t) (record { sds = 0; name = []; type = 0 }) system-presence (s .presences) e in
     let k = place (holds-type d t) (s .presences) in
     subst (λ (n : Name). take (length n) (drop (name-start s k) (picture s)) ≡ n) (sym (ap (λ (p : Presence). p .name) f)) (name-stretch good k u)
+
+-- the local name, and where it starts, by the place of its presence
+pub local-at : (s : Schema) (d t : ℕ) → present s d t ≡ true
+    → (place (holds-type d t) (s .presences) < length (s .presences))
+    × (local-name s d t ≡ (getD (s .presences) (place (holds-type d t) (s .presences)) system-presence) .name)
+unfolding present local-name
+local-at s d t e =
+    let (u, f) = first-at (holds-type d t) (record { sds = 0; name = []; type = 0 }) system-presence (s .presences) e in
+    (u, ap (λ (p : Presence). p .name) f)
+
+pub name-start-is : (s : Schema) (k : ℕ) → name-start s k ≡ 1280 + k * 18 + 1
+unfolding name-start
+name-start-is s k = omega (arith, length-table 16 sds-row wide-sds 16 (s .sdss), length-table 8 type-row wide-type 128 (s .types))
+
+-- the stretch lies within the base
+pub name-within : {s : Schema} → Good s → (d t : ℕ) → (answer-of (name d t s)) .one + (answer-of (name d t s)) .two ≤ 13312
+unfolding name not-present
+name-within {s} good d t =
+    verdict-keeps (λ (o : Outcome (List ℕ)). (answer-of o) .one + (answer-of o) .two ≤ 13312) (name-refusals d t s) _ (λ n. omega arith)
+    (λ w. let (u, f) = local-at s d t (shown (present s d t) (w .1 .0)) in
+    let long = formed-long _ (good .presence-named _ (place-in system-presence (s .presences) (place (holds-type d t) (s .presences)) u)) .1 in
+    omega (arith, good .presence-room, name-start-is s (place (holds-type d t) (s .presences)), ap length f))
+  where
+    shown : (b : Bool) → not b ≡ false → b ≡ true
+    shown true e = refl
+    shown false e = absurd (true≢false e)
 
 -- ---- words
 

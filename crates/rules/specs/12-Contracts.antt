@@ -3,7 +3,7 @@
 use Prim.Native.Nat.{ℕ, _/_, _%_}
 use mathlib.Core.Path.{_≡_}
 use mathlib.Core.List.{List, [], _∷_, _++_}
-use lib.ListN.{length, drop}
+use lib.ListN.{length, take, drop}
 use Rattle.rules.specs.declared.Answer.{Answer}
 use Rattle.rules.specs.04-Schema.{Schema, fresh}
 use Rattle.rules.specs.06-Good.{Good}
@@ -44,6 +44,15 @@ pub record Listed (base : List ℕ) (rule : Schema → Outcome (List ℕ)) (answ
 pub record Answered (base : List ℕ) (rule : Schema → Outcome (List ℕ)) (answer : Answer) : Type 0 where
   pub spoiled : (Sound base → ⊥) → answer ≡ refusal 1
   pub kept : (s : Schema) → Good s → base ≡ picture s → answer ≡ answer-of (rule s)
+
+-- "the stretch of the lent base" that an answer tells of: where it starts, and how long it is
+abbrev pub stretch : List ℕ → Answer → List ℕ
+stretch base answer = take (answer .two) (drop (answer .one) base)
+
+-- "The name call returns a part of the caller's base, empty on refusal"
+pub record Handed (base : List ℕ) (rule : Schema → Outcome (List ℕ)) (part : List ℕ) : Type 0 where
+  pub spoiled : (Sound base → ⊥) → part ≡ []
+  pub kept : (s : Schema) → Good s → base ≡ picture s → part ≡ stretch base (answer-of (rule s))
 
 -- "Fresh: writes a fresh base over any bytes of the right length."
 pub record Freshened (before : List ℕ) (answer : Answer) (after : List ℕ) : Type 0 where

@@ -1,18 +1,14 @@
--- `base::presence_field` meets its contract: a slice from a start to 16 further on is a part of 16 bytes. Assumes nothing.
 use borrow.Author.Needs.{needs}
-use Prim.Native.Nat.{_+_, _*_}
+use Prim.Native.Nat.{ℕ, _+_, _*_}
+use native.Mathlib.Omega.{arith}
+use mathlib.Core.Path.{_≡_, ap, _∙_}
+use Rattle.base.specs.Rows.{part}
 use Rattle.base.proofs.Rows.{slice-part}
 use Rattle.base.proofs.presence_field.Statement.{statement}
 use Rattle.base.proofs.presence_field.Tie as tie
 
-mul-at : tie.Need-mul-at
-mul-at c = search needs
-
-add-at : tie.Need-add-at
-add-at c = search needs
-
-add-at-2 : tie.Need-add-at-2
-add-at-2 c = search needs
+name-at-requires : tie.Need-name-at-requires
+name-at-requires c κs = search needs
 
 add-end : tie.Need-add-end
 add-end c = search needs
@@ -27,9 +23,11 @@ part-result-end : tie.Need-part-result-end
 part-result-end c = search needs
 
 returns : tie.Need-returns
-returns c = slice-part (c .before .args .base .now) (1280 + c .before .args .i * 18 + 1) 16
+returns c =
+    let b = c .before .before .before .args .base .now in
+    slice-part b (c .before .name-at .result) 16 ∙ ap (λ (at : ℕ). part b at 16) (c .before .name-at .ensures)
 
 pub presence-field-spec : {M : Type 1} → statement M
 presence-field-spec =
     tie.close
-    (tie.spec mul-at add-at add-at-2 add-end sub-result part-result-start part-result-end returns)
+    (tie.spec name-at-requires add-end sub-result part-result-start part-result-end returns)

@@ -1,0 +1,157 @@
+//! Makes random calls by the keeper written from the documents alone and by the library, and compares call by call,
+//! byte by byte: answer, base, output, and the guards around what is lent.
+//!
+//! `compare [--calls N] [--spoiled N] [--seed S] -- PROGRAM..`
+//! `compare bench -- PROGRAM..`
+//!
+//! PROGRAM and its words start the process that serves the library (`tests/c/serve.c`).
+
+mod base;
+mod bench;
+mod calls;
+mod keeper;
+mod library;
+mod random;
+mod run;
+mod schema;
+mod spoil;
+#[cfg(test)]
+mod tests;
+
+use calls::CALLS;
+use library::Library;
+use run::{Counts, Run};
+use spoil::WAYS;
+use std::io::{stderr, IsTerminal};
+use std::process::ExitCode;
+use std::sync::atomic::{AtomicUsize, Ordering};
+use std::thread;
+
+/// Each history starts with a fresh base; long enough to fill any table and to work near its limit.
+const HISTORY: usize = 2500;
+
+/// Each number of each call should come up at least so often.
+const OFTEN: usize = 20;
+
+/// So many differences are printed; all are counted.
+const SHOWN: usize = 10;
+
+struct Options {
+    calls: usize,
+    spoiled: usize,
+    seed: u64,
+}
+
+fn options(arguments: &[String]) -> Option<Options> {
+    let mut options = Options { calls: 200_000, spoiled: 50_000, seed: 1 };
+    for pair in arguments.chunks(2) {
+        let [option, value] = pair else { return None };
+        match option.as_str() {
+            "--calls" => options.calls = value.parse().ok()?,
+            "--spoiled" => options.spoiled = value.parse().ok()?,
+            "--seed" => options.seed = value.parse().ok()?,
+            _ => return None,
+        }
+    }
+    Some(options)
+}
+
+/// Makes the histories, one on each processor at a time; each has a share of the spoiled bases.
+fn run(options: &Options, program: &[String]) -> Result<(Counts, Vec<String>), String> {
+    let histories = options.calls.div_ceil(HISTORY);
+    let begun = AtomicUsize::new(0);
+    let shows_progress = stderr().is_terminal();
+    let work = || {
+        let mut run = Run::new(Some(Library::start(program)?));
+        loop {
+            let number = begun.fetch_add(1, Ordering::Relaxed);
+            if number >= histories {
+                return run.finish();
+            }
+            if shows_progress {
+                eprint!("\rhistory {number} of {histories} ");
+            }
+            let calls = HISTORY.min(options.calls - number * HISTORY);
+            let spoiled = options.spoiled * (number + 1) / histories - options.spoiled * number / histories;
+            if let Err(fault) = run.history(options.seed, number, calls, spoiled) {
+                // Where the process that serves the library ended, it is the one to say why.
+                return Err(run.finish().err().unwrap_or(fault));
+            }
+        }
+    };
+    let workers = thread::available_parallelism().map_or(1, usize::from).min(histories);
+    let ended: Vec<_> = thread::scope(|scope| {
+        let working: Vec<_> = (0..workers).map(|_| scope.spawn(work)).collect();
+        working.into_iter().map(|worker| worker.join().expect("a worker doesn't panic")).collect()
+    });
+    if shows_progress {
+        eprint!("\r\x1b[K");
+    }
+    let (mut counts, mut differences) = (Counts::new(), Vec::new());
+    for worker in ended {
+        let (counted, found) = worker?;
+        counts.add(&counted);
+        differences.extend(found);
+    }
+    Ok((counts, differences))
+}
+
+/// Prints how often each number was answered, and how many pairs of a call and a number came up too seldom.
+fn print_answers(counts: &Counts) {
+    let mut seldom = 0;
+    print!("{:<20}", "call");
+    (0..16).for_each(|no| print!("{no:>7}"));
+    println!();
+    for (call, counts) in CALLS.iter().zip(&counts.answered).filter(|(_, counts)| **counts != [0; 16]) {
+        print!("{:<20}", call.name);
+        for (no, count) in counts.iter().enumerate() {
+            if no == 0 || call.refusals.contains(&no) {
+                seldom += usize::from(*count < OFTEN);
+                print!("{count:>7}");
+            } else {
+                print!("{:>7}", ".");
+            }
+        }
+        println!();
+    }
+    println!("pairs of a call and a number that came up less than {OFTEN} times: {seldom}");
+}
+
+fn print_spoiled(counts: &Counts) {
+    println!("\n{:<28}{:>8}{:>10}", "spoiled", "sound", "not sound");
+    for ((name, _), [sound, unsound]) in WAYS.iter().zip(&counts.spoiled) {
+        println!("{name:<28}{sound:>8}{unsound:>10}");
+    }
+    println!();
+}
+
+fn main() -> ExitCode {
+    let arguments: Vec<String> = std::env::args().skip(1).collect();
+    let at = arguments.iter().position(|word| word == "--").unwrap_or(arguments.len());
+    let program = arguments.get(at + 1..).unwrap_or_default();
+    if arguments[..at] == ["bench"] {
+        return bench::bench(program);
+    }
+    let Some(options) = options(&arguments[..at]).filter(|_| !program.is_empty()) else {
+        eprintln!("compare [--calls N] [--spoiled N] [--seed S] -- PROGRAM..\ncompare bench -- PROGRAM..");
+        return ExitCode::from(2);
+    };
+    let (counts, differences) = match run(&options, program) {
+        Ok(ended) => ended,
+        Err(fault) => {
+            println!("compare: {fault}");
+            return ExitCode::FAILURE;
+        }
+    };
+    print_answers(&counts);
+    print_spoiled(&counts);
+    differences.iter().take(SHOWN).for_each(|difference| println!("{difference}"));
+    let spoiled: usize = counts.spoiled.as_flattened().iter().sum();
+    let calls = counts.answered.as_flattened().iter().sum::<usize>() - spoiled;
+    println!("compare: {calls} calls, {spoiled} spoiled bases, {} differences", differences.len());
+    if differences.is_empty() {
+        ExitCode::SUCCESS
+    } else {
+        ExitCode::FAILURE
+    }
+}

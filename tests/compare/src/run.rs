@@ -1,0 +1,202 @@
+//! Histories of random calls, each made by the independent keeper and by the library and compared.
+#![forbid(unsafe_code)]
+
+use crate::base::{from_bytes, is_sound, to_bytes, LENGTH};
+use crate::calls::{apply, apply_to, Call, CALLS};
+use crate::library::{Lent, Library};
+use crate::random::{Caller, Mode, Random};
+use crate::schema::Schema;
+use crate::spoil::{spoiled, WAYS};
+
+/// As long as a library lacks calls, the keeper alone makes so many before each call that is compared, so that bases
+/// get rich all the same.
+const LED: usize = 3;
+
+/// How often what happened.
+pub struct Counts {
+    /// For each call how often each number was answered.
+    pub answered: [[usize; 16]; CALLS.len()],
+    /// For each way of spoiling how many bases were sound all the same, and how many were not.
+    pub spoiled: [[usize; 2]; WAYS.len()],
+}
+
+impl Counts {
+    pub fn new() -> Counts {
+        Counts { answered: [[0; 16]; CALLS.len()], spoiled: [[0; 2]; WAYS.len()] }
+    }
+
+    pub fn add(&mut self, other: &Counts) {
+        let (sums, numbers) = (self.answered.as_flattened_mut(), other.answered.as_flattened());
+        sums.iter_mut().zip(numbers).for_each(|(sum, number)| *sum += number);
+        let (sums, numbers) = (self.spoiled.as_flattened_mut(), other.spoiled.as_flattened());
+        sums.iter_mut().zip(numbers).for_each(|(sum, number)| *sum += number);
+    }
+}
+
+pub struct Run {
+    caller: Caller,
+    /// The present base, which is sound, and its schema.
+    base: Vec<u8>,
+    pub schema: Schema,
+    /// Without one the keeper's own answers are checked, and that is all.
+    library: Option<Library>,
+    /// The calls that are compared, as places in `CALLS`.
+    calls: Vec<usize>,
+    /// Where the run is, in words.
+    place: String,
+    pub counts: Counts,
+}
+
+impl Run {
+    pub fn new(library: Option<Library>) -> Run {
+        let schema = Schema::fresh();
+        let calls = library.as_ref().map_or((0..CALLS.len()).collect(), Library::calls);
+        let (caller, base) = (Caller::new(0), to_bytes(&schema));
+        Run { caller, base, schema, library, calls, place: String::new(), counts: Counts::new() }
+    }
+
+    /// A history of so many calls and so many on spoiled bases, spread over it. It depends on nothing but the numbers.
+    pub fn history(&mut self, seed: u64, number: usize, calls: usize, spoiled: usize) -> Result<(), String> {
+        self.begin(seed, number)?;
+        let mut done = 0;
+        for call in 1..=calls {
+            self.place = format!("seed {seed}, history {number}, call {call}");
+            self.step()?;
+            while done * calls < spoiled * call {
+                self.spoiled_step()?;
+                done += 1;
+            }
+        }
+        self.check_base()
+    }
+
+    /// A fresh base over any bytes, to be led where the history's mode says.
+    pub fn begin(&mut self, seed: u64, number: usize) -> Result<(), String> {
+        self.place = format!("seed {seed}, history {number}, its beginning");
+        let start = Random::new(seed).word().wrapping_add(number as u64);
+        self.caller = Caller::new(Random::new(start).word());
+        self.caller.mode = Mode::ALL[number % Mode::ALL.len()];
+        let bytes = self.caller.random.bytes(LENGTH);
+        let (_, after) = self.on_any_bytes(bytes, &Call::Fresh)?;
+        (self.base, self.schema) = (after.base, Schema::fresh());
+        self.check_base()
+    }
+
+    /// The next call that is compared, on the present base.
+    pub fn step(&mut self) -> Result<(), String> {
+        let call = self.next_call();
+        let before = self.lent(self.base.clone(), &call);
+        let mut after = before.clone();
+        let answer = apply_to(&mut self.schema, &mut after.base, &mut after.output, &call);
+        self.compare(&call, &before, answer, &after)?;
+        self.base = after.base;
+        // Reading a base costs more than all the rest.
+        if self.caller.random.one_in(50) {
+            self.check_base()?;
+        }
+        Ok(())
+    }
+
+    /// A call on the present base spoiled, which tells whether that is sound; the present base stays.
+    pub fn spoiled_step(&mut self) -> Result<(), String> {
+        let (way, base) = loop {
+            let way = self.caller.random.below(WAYS.len());
+            let base = spoiled(&WAYS[way].1, &mut self.caller.random, &self.base);
+            if base != self.base {
+                break (way, base);
+            }
+        };
+        let place = self.place.clone();
+        self.place += &format!(", {}", WAYS[way].0);
+        if self.caller.random.one_in(10) {
+            self.on_any_bytes(base.clone(), &Call::Fresh)?;
+        }
+        let telling: Vec<usize> = self.calls.iter().copied().filter(|&call| call != Call::Fresh.index()).collect();
+        let call = self.caller.any_of(&self.schema, &telling);
+        let (answer, after) = self.on_any_bytes(base, &call)?;
+        self.counts.spoiled[way][usize::from(answer[0] == 1)] += 1;
+        if answer[0] == 0 && !is_sound(&after.base) {
+            return Err(format!("{}: keeper leaves a base that is not sound: {call:?}", self.place));
+        }
+        self.place = place;
+        Ok(())
+    }
+
+    /// Calls that are not compared lead on to it.
+    fn next_call(&mut self) -> Call {
+        let mut base_is_old = false;
+        let mut call = self.caller.call(&self.schema);
+        for _ in 0..LED {
+            if self.calls.contains(&call.index()) {
+                break;
+            }
+            if !call.asks() {
+                base_is_old |= call.on(&mut self.schema, 0).no == 0;
+            }
+            call = self.caller.call(&self.schema);
+        }
+        if base_is_old {
+            self.base = to_bytes(&self.schema);
+        }
+        match self.calls.contains(&call.index()) {
+            true => call,
+            false => self.caller.any_of(&self.schema, &self.calls),
+        }
+    }
+
+    fn on_any_bytes(&mut self, base: Vec<u8>, call: &Call) -> Result<([usize; 4], Lent), String> {
+        let before = self.lent(base, call);
+        let mut after = before.clone();
+        let answer = apply(&mut after.base, &mut after.output, call);
+        self.compare(call, &before, answer, &after)?;
+        Ok((answer, after))
+    }
+
+    fn lent(&mut self, base: Vec<u8>, call: &Call) -> Lent {
+        let length = self.caller.output(&self.schema, call);
+        Lent { base, output: self.caller.random.bytes(length) }
+    }
+
+    /// The keeper's answer and what it left are checked, and compared with the library's.
+    fn compare(&mut self, call: &Call, before: &Lent, answer: [usize; 4], after: &Lent) -> Result<(), String> {
+        check(call, before, answer, after).map_err(|fault| format!("{}: keeper {fault}: {call:?}", self.place))?;
+        self.counts.answered[call.index()][answer[0]] += 1;
+        match &mut self.library {
+            Some(library) => library.compare(&self.place, call, before, answer, after),
+            None => Ok(()),
+        }
+    }
+
+    /// The present base is sound, and the one base of the schema.
+    fn check_base(&self) -> Result<(), String> {
+        match from_bytes(&self.base) {
+            Some(schema) if schema == self.schema && to_bytes(&schema) == self.base => Ok(()),
+            _ => Err(format!("{}: the keeper's base is not that of its schema", self.place)),
+        }
+    }
+
+    /// What was counted, and every difference in words.
+    pub fn finish(self) -> Result<(Counts, Vec<String>), String> {
+        let differences = self.library.map_or(Ok(Vec::new()), Library::finish)?;
+        Ok((self.counts, differences))
+    }
+}
+
+/// What holds of any call.
+fn check(call: &Call, before: &Lent, answer: [usize; 4], after: &Lent) -> Result<(), String> {
+    let [no, values @ ..] = answer;
+    if no != 0 && !CALLS[call.index()].refusals.contains(&no) {
+        return Err(format!("answers {no}, which is none of its numbers"));
+    }
+    if no != 0 && (values != [0; 3] || after != before) {
+        return Err(format!("refuses with {answer:?} and changes something"));
+    }
+    if call.asks() && after.base != before.base {
+        return Err("asks and changes the base".into());
+    }
+    let written = 2 * call.entries(answer);
+    if written > before.output.len() || after.output[written..] != before.output[written..] {
+        return Err("writes or counts beyond what there is".into());
+    }
+    Ok(())
+}

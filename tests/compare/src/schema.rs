@@ -1,0 +1,203 @@
+//! The keeper's state in plain collections: document 01, "Things in a base". Nothing here is about bytes of a base.
+//!
+//! Numbers are `usize` throughout, as callers give them: 2^32 + n is then never found where n is.
+#![forbid(unsafe_code)]
+
+use std::collections::{BTreeMap, BTreeSet};
+
+pub type Name = Vec<u8>;
+
+/// Names are 1 to 16 bytes: ASCII letters, digits and underscore, beginning with a letter.
+pub fn is_name(bytes: &[u8]) -> bool {
+    (1..=Schema::NAME).contains(&bytes.len())
+        && bytes[0].is_ascii_alphabetic()
+        && bytes.iter().all(|b| b.is_ascii_alphanumeric() || *b == b'_')
+}
+
+/// Value kinds are 0 to 5: boolean, integer, natural, float, time, string.
+pub const LAST_VALUE_KIND: usize = 5;
+
+/// Categories are 0 to 4: composition, existence, reference, implicit, designation.
+pub const IMPLICIT: usize = 3;
+pub const DESIGNATION: usize = 4;
+
+/// What belongs to a type; the same in every SDS.
+#[derive(Clone, Debug, PartialEq, Eq)]
+pub enum Type {
+    Object { parents: BTreeSet<usize> },
+    Attribute { value_kind: usize },
+    Link { category: usize, reverse: Option<usize> },
+}
+
+/// An attribute type is applied to an object or link type.
+#[derive(Clone, Copy, Debug, PartialEq, Eq, PartialOrd, Ord)]
+pub struct Application {
+    pub to: usize,
+    pub attribute: usize,
+}
+
+#[derive(Clone, Copy, Debug, PartialEq, Eq, PartialOrd, Ord)]
+pub enum Side {
+    Origin,
+    Destination,
+}
+
+/// An object type is an origin or a destination of a link type.
+#[derive(Clone, Copy, Debug, PartialEq, Eq, PartialOrd, Ord)]
+pub struct End {
+    pub link: usize,
+    pub side: Side,
+    pub object: usize,
+}
+
+impl End {
+    /// The end that the reverse of the link type has, exactly when the link type has this one.
+    pub fn mirror(self, reverse: usize) -> End {
+        let side = match self.side {
+            Side::Origin => Side::Destination,
+            Side::Destination => Side::Origin,
+        };
+        End { link: reverse, side, ..self }
+    }
+}
+
+/// An SDS with all that is said within it.
+#[derive(Clone, Debug, PartialEq, Eq)]
+pub struct Sds {
+    pub name: Name,
+    /// Local names are unique in an SDS.
+    pub presences: BTreeMap<Name, usize>,
+    pub applications: BTreeSet<Application>,
+    pub ends: BTreeSet<End>,
+}
+
+impl Sds {
+    pub fn named(name: &[u8]) -> Sds {
+        Sds {
+            name: name.to_vec(),
+            presences: BTreeMap::new(),
+            applications: BTreeSet::new(),
+            ends: BTreeSet::new(),
+        }
+    }
+
+    /// The type that bears the local name.
+    pub fn find(&self, name: &[u8]) -> Option<usize> {
+        self.presences.get(name).copied()
+    }
+
+    /// The local name of the type, if it is present.
+    pub fn name_of(&self, ty: usize) -> Option<&Name> {
+        self.presences.iter().find(|&(_, &present)| present == ty).map(|(name, _)| name)
+    }
+
+    pub fn holds(&self, ty: usize) -> bool {
+        self.name_of(ty).is_some()
+    }
+}
+
+#[derive(Clone, Debug, PartialEq, Eq)]
+pub struct Schema {
+    pub sdss: BTreeMap<usize, Sds>,
+    pub types: BTreeMap<usize, Type>,
+}
+
+impl Schema {
+    pub const NAME: usize = 16;
+    pub const PARENTS: usize = 4;
+    pub const SDSS: usize = 16;
+    pub const TYPES: usize = 128;
+    pub const PRESENCES: usize = 512;
+    pub const APPLICATIONS: usize = 256;
+    pub const ENDS: usize = 512;
+
+    /// SDS 0 "system", holding type 0 "object", and nothing else.
+    pub fn fresh() -> Schema {
+        let mut system = Sds::named(b"system");
+        system.presences.insert(b"object".to_vec(), 0);
+        let object = Type::Object { parents: BTreeSet::new() };
+        Schema { sdss: BTreeMap::from([(0, system)]), types: BTreeMap::from([(0, object)]) }
+    }
+
+    pub fn is_object(&self, ty: usize) -> bool {
+        matches!(self.types.get(&ty), Some(Type::Object { .. }))
+    }
+
+    pub fn is_attribute(&self, ty: usize) -> bool {
+        matches!(self.types.get(&ty), Some(Type::Attribute { .. }))
+    }
+
+    pub fn is_link(&self, ty: usize) -> bool {
+        matches!(self.types.get(&ty), Some(Type::Link { .. }))
+    }
+
+    /// The reverse of a link type; a designation type, like a type of another kind, has none.
+    pub fn reverse(&self, ty: usize) -> Option<usize> {
+        match self.types.get(&ty) {
+            Some(Type::Link { reverse, .. }) => *reverse,
+            _ => None,
+        }
+    }
+
+    /// The parents of an object type; a type of another kind has none.
+    pub fn parents(&self, ty: usize) -> BTreeSet<usize> {
+        match self.types.get(&ty) {
+            Some(Type::Object { parents }) => parents.clone(),
+            _ => BTreeSet::new(),
+        }
+    }
+
+    pub fn children(&self, ty: usize) -> BTreeSet<usize> {
+        let is_child = |kind: &Type| matches!(kind, Type::Object { parents } if parents.contains(&ty));
+        self.types.iter().filter(|(_, kind)| is_child(kind)).map(|(&child, _)| child).collect()
+    }
+
+    /// What parents reach from the type in one or more steps.
+    pub fn ancestors(&self, ty: usize) -> BTreeSet<usize> {
+        reached(ty, |ty| self.parents(ty))
+    }
+
+    /// The types that the type is an ancestor of.
+    pub fn descendants(&self, ty: usize) -> BTreeSet<usize> {
+        reached(ty, |ty| self.children(ty))
+    }
+
+    /// The greatest number of parent steps from the type up to type 0. Only type 0 has no parents, so every way up
+    /// ends there, and the longest one is over when no type is left that takes exactly so many steps.
+    pub fn longest_way_up(&self, ty: usize) -> usize {
+        let step = |types: &BTreeSet<usize>| -> BTreeSet<usize> {
+            types.iter().flat_map(|&ty| self.parents(ty)).collect()
+        };
+        let mut after_steps = step(&BTreeSet::from([ty]));
+        let mut depth = 0;
+        while !after_steps.is_empty() {
+            depth += 1;
+            after_steps = step(&after_steps);
+        }
+        depth
+    }
+
+    pub fn presence_count(&self) -> usize {
+        self.sdss.values().map(|sds| sds.presences.len()).sum()
+    }
+
+    pub fn application_count(&self) -> usize {
+        self.sdss.values().map(|sds| sds.applications.len()).sum()
+    }
+
+    pub fn end_count(&self) -> usize {
+        self.sdss.values().map(|sds| sds.ends.len()).sum()
+    }
+}
+
+/// What one or more steps reach from a type.
+fn reached(from: usize, step: impl Fn(usize) -> BTreeSet<usize>) -> BTreeSet<usize> {
+    let mut reached = BTreeSet::new();
+    let mut open = step(from);
+    while let Some(ty) = open.pop_first() {
+        if reached.insert(ty) {
+            open.extend(step(ty));
+        }
+    }
+    reached
+}

@@ -1,0 +1,484 @@
+//! Sound bases spoiled on purpose. Some ways break the layout; others break one sentence of document 01 in a schema
+//! that is then laid out as it should be. A few leave the base sound; a way that finds nothing to spoil leaves it as
+//! it was.
+#![forbid(unsafe_code)]
+
+use crate::base::{from_bytes, is_used, to_bytes, Table, APPLICATIONS, ENDS, LENGTH, PRESENCES, SDSS, TYPES};
+use crate::random::Random;
+use crate::schema::{Application, End, Name, Schema, Sds, Side, Type};
+
+pub enum Way {
+    Length(fn(&mut Random) -> usize),
+    Layout(fn(&mut Random, &mut [u8])),
+    Schema(fn(&mut Random, &mut Schema)),
+}
+
+pub const WAYS: [(&str, Way); 32] = [
+    ("wrong length", Way::Length(wrong_length)),
+    ("flipped bit", Way::Layout(flipped_bit)),
+    ("changed byte of a row", Way::Layout(changed_byte)),
+    ("swapped rows", Way::Layout(swapped_rows)),
+    ("doubled row", Way::Layout(doubled_row)),
+    ("dropped row", Way::Layout(dropped_row)),
+    ("gap", Way::Layout(gap)),
+    ("row after a gap", Way::Layout(row_after_gap)),
+    ("byte in padding", Way::Layout(byte_in_padding)),
+    ("byte in unused room", Way::Layout(byte_in_unused_room)),
+    ("field that a kind lacks", Way::Layout(field_that_a_kind_lacks)),
+    ("parents not rising", Way::Layout(parents_not_rising)),
+    ("number of parents", Way::Layout(number_of_parents)),
+    ("row of an unused SDS", Way::Layout(row_of_an_unused_sds)),
+    ("same name twice", Way::Layout(same_name_twice)),
+    ("cycle of parents", Way::Schema(cycle_of_parents)),
+    ("no parents", Way::Schema(no_parents)),
+    ("parent of no use", Way::Schema(parent_of_no_use)),
+    ("missing parent", Way::Schema(missing_parent)),
+    ("reverse", Way::Schema(other_reverse)),
+    ("category", Way::Schema(other_category)),
+    ("value kind", Way::Schema(unknown_value_kind)),
+    ("missing reverse", Way::Schema(missing_reverse)),
+    ("type twice in an SDS", Way::Schema(type_twice)),
+    ("type present nowhere", Way::Schema(type_present_nowhere)),
+    ("presence of an unused type", Way::Schema(presence_of_an_unused_type)),
+    ("application", Way::Schema(other_application)),
+    ("end", Way::Schema(other_end)),
+    ("missing mirror", Way::Schema(missing_mirror)),
+    ("SDS 0 changed", Way::Schema(sds_0_changed)),
+    ("two SDSs of one name", Way::Schema(two_sdss_of_one_name)),
+    ("malformed name", Way::Schema(malformed_name)),
+];
+
+/// A sound base spoiled in the way.
+pub fn spoiled(way: &Way, random: &mut Random, base: &[u8]) -> Vec<u8> {
+    let mut spoiled = base.to_vec();
+    match way {
+        Way::Length(wrong) => spoiled.resize(wrong(random), 0),
+        Way::Layout(spoil) => spoil(random, &mut spoiled),
+        Way::Schema(spoil) => {
+            let mut schema = from_bytes(base).expect("a sound base");
+            spoil(random, &mut schema);
+            spoiled = to_bytes(&schema);
+        }
+    }
+    spoiled
+}
+
+// Ways that break the layout.
+
+/// Tables whose rows are kept in order.
+const ORDERED: [Table; 3] = [PRESENCES, APPLICATIONS, ENDS];
+const TABLES: [Table; 5] = [SDSS, TYPES, PRESENCES, APPLICATIONS, ENDS];
+
+fn table(random: &mut Random, tables: &[Table]) -> Table {
+    random.pick(tables).expect("there are tables")
+}
+
+/// The numbers of the used rows for which `is_wanted` holds.
+fn rows_where(base: &[u8], table: Table, is_wanted: impl Fn(&[u8]) -> bool) -> Vec<usize> {
+    let rows = table.rows(base).enumerate();
+    rows.filter(|(_, row)| is_used(row) && is_wanted(row)).map(|(number, _)| number).collect()
+}
+
+/// A used row for which `is_wanted` holds, to be changed.
+fn row_where<'a>(
+    random: &mut Random,
+    base: &'a mut [u8],
+    table: Table,
+    is_wanted: impl Fn(&[u8]) -> bool,
+) -> Option<&'a mut [u8]> {
+    let number = random.pick(&rows_where(base, table, is_wanted))?;
+    Some(table.row(base, number))
+}
+
+fn used_rows(base: &[u8], table: Table) -> Vec<Vec<u8>> {
+    table.rows(base).filter(|row| is_used(row)).map(<[u8]>::to_vec).collect()
+}
+
+/// Puts the rows down from the start of the table, as many as it has room for, with unused ones behind.
+fn put_rows(base: &mut [u8], table: Table, rows: &[Vec<u8>]) {
+    for number in 0..table.rows {
+        match rows.get(number) {
+            Some(row) => table.row(base, number).copy_from_slice(row),
+            None => table.row(base, number).fill(0),
+        }
+    }
+}
+
+fn wrong_length(random: &mut Random) -> usize {
+    match random.below(6) {
+        0 => 0,
+        1 => LENGTH - 1,
+        2 => LENGTH + 1,
+        3 => 2 * LENGTH,
+        4 => random.below(LENGTH),
+        _ => LENGTH + 1 + random.below(LENGTH),
+    }
+}
+
+fn flipped_bit(random: &mut Random, base: &mut [u8]) {
+    base[random.below(LENGTH)] ^= 1 << random.below(8);
+}
+
+fn changed_byte(random: &mut Random, base: &mut [u8]) {
+    let table = table(random, &TABLES);
+    if let Some(row) = row_where(random, base, table, |_| true) {
+        let byte = &mut row[random.below(table.width)];
+        *byte = match random.below(3) {
+            0 => byte.wrapping_add(1),
+            1 => byte.wrapping_sub(1),
+            _ => random.byte(),
+        };
+    }
+}
+
+fn swapped_rows(random: &mut Random, base: &mut [u8]) {
+    let table = table(random, &TABLES);
+    let used = rows_where(base, table, |_| true);
+    if used.len() < 2 {
+        return;
+    }
+    let at = random.below(used.len() - 1);
+    let (one, other) = if random.one_in(2) { (used[at], used[at + 1]) } else { (used[at], used[used.len() - 1]) };
+    let kept = table.row(base, one).to_vec();
+    let moved = table.row(base, other).to_vec();
+    table.row(base, one).copy_from_slice(&moved);
+    table.row(base, other).copy_from_slice(&kept);
+}
+
+fn doubled_row(random: &mut Random, base: &mut [u8]) {
+    let table = table(random, &ORDERED);
+    let mut rows = used_rows(base, table);
+    if !rows.is_empty() {
+        let at = random.below(rows.len());
+        rows.insert(at, rows[at].clone());
+        put_rows(base, table, &rows);
+    }
+}
+
+fn dropped_row(random: &mut Random, base: &mut [u8]) {
+    let table = table(random, &ORDERED);
+    let mut rows = used_rows(base, table);
+    if !rows.is_empty() {
+        rows.remove(random.below(rows.len()));
+        put_rows(base, table, &rows);
+    }
+}
+
+fn gap(random: &mut Random, base: &mut [u8]) {
+    let table = table(random, &TABLES);
+    if let Some(row) = row_where(random, base, table, |_| true) {
+        row.fill(0);
+    }
+}
+
+fn row_after_gap(random: &mut Random, base: &mut [u8]) {
+    let table = table(random, &ORDERED);
+    let used = used_rows(base, table).len();
+    if 0 < used && used < table.rows {
+        let last = table.row(base, used - 1).to_vec();
+        table.row(base, used - 1).fill(0);
+        table.row(base, used + random.below(table.rows - used)).copy_from_slice(&last);
+    }
+}
+
+fn byte_in_padding(random: &mut Random, base: &mut [u8]) {
+    let (table, start) = if random.one_in(2) { (SDSS, 0) } else { (PRESENCES, 1) };
+    if let Some(row) = row_where(random, base, table, |row| row[start + Schema::NAME - 1] == 0) {
+        let name = &mut row[start..][..Schema::NAME];
+        let length = name.iter().position(|&byte| byte == 0).expect("tested above");
+        name[length + random.below(Schema::NAME - length)] = b'a';
+    }
+}
+
+fn byte_in_unused_room(random: &mut Random, base: &mut [u8]) {
+    let table = table(random, &TABLES);
+    let unused: Vec<usize> = (0..table.rows).filter(|&number| !is_used(table.row(base, number))).collect();
+    if let Some(number) = random.pick(&unused) {
+        table.row(base, number)[random.below(table.width)] = 1 + random.byte() % 255;
+    }
+}
+
+fn field_that_a_kind_lacks(random: &mut Random, base: &mut [u8]) {
+    if let Some(row) = row_where(random, base, TYPES, |_| true) {
+        let lacking: &[usize] = match row[0] {
+            1 => &[1, 2],
+            2 => &[2, 3, 4, 5, 6, 7],
+            _ => &[3, 4, 5, 6, 7],
+        };
+        row[random.pick(lacking).expect("each kind lacks some")] = 1 + random.byte() % 4;
+    }
+}
+
+fn parents_not_rising(random: &mut Random, base: &mut [u8]) {
+    if let Some(row) = row_where(random, base, TYPES, |row| row[3] > 1) {
+        if random.one_in(2) {
+            row.swap(4, 5);
+        } else {
+            row[4] = row[5];
+        }
+    }
+}
+
+fn number_of_parents(random: &mut Random, base: &mut [u8]) {
+    if let Some(row) = row_where(random, base, TYPES, |row| row[0] == 1) {
+        row[3] = if random.one_in(2) { random.below(7) as u8 } else { random.byte() };
+    }
+}
+
+fn row_of_an_unused_sds(random: &mut Random, base: &mut [u8]) {
+    let table = table(random, &ORDERED);
+    let mut rows = used_rows(base, table);
+    // The last row can take a higher SDS and stay in its place.
+    if let Some(row) = rows.last_mut() {
+        row[0] += 1 + random.below(16) as u8;
+        put_rows(base, table, &rows);
+    }
+}
+
+fn same_name_twice(random: &mut Random, base: &mut [u8]) {
+    let mut rows = used_rows(base, PRESENCES);
+    if let Some(at) = random.pick(&(1..rows.len()).collect::<Vec<_>>()) {
+        let before = rows[at - 1].clone();
+        rows[at][..=Schema::NAME].copy_from_slice(&before[..=Schema::NAME]);
+        rows.sort();
+        put_rows(base, PRESENCES, &rows);
+    }
+}
+
+// Ways that break one sentence of document 01.
+
+fn types_where(schema: &Schema, is_wanted: impl Fn(usize) -> bool) -> Vec<usize> {
+    schema.types.keys().copied().filter(|&ty| is_wanted(ty)).collect()
+}
+
+fn unused_type(random: &mut Random, schema: &Schema) -> usize {
+    let unused: Vec<usize> = (0..256).filter(|number| !schema.types.contains_key(number)).collect();
+    random.pick(&unused).expect("128 and over are never used")
+}
+
+/// An SDS for which `is_wanted` holds, to be changed.
+fn sds_where<'a>(
+    random: &mut Random,
+    schema: &'a mut Schema,
+    is_wanted: impl Fn(&Sds) -> bool,
+) -> Option<&'a mut Sds> {
+    let wanted: Vec<usize> = schema.sdss.iter().filter(|(_, sds)| is_wanted(sds)).map(|(&sds, _)| sds).collect();
+    schema.sdss.get_mut(&random.pick(&wanted)?)
+}
+
+fn present(sds: &Sds, is_wanted: impl Fn(usize) -> bool) -> Vec<usize> {
+    sds.presences.values().copied().filter(|&ty| is_wanted(ty)).collect()
+}
+
+fn drop_presence(sds: &mut Sds, ty: usize) {
+    sds.presences.retain(|_, &mut present| present != ty);
+}
+
+/// Puts `parent` among the parents, in the place of another if there are 4.
+fn put_parent(schema: &mut Schema, ty: usize, parent: usize) {
+    if let Some(Type::Object { parents }) = schema.types.get_mut(&ty) {
+        if parents.len() == Schema::PARENTS {
+            parents.pop_first();
+        }
+        parents.insert(parent);
+    }
+}
+
+/// A type becomes a parent of itself or of an ancestor that is present nowhere without it.
+fn cycle_of_parents(random: &mut Random, schema: &mut Schema) {
+    let objects = types_where(schema, |ty| schema.is_object(ty));
+    let ty = random.pick(&objects).expect("there is type 0");
+    let is_alone = |ancestor: usize| schema.sdss.values().any(|sds| sds.holds(ancestor) && !sds.holds(ty));
+    let mut children: Vec<usize> = schema.ancestors(ty).into_iter().filter(|&a| !is_alone(a)).collect();
+    if children.is_empty() || random.one_in(4) {
+        children = vec![ty];
+    }
+    let child = random.pick(&children).expect("there is one");
+    put_parent(schema, child, ty);
+}
+
+fn no_parents(random: &mut Random, schema: &mut Schema) {
+    let objects = types_where(schema, |ty| ty != 0 && schema.is_object(ty));
+    if let Some(Type::Object { parents }) = random.pick(&objects).and_then(|ty| schema.types.get_mut(&ty)) {
+        parents.clear();
+    }
+}
+
+/// A parent that is not used, or no object type.
+fn parent_of_no_use(random: &mut Random, schema: &mut Schema) {
+    let objects = types_where(schema, |ty| ty != 0 && schema.is_object(ty));
+    let others = types_where(schema, |ty| !schema.is_object(ty));
+    let parent = match random.pick(&others) {
+        Some(other) if random.one_in(2) => other,
+        _ => unused_type(random, schema),
+    };
+    if let Some(ty) = random.pick(&objects) {
+        put_parent(schema, ty, parent);
+    }
+}
+
+/// A type is present where one of its parents no longer is, or gets a parent that is not present there.
+fn missing_parent(random: &mut Random, schema: &mut Schema) {
+    let objects = types_where(schema, |ty| ty != 0 && schema.is_object(ty));
+    let Some(ty) = random.pick(&objects) else { return };
+    if random.one_in(2) {
+        if let Some(parent) = random.pick(&objects) {
+            put_parent(schema, ty, parent);
+        }
+    } else {
+        let parents: Vec<usize> = schema.parents(ty).into_iter().collect();
+        let parent = random.pick(&parents).expect("only type 0 has none");
+        if let Some(sds) = sds_where(random, schema, |sds| sds.holds(ty)) {
+            drop_presence(sds, parent);
+        }
+    }
+}
+
+fn other_reverse(random: &mut Random, schema: &mut Schema) {
+    let links = types_where(schema, |ty| schema.is_link(ty));
+    let Some(ty) = random.pick(&links) else { return };
+    let other = match random.below(4) {
+        0 => None,
+        1 => Some(unused_type(random, schema)),
+        2 => random.pick(&links),
+        _ => random.pick(&types_where(schema, |_| true)),
+    };
+    if let Some(Type::Link { reverse, .. }) = schema.types.get_mut(&ty) {
+        *reverse = other;
+    }
+}
+
+fn other_category(random: &mut Random, schema: &mut Schema) {
+    let links = types_where(schema, |ty| schema.is_link(ty));
+    let Some(ty) = random.pick(&links) else { return };
+    if let Some(Type::Link { category, .. }) = schema.types.get_mut(&ty) {
+        *category = random.below(7);
+    }
+}
+
+fn unknown_value_kind(random: &mut Random, schema: &mut Schema) {
+    let attributes = types_where(schema, |ty| schema.is_attribute(ty));
+    let Some(ty) = random.pick(&attributes) else { return };
+    schema.types.insert(ty, Type::Attribute { value_kind: 6 + random.below(250) });
+}
+
+fn missing_reverse(random: &mut Random, schema: &mut Schema) {
+    let reversed = types_where(schema, |ty| schema.reverse(ty).is_some());
+    let Some(ty) = random.pick(&reversed) else { return };
+    if let Some(sds) = sds_where(random, schema, |sds| sds.holds(ty)) {
+        drop_presence(sds, ty);
+    }
+}
+
+fn type_twice(random: &mut Random, schema: &mut Schema) {
+    if schema.presence_count() == Schema::PRESENCES {
+        return;
+    }
+    if let Some(sds) = sds_where(random, schema, |sds| !sds.presences.is_empty()) {
+        let ty = random.pick(&present(sds, |_| true)).expect("there is one");
+        sds.presences.insert(b"twice".to_vec(), ty);
+    }
+}
+
+fn type_present_nowhere(random: &mut Random, schema: &mut Schema) {
+    let unused: Vec<usize> = (0..Schema::TYPES).filter(|number| !schema.types.contains_key(number)).collect();
+    if let Some(ty) = random.pick(&unused) {
+        schema.types.insert(ty, Type::Attribute { value_kind: 0 });
+    }
+}
+
+fn presence_of_an_unused_type(random: &mut Random, schema: &mut Schema) {
+    let unused = unused_type(random, schema);
+    if let Some(sds) = sds_where(random, schema, |sds| !sds.presences.is_empty()) {
+        let names: Vec<Name> = sds.presences.keys().cloned().collect();
+        sds.presences.insert(random.pick(&names).expect("there is one"), unused);
+    }
+}
+
+/// An application gets a type that is not used, not present there or of any kind.
+fn other_application(random: &mut Random, schema: &mut Schema) {
+    let other = random.below(Schema::TYPES);
+    if let Some(sds) = sds_where(random, schema, |sds| !sds.applications.is_empty()) {
+        let applications: Vec<Application> = sds.applications.iter().copied().collect();
+        let application = random.pick(&applications).expect("there is one");
+        sds.applications.remove(&application);
+        sds.applications.insert(match random.below(3) {
+            0 => Application { to: other, ..application },
+            1 => Application { attribute: other, ..application },
+            _ => Application { to: application.attribute, attribute: application.to },
+        });
+    }
+}
+
+/// An end, if possible of a designation type, gets a type that is not used, not present there or of any kind.
+fn other_end(random: &mut Random, schema: &mut Schema) {
+    let other = random.below(Schema::TYPES);
+    let reversed = types_where(schema, |ty| schema.reverse(ty).is_some());
+    let is_lone = |end: &&End| !reversed.contains(&end.link);
+    if let Some(sds) = sds_where(random, schema, |sds| !sds.ends.is_empty()) {
+        let ends: Vec<End> = sds.ends.iter().copied().collect();
+        let lone: Vec<End> = sds.ends.iter().filter(is_lone).copied().collect();
+        let end = random.pick(&lone).or_else(|| random.pick(&ends)).expect("there is one");
+        sds.ends.remove(&end);
+        sds.ends.insert(match random.below(3) {
+            0 => End { link: other, ..end },
+            1 => End { object: other, ..end },
+            _ => End { link: end.object, object: end.link, ..end },
+        });
+    }
+}
+
+fn missing_mirror(random: &mut Random, schema: &mut Schema) {
+    let reversed = types_where(schema, |ty| schema.reverse(ty).is_some());
+    let is_mirrored = |end: &&End| reversed.contains(&end.link);
+    if let Some(sds) = sds_where(random, schema, |sds| sds.ends.iter().any(|end| is_mirrored(&end))) {
+        let ends: Vec<End> = sds.ends.iter().filter(is_mirrored).copied().collect();
+        let end = random.pick(&ends).expect("there is one");
+        sds.ends.remove(&end);
+        if random.one_in(2) {
+            // An end that has a mirror, but the wrong one.
+            let side = if end.side == Side::Origin { Side::Destination } else { Side::Origin };
+            sds.ends.insert(End { side, ..end });
+        }
+    }
+}
+
+fn sds_0_changed(random: &mut Random, schema: &mut Schema) {
+    let used = types_where(schema, |ty| ty != 0);
+    let (has_presence, has_end) = (schema.presence_count() < Schema::PRESENCES, schema.end_count() < Schema::ENDS);
+    let system = schema.sdss.get_mut(&0).expect("a used SDS");
+    match (random.below(8), random.pick(&used)) {
+        (0, _) => system.name = b"System".to_vec(),
+        (1, _) => system.presences = [(b"objects".to_vec(), 0)].into(),
+        (2, _) => system.presences.clear(),
+        (3, Some(ty)) if has_presence => _ = system.presences.insert(b"other".to_vec(), ty),
+        (4, Some(link)) if has_end => _ = system.ends.insert(End { link, side: Side::Origin, object: 0 }),
+        (5, Some(parent)) => put_parent(schema, 0, parent),
+        (6, _) => _ = schema.types.insert(0, Type::Attribute { value_kind: 0 }),
+        _ => _ = schema.sdss.remove(&0),
+    }
+}
+
+fn two_sdss_of_one_name(random: &mut Random, schema: &mut Schema) {
+    let names: Vec<Name> = schema.sdss.values().map(|sds| sds.name.clone()).collect();
+    let name = random.pick(&names).expect("there is SDS 0");
+    let used: Vec<usize> = schema.sdss.keys().copied().collect();
+    let number = if random.one_in(2) { random.pick(&used) } else { Some(random.below(Schema::SDSS)) };
+    let number = number.expect("there is SDS 0");
+    schema.sdss.entry(number).or_insert(Sds::named(b"")).name = name;
+}
+
+fn malformed_name(random: &mut Random, schema: &mut Schema) {
+    let malformed: [&[u8]; 9] = [b"", b"0a", b"_", b"a b", b"a\0b", b"a-", b"{", b"\x80", b"abcdefghijklmno."];
+    let malformed = malformed[random.below(malformed.len())].to_vec();
+    if let Some(sds) = sds_where(random, schema, |sds| !sds.presences.is_empty()) {
+        if random.one_in(3) {
+            sds.name = malformed;
+        } else {
+            let names: Vec<Name> = sds.presences.keys().cloned().collect();
+            let name = random.pick(&names).expect("there is one");
+            let ty = sds.presences.remove(&name).expect("it is borne");
+            sds.presences.insert(malformed, ty);
+        }
+    }
+}

@@ -1,0 +1,1031 @@
+//! Document 01's edges, the worked sequence of the run program, every refusal of every call, every scan, and the
+//! sentences of soundness one by one.
+#![forbid(unsafe_code)]
+
+use crate::base::{from_bytes, is_sound, to_bytes, APPLICATIONS, ENDS, LENGTH, PRESENCES, SDSS, TYPES};
+use crate::calls::{apply as keep, Call, CALLS};
+use crate::random::{free_places, Mode, Random};
+use crate::run::Run;
+use crate::schema::{Application, End, Schema, Sds, Side, Type};
+use crate::spoil::{spoiled, WAYS};
+use std::collections::BTreeSet;
+
+// Calls, as short as they can be written.
+
+fn new_sds(name: &str) -> Call {
+    Call::NewSds { name: name.into() }
+}
+
+fn remove_sds(sds: usize) -> Call {
+    Call::RemoveSds { sds }
+}
+
+fn new_object(sds: usize, name: &str, parents: &str) -> Call {
+    Call::NewObject { sds, name: name.into(), parents: parents.into() }
+}
+
+fn new_attribute(sds: usize, name: &str, value_kind: usize) -> Call {
+    Call::NewAttribute { sds, name: name.into(), value_kind }
+}
+
+fn new_designation(sds: usize, name: &str) -> Call {
+    Call::NewDesignation { sds, name: name.into() }
+}
+
+fn new_pair(sds: usize, name: &str, reverse_name: &str, category: usize, reverse_category: usize) -> Call {
+    Call::NewPair { sds, name: name.into(), reverse_name: reverse_name.into(), category, reverse_category }
+}
+
+fn import(target: usize, source: usize, name: &str, new_name: &str, new_reverse_name: &str) -> Call {
+    let (name, new_name, new_reverse_name) = (name.into(), new_name.into(), new_reverse_name.into());
+    Call::Import { target, source, name, new_name, new_reverse_name }
+}
+
+fn apply(sds: usize, attribute: &str, to: &str) -> Call {
+    Call::Apply { sds, attribute: attribute.into(), to: to.into() }
+}
+
+fn unapply(sds: usize, attribute: &str, to: &str) -> Call {
+    Call::Unapply { sds, attribute: attribute.into(), to: to.into() }
+}
+
+fn apply_link(sds: usize, link: &str, object: &str) -> Call {
+    Call::ApplyLink { sds, link: link.into(), object: object.into() }
+}
+
+fn unapply_link(sds: usize, link: &str, object: &str) -> Call {
+    Call::UnapplyLink { sds, link: link.into(), object: object.into() }
+}
+
+fn add_destination(sds: usize, link: &str, object: &str) -> Call {
+    Call::AddDestination { sds, link: link.into(), object: object.into() }
+}
+
+fn remove_destination(sds: usize, link: &str, object: &str) -> Call {
+    Call::RemoveDestination { sds, link: link.into(), object: object.into() }
+}
+
+fn remove_type(sds: usize, name: &str) -> Call {
+    Call::RemoveType { sds, name: name.into() }
+}
+
+fn rename(sds: usize, name: &str, new_name: &str) -> Call {
+    Call::Rename { sds, name: name.into(), new_name: new_name.into() }
+}
+
+fn scan_object(schema: &[u8], ty: usize, code: usize) -> Call {
+    Call::ScanObject { schema: schema.to_vec(), ty, code }
+}
+
+fn scan_link(schema: &[u8], ty: usize, code: usize) -> Call {
+    Call::ScanLink { schema: schema.to_vec(), ty, code }
+}
+
+fn profile(schema: &[u8], ty: usize) -> Call {
+    Call::Profile { schema: schema.to_vec(), ty }
+}
+
+fn find(schema: &[u8], name: &str) -> Call {
+    Call::Find { schema: schema.to_vec(), name: name.into() }
+}
+
+fn depth(schema: &[u8], ty: usize) -> Call {
+    Call::Depth { schema: schema.to_vec(), ty }
+}
+
+fn name(sds: usize, ty: usize) -> Call {
+    Call::Name { sds, ty }
+}
+
+fn descendant_set(schema: &[u8], ty: usize) -> Call {
+    Call::DescendantSet { schema: schema.to_vec(), ty }
+}
+
+/// A base to call on.
+struct Lent(Vec<u8>);
+
+impl Lent {
+    fn fresh() -> Lent {
+        Lent(to_bytes(&Schema::fresh()))
+    }
+
+    /// The answer to a call with an output of some length, and the output, which was all 0xee.
+    fn with_output(&mut self, call: &Call, length: usize) -> ([usize; 4], Vec<u8>) {
+        let before = self.0.clone();
+        let mut output = vec![0xee; length];
+        let answer = keep(&mut self.0, &mut output, call);
+        if answer[0] != 0 {
+            assert_eq!(answer[1..], [0; 3], "{call:?}");
+            assert!(self.0 == before && output == vec![0xee; length], "{call:?}");
+        }
+        assert_eq!(is_sound(&self.0), is_sound(&before), "{call:?}");
+        (answer, output)
+    }
+
+    /// The answer to a call with an output of length 0.
+    fn call(&mut self, call: &Call) -> [usize; 4] {
+        self.with_output(call, 0).0
+    }
+
+    fn number(&mut self, call: &Call) -> usize {
+        self.call(call)[0]
+    }
+
+    /// A call that must be done; gives the first value.
+    fn done(&mut self, call: &Call) -> usize {
+        let answer = self.call(call);
+        assert_eq!(answer[0], 0, "{call:?}");
+        answer[1]
+    }
+
+    /// The list that a scan or a profile puts down, and its values. The output is just long enough.
+    fn list(&mut self, call: &Call) -> ([usize; 3], Vec<u16>) {
+        let length = 2 * from_bytes(&self.0).map_or(0, |mut schema| call.on(&mut schema, usize::MAX).list.len());
+        let ([no, values @ ..], output) = self.with_output(call, length);
+        assert_eq!(no, 0, "{call:?}");
+        if length > 0 {
+            assert_eq!(self.with_output(call, length - 1).0, [15, 0, 0, 0], "{call:?}");
+        }
+        (values, output.chunks(2).map(|entry| u16::from_le_bytes([entry[0], entry[1]])).collect())
+    }
+}
+
+/// Three SDSs beside SDS 0: "one" with types of every kind, "two" in which "unit" is an attribute type, "three" empty.
+fn some_base() -> Lent {
+    let mut lent = Lent::fresh();
+    for call in [
+        new_sds("one"),
+        new_sds("two"),
+        new_sds("three"),
+        import(1, 0, "object", "", ""),
+        new_object(1, "unit", "object"),
+        new_object(1, "part", "unit"),
+        new_attribute(1, "size", 1),
+        new_designation(1, "sees"),
+        new_pair(1, "has", "of", 0, 3),
+        apply(1, "size", "unit"),
+        apply_link(1, "has", "unit"),
+        import(2, 0, "object", "thing", ""),
+        import(2, 1, "size", "unit", ""),
+    ] {
+        lent.done(&call);
+    }
+    lent
+}
+
+const UNIT: usize = 1;
+const PART: usize = 2;
+const SIZE: usize = 3;
+const HAS: usize = 5;
+
+/// Calls on `some_base` with the number that each is refused with. Each has as many higher faults as can be.
+fn refused_calls() -> Vec<(usize, Call)> {
+    vec![
+        (4, new_sds("0")),
+        (4, new_sds("")),
+        (11, new_sds("system")),
+        (2, remove_sds(4)),
+        (2, remove_sds(16)),
+        (3, remove_sds(0)),
+        (12, remove_sds(1)),
+        (2, new_object(16, "0", "0")),
+        (3, new_object(0, "0", "0")),
+        (4, new_object(1, "0", "")),
+        (4, new_object(1, "", "")),
+        (4, new_object(1, "unit", "a b c d e f ")),
+        (4, new_object(1, "unit", " a b c d e f")),
+        (4, new_object(1, "unit", "a  b c d e f")),
+        (4, new_object(1, "unit", " ")),
+        (5, new_object(1, "unit", "")),
+        (5, new_object(1, "unit", "nope nope size size part")),
+        (6, new_object(1, "unit", "size size nope")),
+        (7, new_object(1, "unit", "part part size")),
+        (8, new_object(1, "unit", "part object part")),
+        (11, new_object(1, "unit", "part")),
+        (2, new_attribute(16, "0", 6)),
+        (3, new_attribute(0, "0", 6)),
+        (4, new_attribute(1, "0", 6)),
+        (5, new_attribute(1, "unit", 6)),
+        (11, new_attribute(1, "unit", 5)),
+        (2, new_designation(16, "0")),
+        (3, new_designation(0, "0")),
+        (4, new_designation(1, "0")),
+        (11, new_designation(1, "unit")),
+        (2, new_pair(16, "0", "0", 4, 4)),
+        (3, new_pair(0, "0", "0", 4, 4)),
+        (4, new_pair(1, "unit", "0", 4, 4)),
+        (4, new_pair(1, "0", "unit", 4, 4)),
+        (5, new_pair(1, "unit", "unit", 4, 0)),
+        (5, new_pair(1, "unit", "unit", 0, 4)),
+        (5, new_pair(1, "unit", "unit", 3, 3)),
+        (11, new_pair(1, "unit", "new", 3, 0)),
+        (11, new_pair(1, "new", "unit", 0, 3)),
+        (11, new_pair(1, "new", "new", 0, 3)),
+        (2, import(0, 16, "0", "0", "0")),
+        (2, import(16, 0, "0", "0", "0")),
+        (3, import(0, 1, "0", "0", "0")),
+        (4, import(2, 1, "", "", "")),
+        (4, import(2, 1, "nope", "0", "")),
+        (4, import(2, 1, "nope", "", "0")),
+        (6, import(2, 1, "nope", "thing", "thing")),
+        (7, import(2, 1, "size", "thing", "thing")),
+        (7, import(2, 1, "sees", "", "new")),
+        (9, import(2, 1, "size", "thing", "")),
+        (9, import(1, 1, "has", "unit", "unit")),
+        (10, import(2, 1, "part", "thing", "")),
+        (11, import(2, 1, "unit", "", "")),
+        (11, import(2, 1, "has", "unit", "")),
+        (11, import(2, 1, "has", "", "unit")),
+        (11, import(2, 1, "has", "new", "new")),
+        (11, import(2, 1, "has", "of", "")),
+        (11, import(2, 1, "of", "has", "")),
+        (2, apply(16, "0", "0")),
+        (3, apply(0, "0", "0")),
+        (4, apply(1, "nope", "0")),
+        (4, apply(1, "", "nope")),
+        (6, apply(1, "unit", "nope")),
+        (6, apply(1, "nope", "size")),
+        (7, apply(1, "unit", "unit")),
+        (7, apply(1, "has", "unit")),
+        (7, apply(1, "size", "size")),
+        (9, apply(1, "size", "unit")),
+        (2, unapply(16, "0", "0")),
+        (3, unapply(0, "0", "0")),
+        (4, unapply(1, "nope", "0")),
+        (6, unapply(1, "unit", "nope")),
+        (7, unapply(1, "unit", "size")),
+        (13, unapply(1, "size", "part")),
+        (13, unapply(1, "size", "has")),
+        (2, apply_link(16, "0", "0")),
+        (3, apply_link(0, "0", "0")),
+        (4, apply_link(1, "nope", "0")),
+        (4, apply_link(1, "0", "nope")),
+        (6, apply_link(1, "unit", "nope")),
+        (6, apply_link(1, "nope", "size")),
+        (7, apply_link(1, "unit", "unit")),
+        (7, apply_link(1, "has", "of")),
+        (9, apply_link(1, "has", "unit")),
+        (2, unapply_link(16, "0", "0")),
+        (3, unapply_link(0, "0", "0")),
+        (4, unapply_link(1, "nope", "0")),
+        (6, unapply_link(1, "unit", "nope")),
+        (7, unapply_link(1, "unit", "unit")),
+        (13, unapply_link(1, "has", "part")),
+        (13, unapply_link(1, "of", "unit")),
+        (2, add_destination(16, "0", "0")),
+        (3, add_destination(0, "0", "0")),
+        (4, add_destination(1, "nope", "0")),
+        (6, add_destination(1, "unit", "nope")),
+        (7, add_destination(1, "size", "unit")),
+        (9, add_destination(1, "of", "unit")),
+        (2, remove_destination(16, "0", "0")),
+        (3, remove_destination(0, "0", "0")),
+        (4, remove_destination(1, "nope", "0")),
+        (6, remove_destination(1, "unit", "nope")),
+        (7, remove_destination(1, "has", "size")),
+        (13, remove_destination(1, "has", "unit")),
+        (13, remove_destination(1, "sees", "part")),
+        (2, remove_type(16, "0")),
+        (3, remove_type(0, "0")),
+        (4, remove_type(1, "0")),
+        (6, remove_type(1, "nope")),
+        (12, remove_type(1, "object")),
+        (12, remove_type(1, "unit")),
+        (12, remove_type(1, "size")),
+        (12, remove_type(1, "has")),
+        (12, remove_type(1, "of")),
+        (2, rename(16, "0", "0")),
+        (3, rename(0, "0", "0")),
+        (3, rename(0, "object", "object")),
+        (4, rename(1, "nope", "0")),
+        (4, rename(1, "", "unit")),
+        (6, rename(1, "nope", "unit")),
+        (11, rename(1, "part", "unit")),
+        (2, scan_object(&[1, 1, 4], 128, 10)),
+        (2, scan_object(&[16], 128, 10)),
+        (5, scan_object(&[1, 1], 128, 10)),
+        (6, scan_object(&[1, 1], 128, 0)),
+        (6, scan_object(&[2, 2], HAS, 0)),
+        (7, scan_object(&[1, 1], SIZE, 3)),
+        (8, scan_object(&[1, 2, 1], UNIT, 3)),
+        (8, scan_object(&[1; 17], UNIT, 3)),
+        (15, scan_object(&[1], UNIT, 3)),
+        (2, scan_link(&[1, 1, 4], 128, 5)),
+        (5, scan_link(&[1, 1], 128, 5)),
+        (6, scan_link(&[1, 1], 128, 0)),
+        (6, scan_link(&[2, 2], UNIT, 0)),
+        (7, scan_link(&[1, 1], UNIT, 0)),
+        (8, scan_link(&[1, 1], HAS, 0)),
+        (15, scan_link(&[1], HAS, 0)),
+        (2, profile(&[1, 1, 255], 128)),
+        (6, profile(&[1, 1], 128)),
+        (7, profile(&[1, 1], SIZE)),
+        (8, profile(&[1, 1], UNIT)),
+        (15, profile(&[1], UNIT)),
+        (2, find(&[1, 1, 16], "0")),
+        (4, find(&[1, 1], "0")),
+        (4, find(&[1, 1], "")),
+        (6, find(&[1, 1], "nope")),
+        (8, find(&[1, 1], "unit")),
+        (2, depth(&[1, 1, 16], 128)),
+        (6, depth(&[1, 1], 128)),
+        (7, depth(&[1, 1], SIZE)),
+        (8, depth(&[1, 1], UNIT)),
+        (2, name(4, 128)),
+        (2, name(16, 0)),
+        (6, name(1, 128)),
+        (6, name(2, UNIT)),
+        (2, descendant_set(&[1, 1, 16], 128)),
+        (6, descendant_set(&[1, 1], 128)),
+        (7, descendant_set(&[1, 1], SIZE)),
+        (8, descendant_set(&[1, 1], UNIT)),
+    ]
+}
+
+/// Bases with a full table, and calls that each has no room for.
+fn calls_without_room() -> Vec<(Lent, Vec<Call>)> {
+    let new_types = [
+        new_object(1, "new", "object"),
+        new_attribute(1, "new", 0),
+        new_designation(1, "new"),
+        new_pair(1, "new", "newer", 0, 0),
+    ];
+    let import_new = import(2, 1, "only_here", "", "");
+    vec![
+        (full_sdss(), vec![new_sds("new")]),
+        (full_types(0), new_types.to_vec()),
+        (full_presences(0), [new_types.to_vec(), vec![import_new]].concat()),
+        (full_applications(), vec![apply(1, "attribute", "last")]),
+        (full_ends(0), vec![apply_link(1, "pair", "last"), add_destination(1, "pair", "last")]),
+    ]
+}
+
+/// A base with SDSs 1 and 2, both holding "object".
+fn two_sdss() -> Lent {
+    let mut lent = Lent::fresh();
+    for call in [new_sds("a"), new_sds("b"), import(1, 0, "object", "", ""), import(2, 0, "object", "", "")] {
+        lent.done(&call);
+    }
+    lent
+}
+
+fn full_sdss() -> Lent {
+    let mut lent = Lent::fresh();
+    for number in 1..Schema::SDSS {
+        assert_eq!(lent.done(&new_sds(&format!("s{number}"))), number);
+    }
+    lent
+}
+
+fn full_types(free: usize) -> Lent {
+    let mut lent = two_sdss();
+    for number in 1..Schema::TYPES - free {
+        assert_eq!(lent.done(&new_attribute(1, &format!("t{number}"), 0)), number);
+    }
+    lent
+}
+
+/// SDS 1 alone holds "only_here"; the other types are in as many SDSs as it takes.
+fn full_presences(free: usize) -> Lent {
+    let mut lent = two_sdss();
+    for number in 0..99 {
+        lent.done(&new_attribute(1, &format!("t{number}"), 0));
+    }
+    lent.done(&new_attribute(1, "only_here", 0));
+    let mut left = Schema::PRESENCES - from_bytes(&lent.0).unwrap().presence_count() - free;
+    for target in 2..7 {
+        lent.call(&new_sds(&format!("s{target}")));
+        for number in 0..left.min(99) {
+            lent.done(&import(target, 1, &format!("t{number}"), "", ""));
+        }
+        left -= left.min(99);
+    }
+    assert_eq!(left, 0);
+    lent
+}
+
+/// "attribute" is not applied to "last".
+fn full_applications() -> Lent {
+    let mut lent = two_sdss();
+    lent.done(&new_attribute(1, "attribute", 0));
+    lent.done(&new_object(1, "last", "object"));
+    for attribute in 0..16 {
+        lent.done(&new_attribute(1, &format!("a{attribute}"), 0));
+    }
+    for object in 0..16 {
+        lent.done(&new_object(1, &format!("o{object}"), "object"));
+        for attribute in 0..16 {
+            lent.done(&apply(1, &format!("a{attribute}"), &format!("o{object}")));
+        }
+    }
+    lent
+}
+
+/// "last" is no end. With an odd number of free places the ends of a designation type are odd too.
+fn full_ends(free: usize) -> Lent {
+    let mut lent = two_sdss();
+    lent.done(&new_object(1, "last", "object"));
+    lent.done(&new_designation(1, "designation"));
+    lent.done(&new_pair(1, "pair", "reverse", 0, 0));
+    let objects: Vec<String> = (0..64).map(|object| format!("o{object}")).collect();
+    for object in &objects {
+        lent.done(&new_object(1, object, "object"));
+        lent.done(&apply_link(1, "pair", object));
+        lent.done(&add_destination(1, "pair", object));
+    }
+    for link in ["more", "most"] {
+        lent.done(&new_designation(1, link));
+        objects.iter().for_each(|object| _ = lent.done(&apply_link(1, link, object)));
+    }
+    objects.iter().for_each(|object| _ = lent.done(&add_destination(1, "more", object)));
+    objects.iter().skip(free).for_each(|object| _ = lent.done(&add_destination(1, "most", object)));
+    lent
+}
+
+#[test]
+fn every_refusal_of_every_call() {
+    let mut seen = BTreeSet::new();
+    for (number, call) in refused_calls() {
+        assert_eq!(some_base().call(&call), [number, 0, 0, 0], "{call:?}");
+        seen.insert((call.index(), number));
+        // A base that is not sound comes before all else, and a fresh one takes any bytes of the right length.
+        assert_eq!(Lent(vec![0; LENGTH]).number(&call), 1, "{call:?}");
+        seen.insert((call.index(), 1));
+    }
+    for length in [0, LENGTH - 1, LENGTH + 1] {
+        assert_eq!(Lent(vec![0; length]).number(&Call::Fresh), 1);
+        seen.insert((Call::Fresh.index(), 1));
+    }
+    for (mut lent, calls) in calls_without_room() {
+        for call in calls {
+            assert_eq!(lent.call(&call), [14, 0, 0, 0], "{call:?}");
+            seen.insert((call.index(), 14));
+        }
+    }
+    let known = |index: usize| CALLS[index].refusals.iter().map(move |&number| (index, number));
+    assert!(seen.into_iter().eq((0..CALLS.len()).flat_map(known)));
+}
+
+#[test]
+fn lower_numbers_come_before_no_room() {
+    assert_eq!(full_sdss().number(&new_sds("s1")), 11);
+    assert_eq!(full_types(0).number(&new_pair(1, "t1", "t1", 0, 0)), 11);
+    assert_eq!(full_presences(0).number(&import(2, 1, "only_here", "t0", "")), 11);
+    assert_eq!(full_applications().number(&apply(1, "a0", "o0")), 9);
+    assert_eq!(full_ends(0).number(&apply_link(1, "pair", "o0")), 9);
+}
+
+#[test]
+fn numbers_are_tested_at_full_width() {
+    let mut lent = some_base();
+    for over in [256, 1 << 32, 1 << 63] {
+        for call in [
+            remove_sds(3 + over),
+            new_object(1 + over, "new", "object"),
+            new_attribute(1 + over, "new", 0),
+            new_designation(1 + over, "new"),
+            new_pair(1 + over, "new", "newer", 0, 0),
+            import(2 + over, 1, "has", "", ""),
+            import(2, 1 + over, "has", "", ""),
+            apply(1 + over, "size", "part"),
+            unapply(1 + over, "size", "unit"),
+            apply_link(1 + over, "has", "part"),
+            unapply_link(1 + over, "has", "unit"),
+            add_destination(1 + over, "has", "part"),
+            remove_destination(1 + over, "of", "unit"),
+            remove_type(1 + over, "part"),
+            rename(1 + over, "part", "part"),
+            name(1 + over, UNIT),
+        ] {
+            assert_eq!(lent.number(&call), 2, "{call:?}");
+        }
+        for call in [
+            new_attribute(1, "new", over),
+            new_pair(1, "new", "newer", over, 0),
+            new_pair(1, "new", "newer", 0, over),
+            scan_object(&[1], UNIT, over),
+            scan_link(&[1], HAS, over),
+        ] {
+            assert_eq!(lent.number(&call), 5, "{call:?}");
+        }
+        for call in [
+            scan_object(&[1], UNIT + over, 0),
+            scan_link(&[1], HAS + over, 0),
+            profile(&[1], UNIT + over),
+            depth(&[1], UNIT + over),
+            name(1, UNIT + over),
+            descendant_set(&[1], UNIT + over),
+        ] {
+            assert_eq!(lent.number(&call), 6, "{call:?}");
+        }
+    }
+}
+
+// Both sides of each edge.
+
+#[test]
+fn fresh_base() {
+    let mut lent = Lent(vec![7; LENGTH]);
+    assert_eq!(lent.number(&depth(&[0], 0)), 1);
+    assert_eq!(keep(&mut lent.0, &mut [], &Call::Fresh), [0; 4]);
+    assert!(lent.0 == Lent::fresh().0);
+    assert_eq!(lent.call(&depth(&[0], 0)), [0; 4]);
+    assert_eq!(lent.call(&scan_object(&[0], 0, 1)), [0; 4]);
+    assert_eq!(lent.call(&descendant_set(&[0], 0)), [0; 4]);
+}
+
+#[test]
+fn length_and_first_byte_of_a_name() {
+    let mut lent = Lent::fresh();
+    assert_eq!(lent.number(&new_sds("abcdefghijklmnop")), 0);
+    assert_eq!(lent.number(&new_sds("abcdefghijklmnopq")), 4);
+    assert_eq!(lent.number(&new_sds("1a")), 4);
+    assert_eq!(lent.number(&new_sds("_a")), 4);
+    assert_eq!(lent.number(&new_sds("A_1")), 0);
+}
+
+#[test]
+fn number_of_parents() {
+    let mut lent = two_sdss();
+    for object in ["p", "q", "r", "s"] {
+        lent.done(&new_object(1, object, "object"));
+    }
+    assert_eq!(lent.number(&new_object(1, "none", "")), 5);
+    assert_eq!(lent.number(&new_object(1, "five", "p q r s object")), 5);
+    let four = lent.done(&new_object(1, "four", "s q p r"));
+    assert_eq!(lent.list(&scan_object(&[1], four, 2)).1, [1, 2, 3, 4]);
+    assert_eq!(TYPES.rows(&lent.0).nth(four), Some(&[1, 0, 0, 4, 1, 2, 3, 4][..]));
+}
+
+#[test]
+fn number_of_sdss() {
+    assert_eq!(full_sdss().number(&new_sds("one_more")), 14);
+    assert_eq!(full_sdss().number(&remove_sds(16)), 2);
+    assert_eq!(Lent::fresh().number(&new_sds("system")), 11);
+    let mut lent = full_sdss();
+    lent.done(&remove_sds(9));
+    lent.done(&remove_sds(4));
+    assert_eq!(lent.done(&new_sds("lowest_unused")), 4);
+}
+
+#[test]
+fn one_free_type_number() {
+    let mut lent = full_types(1);
+    assert_eq!(lent.number(&new_pair(1, "new", "newer", 0, 0)), 14);
+    assert_eq!(lent.done(&new_attribute(1, "new", 0)), 127);
+    // The two lowest unused numbers, which are no neighbours; the forward type takes the lower.
+    lent.done(&remove_type(1, "t90"));
+    lent.done(&remove_type(1, "t7"));
+    assert_eq!(lent.call(&new_pair(1, "pair", "reverse", 3, 2)), [0, 7, 90, 0]);
+}
+
+#[test]
+fn one_free_presence() {
+    let mut lent = full_presences(1);
+    assert_eq!(lent.number(&new_pair(1, "new", "newer", 0, 0)), 14);
+    assert_eq!(lent.number(&import(2, 1, "only_here", "", "")), 0);
+    assert_eq!(lent.number(&new_attribute(1, "new", 0)), 14);
+    lent.done(&remove_type(2, "only_here"));
+    assert_eq!(lent.number(&new_attribute(1, "new", 0)), 0);
+    // An imported pair takes two.
+    let mut lent = full_presences(3);
+    lent.done(&new_pair(1, "pair", "reverse", 0, 0));
+    assert_eq!(lent.number(&import(2, 1, "pair", "", "")), 14);
+    lent.done(&remove_type(2, "t0"));
+    assert_eq!(lent.number(&import(2, 1, "pair", "", "")), 0);
+}
+
+#[test]
+fn one_free_end() {
+    let mut lent = full_ends(1);
+    assert_eq!(lent.number(&apply_link(1, "pair", "last")), 14);
+    assert_eq!(lent.number(&add_destination(1, "pair", "last")), 14);
+    assert_eq!(lent.number(&apply_link(1, "designation", "last")), 0);
+    assert_eq!(lent.number(&add_destination(1, "designation", "last")), 14);
+    assert_eq!(full_ends(2).number(&add_destination(1, "pair", "last")), 0);
+}
+
+#[test]
+fn import_of_what_is_present() {
+    assert_eq!(some_base().number(&import(2, 1, "size", "", "")), 9);
+    assert_eq!(some_base().number(&import(2, 1, "size", "thing", "")), 9);
+}
+
+#[test]
+fn rename_to_its_own_name() {
+    let mut lent = some_base();
+    let before = lent.0.clone();
+    assert_eq!(lent.call(&rename(1, "part", "part")), [0; 4]);
+    assert!(lent.0 == before);
+    lent.done(&rename(1, "part", "a"));
+    assert_eq!(lent.number(&find(&[1], "part")), 6);
+    assert_eq!(lent.done(&find(&[1], "a")), PART);
+    lent.done(&rename(1, "a", "part"));
+    assert!(lent.0 == before);
+}
+
+#[test]
+fn categories_of_a_pair() {
+    for category in 0..6 {
+        for reverse_category in 0..6 {
+            let is_refused = category > 3 || reverse_category > 3 || (category, reverse_category) == (3, 3);
+            let call = new_pair(1, "new", "newer", category, reverse_category);
+            assert_eq!(some_base().number(&call), if is_refused { 5 } else { 0 });
+        }
+    }
+}
+
+#[test]
+fn length_of_an_output() {
+    let mut lent = some_base();
+    let ancestors = scan_object(&[1], PART, 3);
+    for (length, number) in [(0, 15), (2, 15), (3, 15), (4, 0), (5, 0), (6, 0)] {
+        assert_eq!(lent.with_output(&ancestors, length).0[0], number, "{length}");
+    }
+    assert_eq!(lent.with_output(&ancestors, 7), ([0, 2, 0, 0], vec![0, 0, UNIT as u8, 0, 0xee, 0xee, 0xee]));
+}
+
+#[test]
+fn worked_sequence() {
+    let mut lent = Lent::fresh();
+    assert_eq!(lent.call(&new_sds("bus")), [0, 1, 0, 0]);
+    assert_eq!(lent.call(&import(1, 0, "object", "", "")), [0, 0, 0, 0]);
+    assert_eq!(lent.call(&new_object(1, "unit", "object")), [0, 1, 0, 0]);
+    assert_eq!(lent.call(&new_object(1, "template", "unit")), [0, 2, 0, 0]);
+    assert_eq!(lent.call(&new_object(1, "radio", "unit")), [0, 3, 0, 0]);
+    assert_eq!(lent.call(&new_object(1, "fifo", "template radio")), [0, 4, 0, 0]);
+    assert_eq!(lent.call(&new_object(1, "fifo2", "radio template")), [0, 5, 0, 0]);
+    assert_eq!(lent.call(&find(&[1], "template")), [0, 2, 0, 0]);
+    assert_eq!(lent.list(&scan_object(&[1], 2, 1)), ([2, 0, 0], vec![4, 5]));
+    assert_eq!(lent.call(&find(&[1], "fifo")), [0, 4, 0, 0]);
+    assert_eq!(lent.call(&depth(&[1], 4)), [0, 3, 0, 0]);
+    assert_eq!(lent.call(&remove_type(1, "template")), [12, 0, 0, 0]);
+    assert_eq!(lent.call(&remove_type(1, "fifo")), [0, 4, 0, 0]);
+    assert_eq!(lent.call(&new_object(1, "adc", "fifo2")), [0, 4, 0, 0]);
+    assert_eq!(lent.list(&scan_object(&[1], 2, 1)), ([2, 0, 0], vec![4, 5]));
+    assert_eq!(lent.call(&depth(&[1], 4)), [0, 4, 0, 0]);
+    assert_eq!(lent.call(&descendant_set(&[1], 2)), [0, 0b11_0000, 0, 2]);
+}
+
+// What the calls do.
+
+#[test]
+fn import_of_a_pair_by_either_name() {
+    let mut lent = some_base();
+    assert_eq!(lent.call(&import(2, 1, "of", "first", "")), [0, 6, 5, 0]);
+    assert_eq!(lent.done(&find(&[2], "first")), 6);
+    assert_eq!(lent.done(&find(&[2], "has")), 5);
+    // The new names may be the old ones exchanged.
+    let mut lent = some_base();
+    assert_eq!(lent.call(&import(2, 1, "has", "of", "has")), [0, 5, 6, 0]);
+    assert_eq!(lent.done(&find(&[2], "of")), 5);
+}
+
+#[test]
+fn removed_type_stays_where_else_it_is_present() {
+    let mut lent = some_base();
+    lent.done(&import(2, 1, "of", "", ""));
+    for taken in [unapply_link(1, "has", "unit"), remove_type(1, "of"), unapply(1, "size", "unit")] {
+        lent.done(&taken);
+    }
+    assert_eq!(lent.number(&find(&[1], "has")), 6);
+    assert_eq!(lent.done(&find(&[2], "has")), HAS);
+    // Size has a presence in SDS 2 left, the designation type has none: its number is free.
+    lent.done(&remove_type(1, "size"));
+    lent.done(&remove_type(1, "sees"));
+    assert_eq!(lent.done(&new_attribute(1, "new", 0)), 4);
+}
+
+#[test]
+fn link_type_with_an_application_to_its_reverse_stays() {
+    let mut lent = some_base();
+    lent.done(&unapply_link(1, "has", "unit"));
+    lent.done(&apply(1, "size", "of"));
+    assert_eq!(lent.number(&remove_type(1, "has")), 12);
+    lent.done(&unapply(1, "size", "of"));
+    assert_eq!(lent.call(&remove_type(1, "has")), [0, HAS, 0, 0]);
+}
+
+#[test]
+fn ends_come_and_go_with_their_mirrors() {
+    let mut lent = some_base();
+    lent.done(&add_destination(1, "has", "part"));
+    assert_eq!(lent.list(&scan_link(&[1], 6, 0)).1, [2]);
+    lent.done(&unapply_link(1, "of", "part"));
+    lent.done(&remove_destination(1, "of", "unit"));
+    assert!(ENDS.rows(&lent.0).all(|row| row == [0; 4]));
+    lent.done(&add_destination(1, "sees", "part"));
+    assert_eq!(ENDS.rows(&lent.0).next(), Some(&[1, 4, 1, 2][..]));
+}
+
+/// Types 1 to 9: top, left, right (of top), low (of left and right), attributes 5 and 6, pair 7 and 8, designation 9.
+/// SDS 2 lacks the type low; each SDS has applications and ends of its own.
+fn scanned_base() -> Lent {
+    let mut lent = two_sdss();
+    for call in [
+        new_object(1, "top", "object"),
+        new_object(1, "left", "top"),
+        new_object(1, "right", "top"),
+        new_object(1, "low", "left right"),
+        new_attribute(1, "five", 5),
+        new_attribute(1, "six", 0),
+        new_pair(1, "seven", "eight", 1, 2),
+        new_designation(1, "nine"),
+        import(2, 1, "top", "", ""),
+        import(2, 1, "left", "", ""),
+        import(2, 1, "six", "five", ""),
+        import(2, 1, "seven", "", ""),
+        apply(1, "five", "low"),
+        apply(1, "six", "top"),
+        apply(1, "five", "nine"),
+        apply(2, "five", "left"),
+        apply_link(1, "seven", "left"),
+        apply_link(1, "nine", "low"),
+        add_destination(1, "nine", "top"),
+        add_destination(2, "seven", "top"),
+    ] {
+        lent.done(&call);
+    }
+    lent
+}
+
+#[test]
+fn scans_of_an_object_type() {
+    let (top, left, right, low) = (1, 2, 3, 4);
+    let expected: [(&[u8], usize, usize, &[u16]); 28] = [
+        (&[1], top, 0, &[2, 3]),
+        (&[2], top, 0, &[2]),
+        (&[], 0, 0, &[1]),
+        (&[1], top, 1, &[2, 3, 4]),
+        (&[2], 0, 1, &[1, 2]),
+        (&[1], low, 2, &[2, 3]),
+        (&[1], 0, 2, &[]),
+        (&[1], low, 3, &[0, 1, 2, 3]),
+        (&[2], left, 3, &[0, 1]),
+        (&[1], low, 4, &[5]),
+        (&[1], left, 4, &[]),
+        (&[2], left, 4, &[6]),
+        (&[1], low, 5, &[5, 6]),
+        (&[2], left, 5, &[6]),
+        (&[1], right, 5, &[6]),
+        (&[2], top, 5, &[]),
+        (&[1], left, 6, &[7]),
+        (&[1], low, 6, &[9]),
+        (&[2], left, 6, &[]),
+        (&[1], low, 7, &[7, 9]),
+        (&[2], left, 7, &[8]),
+        (&[], low, 7, &[7, 8, 9]),
+        (&[1], left, 8, &[8]),
+        (&[1], low, 8, &[]),
+        (&[2, 1], top, 8, &[7, 9]),
+        (&[1], low, 9, &[8, 9]),
+        (&[2], left, 9, &[7]),
+        (&[0], 0, 9, &[]),
+    ];
+    for (schema, ty, code, list) in expected {
+        let call = scan_object(schema, ty, code);
+        assert_eq!(scanned_base().list(&call), ([list.len(), 0, 0], list.to_vec()), "{call:?}");
+    }
+}
+
+#[test]
+fn scans_of_a_link_type() {
+    let (seven, eight, nine) = (7, 8, 9);
+    let expected: [(&[u8], usize, usize, &[u16]); 14] = [
+        (&[1], seven, 0, &[2]),
+        (&[2], seven, 0, &[]),
+        (&[2], eight, 0, &[1]),
+        (&[1], seven, 1, &[2, 4]),
+        (&[2], eight, 1, &[1, 2]),
+        (&[1, 2], eight, 1, &[1, 2, 3, 4]),
+        (&[1], seven, 2, &[]),
+        (&[2], seven, 2, &[1]),
+        (&[], eight, 2, &[2]),
+        (&[2], seven, 3, &[1, 2]),
+        (&[2, 1], seven, 3, &[1, 2, 3, 4]),
+        (&[1], nine, 3, &[1, 2, 3, 4]),
+        (&[1], nine, 4, &[5]),
+        (&[1], seven, 4, &[]),
+    ];
+    for (schema, ty, code, list) in expected {
+        let call = scan_link(schema, ty, code);
+        assert_eq!(scanned_base().list(&call), ([list.len(), 0, 0], list.to_vec()), "{call:?}");
+    }
+}
+
+#[test]
+fn profile_is_three_lists_one_behind_the_other() {
+    assert_eq!(scanned_base().list(&profile(&[1], 4)), ([4, 2, 2], vec![0, 1, 2, 3, 5, 6, 7, 9]));
+    assert_eq!(scanned_base().list(&profile(&[2], 2)), ([2, 1, 1], vec![0, 1, 6, 8]));
+    assert_eq!(scanned_base().list(&profile(&[0], 0)), ([0, 0, 0], vec![]));
+}
+
+#[test]
+fn find_takes_the_first_listed() {
+    let mut lent = scanned_base();
+    assert_eq!(lent.done(&find(&[1, 2], "five")), 5);
+    assert_eq!(lent.done(&find(&[2, 1], "five")), 6);
+    assert_eq!(lent.done(&find(&[2, 1], "low")), 4);
+    assert_eq!(lent.done(&find(&[], "five")), 5);
+    assert_eq!(lent.number(&find(&[2], "low")), 6);
+    assert_eq!(lent.number(&find(&[2, 2], "low")), 6);
+}
+
+#[test]
+fn depth_is_the_longest_way() {
+    let mut lent = scanned_base();
+    let deep = lent.done(&new_object(1, "deep", "object low"));
+    assert_eq!(lent.call(&depth(&[], deep)), [0, 4, 0, 0]);
+    assert_eq!(lent.number(&depth(&[2], deep)), 6);
+    // Many ways up: a chain in which each type has the four before it as parents.
+    let mut lent = two_sdss();
+    lent.done(&rename(1, "object", "t0"));
+    for number in 1..Schema::TYPES {
+        let parents: Vec<String> = (number.saturating_sub(4)..number).map(|parent| format!("t{parent}")).collect();
+        lent.done(&new_object(1, &format!("t{number}"), &parents.join(" ")));
+    }
+    assert_eq!(lent.call(&depth(&[1], 127)), [0, 127, 0, 0]);
+    assert_eq!(lent.call(&descendant_set(&[1], 0)), [0, usize::MAX - 1, usize::MAX, 127]);
+    assert_eq!(lent.call(&descendant_set(&[2], 0)), [0; 4]);
+}
+
+#[test]
+fn name_is_a_stretch_of_the_base() {
+    let mut lent = scanned_base();
+    for (sds, ty, expected) in [(0, 0, "object"), (1, 0, "object"), (1, 4, "low"), (2, 6, "five"), (2, 1, "top")] {
+        let [no, start, length, three] = lent.call(&name(sds, ty));
+        assert_eq!((no, &lent.0[start..][..length], three), (0, expected.as_bytes(), 0));
+    }
+}
+
+// The base in bytes.
+
+#[test]
+fn layout() {
+    let starts = [SDSS, TYPES, PRESENCES, APPLICATIONS, ENDS].map(|table| table.start);
+    assert_eq!((starts, LENGTH), ([0, 256, 1280, 10496, 11264], 13312));
+    let mut fresh = vec![0; LENGTH];
+    fresh[..6].copy_from_slice(b"system");
+    fresh[256] = 1;
+    fresh[1281..1287].copy_from_slice(b"object");
+    assert!(Lent::fresh().0 == fresh);
+
+    let base = some_base().0;
+    assert_eq!(base[16..32], *b"one\0\0\0\0\0\0\0\0\0\0\0\0\0");
+    let types: Vec<&[u8]> = TYPES.rows(&base).skip(1).take(7).collect();
+    assert_eq!(types[0], [1, 0, 0, 1, 0, 0, 0, 0]);
+    assert_eq!(types[1], [1, 0, 0, 1, 1, 0, 0, 0]);
+    assert_eq!(types[2], [2, 1, 0, 0, 0, 0, 0, 0]);
+    assert_eq!(types[3], [3, 4, 0, 0, 0, 0, 0, 0]);
+    assert_eq!(types[4], [3, 0, 6, 0, 0, 0, 0, 0]);
+    assert_eq!(types[5], [3, 3, 5, 0, 0, 0, 0, 0]);
+    assert_eq!(types[6], [0; 8]);
+    let presences: Vec<(u8, &[u8], u8)> =
+        PRESENCES.rows(&base).take(11).map(|row| (row[0], row[1..17].trim_ascii_end(), row[17])).collect();
+    let names = presences.iter().map(|(_, name, _)| name.split(|&byte| byte == 0).next().unwrap());
+    let expected = ["object", "has", "object", "of", "part", "sees", "size", "unit", "thing", "unit", ""];
+    assert!(names.eq(expected.map(str::as_bytes)));
+    assert!(presences.iter().map(|row| row.0).eq([0, 1, 1, 1, 1, 1, 1, 1, 2, 2, 0]));
+    assert!(presences.iter().map(|row| row.2).eq([0, 5, 0, 6, 2, 4, 3, 1, 0, 3, 0]));
+    assert!(APPLICATIONS.rows(&base).take(2).eq([&[1, 1, 3][..], &[0, 0, 0]]));
+    assert!(ENDS.rows(&base).take(3).eq([&[1, 5, 0, 1][..], &[1, 6, 1, 1], &[0, 0, 0, 0]]));
+}
+
+/// A schema with one fault, laid out as it should be, is refused; `some_base` has none.
+#[test]
+fn each_sentence_of_soundness() {
+    let is_sound_after = |spoil: fn(&mut Schema)| {
+        let mut schema = from_bytes(&some_base().0).expect("a sound base");
+        spoil(&mut schema);
+        is_sound(&to_bytes(&schema))
+    };
+    fn one(schema: &mut Schema) -> &mut Sds {
+        schema.sdss.get_mut(&1).unwrap()
+    }
+    fn object(parents: &[usize]) -> Type {
+        Type::Object { parents: parents.iter().copied().collect() }
+    }
+    fn link(category: usize, reverse: usize) -> Type {
+        Type::Link { category, reverse: Some(reverse) }
+    }
+    assert!(is_sound_after(|_| {}));
+    let faults: [fn(&mut Schema); 42] = [
+        |s| one(s).name = b"two".to_vec(),
+        |s| one(s).name = b"o ne".to_vec(),
+        |s| {
+            one(s).presences.remove(&b"part"[..]);
+            one(s).presences.insert(b"pa rt".to_vec(), PART);
+        },
+        |s| _ = one(s).presences.insert(b"again".to_vec(), SIZE),
+        |s| _ = one(s).presences.insert(b"unused".to_vec(), 7),
+        |s| _ = one(s).presences.insert(b"unused".to_vec(), 128),
+        |s| _ = s.sdss.get_mut(&0).unwrap().presences.insert(b"size".to_vec(), SIZE),
+        |s| s.sdss.get_mut(&0).unwrap().name = b"systems".to_vec(),
+        |s| s.sdss.get_mut(&0).unwrap().presences = [(b"thing".to_vec(), 0)].into(),
+        |s| _ = s.sdss.remove(&0),
+        |s| _ = s.types.insert(0, Type::Attribute { value_kind: 0 }),
+        |s| _ = s.types.insert(0, object(&[UNIT])),
+        |s| _ = s.types.insert(UNIT, object(&[])),
+        |s| _ = s.types.insert(UNIT, object(&[UNIT])),
+        |s| _ = s.types.insert(UNIT, object(&[0, PART])),
+        |s| _ = s.types.insert(UNIT, object(&[0, SIZE])),
+        |s| _ = s.types.insert(UNIT, object(&[0, HAS])),
+        |s| _ = s.types.insert(UNIT, object(&[0, 7])),
+        |s| _ = s.types.insert(UNIT, object(&[0, 200])),
+        |s| _ = s.types.insert(7, Type::Attribute { value_kind: 0 }),
+        |s| _ = s.types.insert(SIZE, Type::Attribute { value_kind: 6 }),
+        |s| _ = s.types.insert(HAS, link(3, 6)),
+        |s| _ = s.types.insert(HAS, link(4, 6)),
+        |s| _ = s.types.insert(HAS, link(5, 6)),
+        |s| _ = s.types.insert(HAS, link(0, HAS)),
+        |s| _ = s.types.insert(HAS, link(0, 4)),
+        |s| _ = s.types.insert(HAS, link(0, UNIT)),
+        |s| _ = s.types.insert(HAS, Type::Link { category: 0, reverse: None }),
+        |s| _ = s.types.insert(4, Type::Link { category: 2, reverse: None }),
+        |s| _ = s.types.insert(4, link(2, HAS)),
+        |s| _ = one(s).presences.remove(&b"unit"[..]),
+        |s| _ = one(s).presences.remove(&b"of"[..]),
+        |s| _ = one(s).presences.remove(&b"size"[..]),
+        |s| _ = one(s).applications.insert(Application { to: SIZE, attribute: SIZE }),
+        |s| _ = one(s).applications.insert(Application { to: UNIT, attribute: PART }),
+        |s| _ = s.sdss.get_mut(&2).unwrap().applications.insert(Application { to: UNIT, attribute: SIZE }),
+        |s| _ = one(s).ends.insert(End { link: 4, side: Side::Origin, object: SIZE }),
+        |s| _ = one(s).ends.insert(End { link: UNIT, side: Side::Origin, object: UNIT }),
+        |s| _ = s.sdss.get_mut(&2).unwrap().ends.insert(End { link: 4, side: Side::Origin, object: 0 }),
+        |s| _ = one(s).ends.pop_first(),
+        |s| _ = one(s).ends.pop_last(),
+        |s| _ = one(s).ends.insert(End { link: HAS, side: Side::Destination, object: UNIT }),
+    ];
+    for (number, fault) in faults.into_iter().enumerate() {
+        assert!(!is_sound_after(fault), "fault {number}");
+    }
+}
+
+#[test]
+fn each_rule_of_the_layout() {
+    let spoilt = |at: usize, bytes: &[u8]| {
+        let mut base = some_base().0;
+        base[at..][..bytes.len()].copy_from_slice(bytes);
+        is_sound(&base)
+    };
+    let presence = |row: usize| PRESENCES.start + row * PRESENCES.width;
+    assert!(spoilt(0, b"system"));
+    // Padding of a name, and a name of no SDS.
+    assert!(!spoilt(16, b"one\0a"));
+    assert!(!spoilt(15 * 16 + 1, b"a"));
+    assert!(!spoilt(presence(1) + 1, b"has\0a"));
+    // Fields that a kind lacks, and an unused type.
+    for (row, field) in [(1, 1), (1, 2), (1, 5), (3, 2), (3, 3), (3, 4), (5, 3), (5, 7), (7, 1), (127, 7)] {
+        assert!(!spoilt(TYPES.start + row * TYPES.width + field, &[1]), "{row} {field}");
+    }
+    // Parents that are not rising; more than there is room for.
+    assert!(spoilt(TYPES.start + 2 * TYPES.width + 3, &[2, 0, 1]));
+    assert!(!spoilt(TYPES.start + 2 * TYPES.width + 3, &[2, 1, 0]));
+    assert!(!spoilt(TYPES.start + 2 * TYPES.width + 3, &[2, 1, 1]));
+    assert!(!spoilt(TYPES.start + 2 * TYPES.width + 3, &[5, 0, 1, 3, 4]));
+    assert!(!spoilt(TYPES.start, &[4]));
+    // Rows that are not rising, and rows behind a gap.
+    assert!(!spoilt(presence(1) + 1, b"p\0\0"));
+    assert!(!spoilt(presence(11) + 17, &[1]));
+    assert!(!spoilt(ENDS.start, &[1, 6, 1, 1, 1, 5, 0, 1]));
+    assert!(!spoilt(ENDS.start + 4, &[1, 5, 0, 1]));
+    assert!(!spoilt(ENDS.start + 8, &[0, 0, 0, 0, 1, 6, 1, 2]));
+    assert!(!spoilt(ENDS.start + 4, &[1, 6, 2, 1]));
+    assert!(!spoilt(APPLICATIONS.start, &[0, 0, 0, 1, 1, 3]));
+    // An SDS that is not used, in each table.
+    assert!(!spoilt(presence(10), &[3 + 1, b'a', 0]));
+    assert!(!spoilt(APPLICATIONS.start, &[4]));
+    assert!(!spoilt(ENDS.start, &[4, 5, 0, 1, 4, 6, 1, 1]));
+}
+
+#[test]
+fn every_way_of_spoiling() {
+    let mut random = Random::new(1);
+    let base = scanned_base().0;
+    for (name, way) in &WAYS {
+        let bases = (0..200).map(|_| spoiled(way, &mut random, &base));
+        assert!(bases.filter(|spoiled| !is_sound(spoiled)).count() > 40, "{name}");
+    }
+}
+
+/// A run in each mode finds no fault. Where a table is to be full, it has none, one and two places left.
+#[test]
+fn a_short_run() {
+    let mut run = Run::new(None);
+    for (number, mode) in Mode::ALL.into_iter().enumerate() {
+        run.begin(7, number).unwrap();
+        let mut free = BTreeSet::new();
+        for _ in 0..1500 {
+            run.step().unwrap();
+            free.insert(free_places(mode, &run.schema));
+        }
+        for _ in 0..100 {
+            run.spoiled_step().unwrap();
+        }
+        match mode {
+            Mode::Small | Mode::Growing => {}
+            Mode::Deep => assert!(run.schema.types.keys().any(|&ty| run.schema.longest_way_up(ty) > 90)),
+            _ => assert!(free.is_superset(&[0, 1, 2].into()), "{mode:?}"),
+        }
+    }
+}

@@ -3,18 +3,18 @@ use Prim.Native.Nat.{ℕ, _+_, _*_, _-_, _≤_, _<_}
 use native.Mathlib.Omega.{arith}
 use mathlib.Core.Path.{_≡_, refl, sym, ap, _∙_}
 use mathlib.Core.List.{List, []}
-use mathlib.Core.Bool.{Bool, true, false, not, _&&_}
+use mathlib.Core.Bool.{Bool, true, false, not}
 use lib.Dec.{leb, eqb}
 use lib.ListN.{length, getD, take, drop}
 use borrow.Author.Tests.{leb-true, leb-false, eq-eqb, eqb-true}
 use Rattle.rules.specs.declared.Answer.{Answer}
 use Rattle.rules.specs.04-Schema.{Schema, Presence, system-presence, holds-type, present, local-name}
 use Rattle.rules.specs.07-Picture.{Sound, name-start}
-use Rattle.rules.specs.09-Refusals.{Outcome, refusal, success, not-present}
+use Rattle.rules.specs.09-Refusals.{Outcome, not-present}
 use Rattle.rules.specs.09-Refusals.Outcome.{done}
 use Rattle.rules.specs.11-Asks.{place, name, name-refusals}
 use Rattle.rules.specs.12-Contracts.{Answered, Handed, stretch}
-use Rattle.rules.proofs.Bools.{and-both, and-of, and-rest}
+use Rattle.rules.proofs.Bools.{and-both, and-of}
 use Rattle.rules.proofs.01-Lists.{any-at, any-none}
 use Rattle.rules.proofs.07-Picture.{strip}
 use Rattle.rules.proofs.09-Refusals.{Left}

@@ -1,12 +1,10 @@
 use borrow.Author.Needs.{needs}
 use Prim.Native.Nat.{ℕ, _<_}
 use native.Mathlib.Omega.{arith}
-use mathlib.Core.Path.{_≡_, sym, ap, _∙_}
+use mathlib.Core.Path.{sym, _∙_}
 use mathlib.Core.List.{List}
-use mathlib.Core.Bool.{true}
 use lib.ListN.{drop}
 use borrow.Author.Tests.{not-true, not-false}
-use Rattle.rules.specs.04-Schema.{used-sds}
 use Rattle.rules.specs.07-Picture.{Sound}
 use Rattle.rules.specs.09-Refusals.{success}
 use Rattle.rules.specs.11-Asks.{name, name-refusals}
@@ -21,9 +19,12 @@ use Rattle.ask.proofs.name_place.Tie as tie
 sound-1 : (c : tie.Else1) → Sound (c .before .before .before .args .base .now)
 sound-1 c = c .before .is-sound .ensures .holds (not-false _ (c .if1 .left))
 
-left-2 : (c : tie.Else2) → Left (name (c .before .before .before .before .before .args .sds) (c .before .before .before .before .before .args .t) (schema-of (c .before .before .before .before .before .args .base .now)))
-    (drop 1 (name-refusals (c .before .before .before .before .before .args .sds) (c .before .before .before .before .before .args .t) (schema-of (c .before .before .before .before .before .args .base .now))))
-    (name-effect (c .before .before .before .before .before .args .sds) (c .before .before .before .before .before .args .t) (schema-of (c .before .before .before .before .before .args .base .now)))
+-- what the test of the SDS leaves
+abbrev Known : List ℕ → ℕ → ℕ → Type 0
+Known b d t = Left (name d t (schema-of b)) (drop 1 (name-refusals d t (schema-of b))) (name-effect d t (schema-of b))
+
+left-2 : (c : tie.Else2) → Known (c .before .before .before .before .before .args .base .now)
+    (c .before .before .before .before .before .args .sds) (c .before .before .before .before .before .args .t)
 left-2 c = passes (name-left _ _ _) (known _ (sound-long (sound-1 (c .before .before))) _ (sym (c .before .is-sds .ensures) ∙ not-false _ (c .if2 .left)))
 
 -- a row that is not behind the last is one of them
@@ -46,7 +47,10 @@ refused-requires-2 : tie.Need-refused-requires-2
 refused-requires-2 c κs = search needs
 
 returns-2 : tie.Need-returns-2
-returns-2 c = answered-as (sound-1 (c .before .before .before)) (stops (name-left _ _ _) (unknown _ (sound-long (sound-1 (c .before .before .before))) _ (sym (c .before .before .is-sds .ensures) ∙ not-true _ (c .before .if2 .taken)))) (c .refused2 .ensures)
+returns-2 c =
+    answered-as (sound-1 (c .before .before .before))
+    (stops (name-left _ _ _) (unknown _ (sound-long (sound-1 (c .before .before .before))) _ (sym (c .before .before .is-sds .ensures) ∙ not-true _ (c .before .if2 .taken))))
+    (c .refused2 .ensures)
 
 presence-row-requires : tie.Need-presence-row-requires
 presence-row-requires c κs = sound-long (sound-1 (c .before .before))
@@ -58,13 +62,20 @@ refused-requires-3 : tie.Need-refused-requires-3
 refused-requires-3 c κs = search needs
 
 returns-3 : tie.Need-returns-3
-returns-3 c = answered-as (sound-1 (c .before .before .before .before .before .before)) (stops (left-2 (c .before .before .before .before)) (name-nowhere _ _ _ (c .before .before .before .presence-row .ensures) (c .before .if3 .taken ∙ c .before .before .presence-count .ensures .is))) (c .refused3 .ensures)
+returns-3 c =
+    answered-as (sound-1 (c .before .before .before .before .before .before))
+    (stops (left-2 (c .before .before .before .before))
+    (name-nowhere _ _ _ (c .before .before .before .presence-row .ensures) (c .before .if3 .taken ∙ c .before .before .presence-count .ensures .is)))
+    (c .refused3 .ensures)
 
 name-at-requires : tie.Need-name-at-requires
 name-at-requires c κs = omega (arith, row-3 c, c .before .presence-count .ensures .fits, c .before .presence-count .ensures .is)
 
 name-length-requires : tie.Need-name-length-requires
-name-length-requires c κs = (sound-long (sound-1 (c .before .before .before .before .before .before)), omega (arith, row-3 (c .before), c .before .before .presence-count .ensures .fits, c .before .before .presence-count .ensures .is))
+name-length-requires c κs = (
+  sound-long (sound-1 (c .before .before .before .before .before .before)),
+  omega (arith, row-3 (c .before), c .before .before .presence-count .ensures .fits, c .before .before .presence-count .ensures .is),
+)
 
 done-requires : tie.Need-done-requires
 done-requires c κs = search needs

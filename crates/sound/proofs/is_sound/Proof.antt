@@ -78,7 +78,8 @@ returns-9 c =
       holds = λ e. whole-sound
           (c .before .before .before .before .before .before .before .before .before .before .before .before .before .before .before .before .before .args .base .now) (record {
             long = c .before .before .before .before .before .before .before .before .before .before .before .before .before .before .before .if1 .left;
-            sdss = c .before .before .before .before .before .before .before .before .before .before .before .before .before .before .sdss-fine .ensures .holds (not-false _ (c .before .before .before .before .before .before .before .before .before .before .before .before .before .if2 .left));
+            sdss = c .before .before .before .before .before .before .before .before .before .before .before .before .before .before .sdss-fine .ensures .holds
+                (not-false _ (c .before .before .before .before .before .before .before .before .before .before .before .before .before .if2 .left));
             kinds = c .before .before .before .before .before .before .before .before .before .before .before .before .kinds-fine .ensures .holds
                 (not-false _ (c .before .before .before .before .before .before .before .before .before .before .before .if3 .left));
             parents = c .before .before .before .before .before .before .before .before .before .before .parents-fine .ensures .holds (not-false _

@@ -10,7 +10,7 @@ use Rattle.rules.specs.declared.Answer.{Answer}
 use Rattle.rules.specs.04-Schema.{Schema}
 use Rattle.rules.specs.07-Picture.{Sound, base-length}
 use Rattle.rules.specs.09-Refusals.{Outcome}
-use Rattle.rules.specs.12-Contracts.{Kept, Listed, Answered, Freshened}
+use Rattle.rules.specs.12-Contracts.{Kept, Listed, Answered, Handed, Freshened}
 
 weakly : {A P : Type 0} → (A → P) → ((A → ⊥) → P) → (P → ⊥) → ⊥
 weakly f g n = n (g (λ a. n (f a)))
@@ -67,5 +67,11 @@ module _ {b : List ℕ} {a a′ : Answer} {x x′ : List ℕ} where
 pub answered-once : {b : List ℕ} {rule : Schema → Outcome (List ℕ)} {a a′ : Answer} → Answered b rule a → Answered b rule a′ → a ≡ a′
 answered-once {b} {a = a} {a′ = a′} k k′ =
     same-answer (Sound b) a a′
+    (λ s. k .kept (s .schema) (s .good) (s .shown) ∙ sym (k′ .kept (s .schema) (s .good) (s .shown)))
+    (λ n. k .spoiled n ∙ sym (k′ .spoiled n))
+
+pub handed-once : {b : List ℕ} {rule : Schema → Outcome (List ℕ)} {part part′ : List ℕ} → Handed b rule part → Handed b rule part′ → part ≡ part′
+handed-once {b} {part = part} {part′ = part′} k k′ =
+    same-list (Sound b) part part′
     (λ s. k .kept (s .schema) (s .good) (s .shown) ∙ sym (k′ .kept (s .schema) (s .good) (s .shown)))
     (λ n. k .spoiled n ∙ sym (k′ .spoiled n))

@@ -1,5 +1,5 @@
 -- What each function of the keeper promises, for every input: one sentence for all changing calls, one for all that put a list
--- down, one for all that only answer, and *fresh*.
+-- down, one for all that only answer, one for the part that *name* hands back, and *fresh*.
 use Prim.Native.Nat.{ℕ, _/_, _%_}
 use mathlib.Core.Path.{_≡_}
 use mathlib.Core.List.{List, [], _∷_, _++_}

@@ -56,7 +56,7 @@ module _ (p q : ℕ → Bool) (part : (k : ℕ) → p k ≡ true → q k ≡ tru
 -- ---- the count
 
 -- the numbers of two stretches
-numbers-add : (p : ℕ → Bool) (a m n : ℕ) → numbers a (m + n) p ≡ numbers a m p ++ numbers (a + m) n p
+pub numbers-add : (p : ℕ → Bool) (a m n : ℕ) → numbers a (m + n) p ≡ numbers a m p ++ numbers (a + m) n p
 unfolding numbers
 numbers-add p a zero n = rw (zero-add n, add-zero a)
 numbers-add p a (suc m) n = rw (suc-add m n, numbers-add p (suc a) m n, suc-add a m, add-suc a m) (go (p a))

@@ -1,2 +1,3 @@
 pub mod Set
 pub mod Round
+pub mod Put

@@ -1,0 +1,10 @@
+-- What a set of SDSs shows.
+use Prim.Native.Nat.{ℕ}
+use mathlib.Core.List.{List}
+use mathlib.Core.Bool.{Bool, _&&_}
+use lib.Dec.{eqb}
+use Rattle.rules.specs.01-Lists.{any}
+
+-- k is the type that some row which passes puts in
+unfoldable pub gathered : {A : Type 0} → (A → Bool) → (A → ℕ) → List A → ℕ → Bool
+gathered test type rows k = any (λ x. test x && eqb k (type x)) rows

@@ -1,0 +1,2 @@
+// What a working schema, a list of SDSs, shows of a lent base.
+pub mod shown;

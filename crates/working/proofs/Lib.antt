@@ -1,2 +1,3 @@
+pub mod ListedLaws
 pub mod ShownLaws
 pub mod Rules

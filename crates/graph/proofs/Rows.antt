@@ -124,6 +124,13 @@ module _ {b : List ℕ} (rows : Parental b) where
     parent-byte : (i : ℕ) → i < length (parents-in (kind-shown b t)) → getD (parents-in (kind-shown b t)) i 0 ≡ getD b (type-at t + 4 + i) 0
     parent-byte i l = ap (λ (r : List ℕ). getD r i 0) parents-are ∙ part-byte b (type-at t + 4) (length (parents-in (kind-shown b t))) i l
 
+    -- the list of the parents, by its length and its places
+    pub parents-count : length (parents (schema-of b) t) ≡ getD b (type-at t + 3) 0
+    parents-count = ap length shown ∙ sym counted
+
+    pub parents-place : (i : ℕ) → i < getD b (type-at t + 3) 0 → getD (parents (schema-of b) t) i 0 ≡ getD b (type-at t + 4 + i) 0
+    parents-place i l = ap (λ (r : List ℕ). getD r i 0) shown ∙ parent-byte i (omega (arith, counted))
+
     -- what stands at a place below the count is a parent, and every parent stands at such a place
     pub parent-at : (i : ℕ) → i < getD b (type-at t + 3) 0 → Parent (schema-of b) t (getD b (type-at t + 4 + i) 0)
     parent-at i l =

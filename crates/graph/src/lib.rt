@@ -1,4 +1,6 @@
 // Whether no type is its own ancestor, from the rows of types alone.
+pub mod kin;
+
 use marks::TypeSet;
 use rules::Limits;
 ghost use mathlib.Core.Path.{_≡_};

@@ -1,0 +1,74 @@
+-- `graph::kin::children_of` meets its contract: after each type the set has those so far that have a parent in the set asked about.
+-- Assumes nothing.
+use Prim.Native.Nat.{ℕ, _-_, _≤_}
+use mathlib.Core.Path.{_≡_, sym, ap, _∙_}
+use mathlib.Core.Bool.{Bool, _||_}
+use mathlib.Core.Logic.{⊎-elim}
+use native.Mathlib.Omega.{arith}
+use lib.Dec.{eqb}
+use Rattle.base.specs.Back.{schema-of}
+use Rattle.marks.specs.declared.TypeSet.{TypeSet}
+use Rattle.marks.specs.Set.{has}
+use Rattle.marks.specs.Round.{grow-to}
+use Rattle.marks.proofs.Round.{grow-none, grow-add, grow-skip}
+use Rattle.graph.specs.Kin.{children-of}
+use Rattle.graph.proofs.KinLaws.{children-all}
+use Rattle.graph.proofs.kin.children_of.Statement.{statement}
+use Rattle.graph.proofs.kin.children_of.Tie as tie
+
+abbrev Inv-loop : tie.InvT-loop
+Inv-loop base s r₀ t₀ r t = (t ≤ 128) × ((k : ℕ) → has r k ≡ grow-to t (children-of (schema-of base) (has s)) (has r₀) k)
+
+abbrev μ-loop : tie.MeasureT-loop
+μ-loop base s r₀ t₀ r t = 128 - t
+
+empty-requires : tie.Need-empty-requires Inv-loop μ-loop
+empty-requires c κs = tt
+
+loop-holds : tie.Need-loop-holds Inv-loop μ-loop
+loop-holds c = (omega arith, grow-none _ _)
+
+has-parent-in-requires : tie.Need-has-parent-in-requires Inv-loop μ-loop
+has-parent-in-requires c κs = (c .before .before .before .before .pre, omega arith)
+
+add-requires : tie.Need-add-requires Inv-loop μ-loop
+add-requires c κs = omega arith
+
+add-t : tie.Need-add-t Inv-loop μ-loop
+add-t c = omega arith
+
+loop-less : tie.Need-loop-less Inv-loop μ-loop
+loop-less c = omega arith
+
+loop-again : tie.Need-loop-again Inv-loop μ-loop
+loop-again c =
+    let l = c .before .before .before .loop in
+    let child = sym (c .before .has-parent-in .ensures) in (
+      omega arith,
+      λ k. ⊎-elim
+          (λ w.
+          ap (λ (x : TypeSet). has x k) (w .2) ∙ w .1 .ensures k ∙ ap (λ (x : Bool). eqb k (l .t) || x) (l .inv .1 k)
+          ∙ grow-add _ _ (l .t) (child ∙ w .0 .taken) k)
+          (λ w. ap (λ (x : TypeSet). has x k) (w .1) ∙ l .inv .1 k ∙ grow-skip _ _ (l .t) (child ∙ w .0 .left) k)
+          (c .if1 .came),
+    )
+
+returns : tie.Need-returns Inv-loop μ-loop
+returns c =
+    let s = c .before .before .before .before .args in
+    children-all (s .base .now) (has (s .s)) _ _ (c .before .loop .t) (omega arith) (c .before .before .empty .ensures) (c .before .loop .inv .1)
+
+pub children-of-spec : {M : Type 1} → statement M
+children-of-spec =
+    tie.close
+    (tie.spec
+    Inv-loop
+    μ-loop
+    empty-requires
+    loop-holds
+    has-parent-in-requires
+    add-requires
+    add-t
+    loop-less
+    loop-again
+    returns)

@@ -1,0 +1,72 @@
+// The kin of a set of types, from the rows of types alone: parents, children, ancestors, descendants; and the depth of a type.
+use marks::TypeSet;
+use rules::Limits;
+ghost use mathlib.Core.Path.{_≡_};
+ghost use mathlib.Core.Bool.{_||_};
+ghost use Prim.Native.Nat.{ℕ, _<_};
+ghost use Rattle.rules.specs.04-Schema.{is-parent};
+ghost use Rattle.base.specs.Back.{schema-of};
+ghost use Rattle.marks.specs.Set.{has};
+ghost use Rattle.graph.specs.Graph.{Parental};
+ghost use Rattle.graph.specs.Kin.{parents-of, children-of};
+
+fn add_parents(base: &[u8], t: usize, s: TypeSet) -> TypeSet
+    requires { ⌜ Parental (now base) × (t < 128) ⌝ }
+    ensures { λ r. ⌜ ((k : ℕ) → has r k ≡ is-parent (schema-of (now (base .entry))) t k || has s k) ⌝ }
+{
+    let n = base::parent_count(base, t);
+    let mut r = s;
+    let mut i: usize = 0;
+    while i < n {
+        let a = base::parent(base, t, i);
+        r = r.add(a);
+        i += 1;
+    }
+    r
+}
+
+pub fn parents_of(base: &[u8], s: TypeSet) -> TypeSet
+    requires { ⌜ Parental (now base) ⌝ }
+    ensures { λ r. ⌜ ((k : ℕ) → has r k ≡ parents-of (schema-of (now (base .entry))) (has s) k) ⌝ }
+{
+    let mut r = TypeSet::empty();
+    let mut t: usize = 0;
+    while t < Limits::TYPES {
+        if s.test(t) {
+            r = add_parents(base, t, r);
+        }
+        t += 1;
+    }
+    r
+}
+
+fn has_parent_in(base: &[u8], t: usize, s: TypeSet) -> bool
+    requires { ⌜ Parental (now base) × (t < 128) ⌝ }
+    ensures { λ r. ⌜ r ≡ children-of (schema-of (now (base .entry))) (has s) t ⌝ }
+{
+    let n = base::parent_count(base, t);
+    let mut i: usize = 0;
+    while i < n {
+        let a = base::parent(base, t, i);
+        if s.test(a) {
+            return true;
+        }
+        i += 1;
+    }
+    false
+}
+
+pub fn children_of(base: &[u8], s: TypeSet) -> TypeSet
+    requires { ⌜ Parental (now base) ⌝ }
+    ensures { λ r. ⌜ ((k : ℕ) → has r k ≡ children-of (schema-of (now (base .entry))) (has s) k) ⌝ }
+{
+    let mut r = TypeSet::empty();
+    let mut t: usize = 0;
+    while t < Limits::TYPES {
+        if has_parent_in(base, t, s) {
+            r = r.add(t);
+        }
+        t += 1;
+    }
+    r
+}

@@ -1,4 +1,6 @@
-// The asking calls. They read a sound base, and change nothing.
+// The asking calls. They read a sound base, and change nothing but an output.
+pub mod view;
+
 use base::Base;
 use rules::Answer;
 use rules::Limits;

@@ -1,3 +1,4 @@
 pub mod ListedLaws
+pub mod FindLaws
 pub mod ShownLaws
 pub mod Rules

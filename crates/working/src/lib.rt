@@ -1,3 +1,4 @@
 // What a working schema, a list of SDSs, shows of a lent base.
+pub mod find;
 pub mod listed;
 pub mod shown;

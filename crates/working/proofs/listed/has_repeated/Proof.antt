@@ -36,8 +36,9 @@ test-requires c κs =
 
 returns : tie.Need-returns Inv-loop μ-loop
 returns c =
-    sym (met-twice (c .before .before .before .before .before .loop .inv .1) (c .before .before .before .before .loop-test .taken)
-    (ap (has (c .before .before .before .before .before .loop .met)) (sym (c .before .before .wide .ensures)) ∙ sym (c .before .test .ensures) ∙ c .if1 .taken))
+    let l = c .before .before .before .before .before .loop in
+    sym (met-twice (l .inv .1) (c .before .before .before .before .loop-test .taken)
+    (ap (has (l .met)) (sym (c .before .before .wide .ensures)) ∙ sym (c .before .test .ensures) ∙ c .if1 .taken))
 
 add-requires : tie.Need-add-requires Inv-loop μ-loop
 add-requires c κs =

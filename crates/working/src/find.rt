@@ -40,15 +40,15 @@ fn row_named(base: &[u8], d: usize, name: &[u8]) -> usize
     requires { ⌜ length (now base) ≡ base-length ⌝ }
     ensures { λ r. ⌜ Named-row (now (base .entry)) (presence-count (now (base .entry))) d (now (name .entry)) r ⌝ }
 {
-    let n = base::used::presence_count(base);
-    let mut i = 0;
-    while i < n {
-        if is_named(base, i, d, name) {
-            return i;
+    let rows = base::used::presence_count(base);
+    let mut row = 0;
+    while row < rows {
+        if is_named(base, row, d, name) {
+            return row;
         }
-        i += 1;
+        row += 1;
     }
-    i
+    row
 }
 
 // The type that bears the name in the first listed SDS that has it; as many as there are types where none has it.

@@ -42,14 +42,14 @@ pub fn has_repeated(schema: &[u8]) -> bool
     ensures { λ r. ⌜ r ≡ repeated (now (schema .entry)) ⌝ }
 {
     let mut met = TypeSet::empty();
-    let mut i = 0;
-    while i < schema.len() {
-        let d = wide(schema[i]);
+    let mut at = 0;
+    while at < schema.len() {
+        let d = wide(schema[at]);
         if met.test(d) {
             return true;
         }
         met = met.add(d);
-        i += 1;
+        at += 1;
     }
     false
 }

@@ -11,10 +11,10 @@ use Rattle.working.proofs.find.row_named.Statement.{statement}
 use Rattle.working.proofs.find.row_named.Tie as tie
 
 abbrev Inv-loop : tie.InvT-loop
-Inv-loop base d name n i₀ i = (i ≤ n) × ((k : ℕ) → k < i → holds-name d name (presence-shown base k) ≡ false)
+Inv-loop base d name rows row₀ row = (row ≤ rows) × ((k : ℕ) → k < row → holds-name d name (presence-shown base k) ≡ false)
 
 abbrev μ-loop : tie.MeasureT-loop
-μ-loop base d name n i₀ i = n - i
+μ-loop base d name rows row₀ row = rows - row
 
 presence-count-requires : tie.Need-presence-count-requires Inv-loop μ-loop
 presence-count-requires c κs = search needs
@@ -33,8 +33,8 @@ returns c =
       found = λ h. sym (c .before .is-named .ensures) ∙ c .if1 .taken;
     }
 
-add-i : tie.Need-add-i Inv-loop μ-loop
-add-i c = search needs
+add-row : tie.Need-add-row Inv-loop μ-loop
+add-row c = search needs
 
 loop-less : tie.Need-loop-less Inv-loop μ-loop
 loop-less c = search needs
@@ -60,7 +60,7 @@ row-named-spec =
     loop-holds
     is-named-requires
     returns
-    add-i
+    add-row
     loop-less
     loop-again
     returns-2)

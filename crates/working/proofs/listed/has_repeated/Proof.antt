@@ -12,10 +12,10 @@ use Rattle.working.proofs.listed.has_repeated.Statement.{statement}
 use Rattle.working.proofs.listed.has_repeated.Tie as tie
 
 abbrev Inv-loop : tie.InvT-loop
-Inv-loop schema met₀ i₀ met i = (i ≤ length schema) × Met schema i (has met)
+Inv-loop schema met₀ at₀ met at = (at ≤ length schema) × Met schema at (has met)
 
 abbrev μ-loop : tie.MeasureT-loop
-μ-loop schema met₀ i₀ met i = length schema - i
+μ-loop schema met₀ at₀ met at = length schema - at
 
 empty-requires : tie.Need-empty-requires Inv-loop μ-loop
 empty-requires c κs = search needs
@@ -31,8 +31,8 @@ wide-requires c κs = search needs
 
 test-requires : tie.Need-test-requires Inv-loop μ-loop
 test-requires c κs =
-    let at = c .before .before .before in
-    omega (arith, c .wide .ensures, at .before .before .before .pre (at .loop .i) (c .before .before .loop-test .taken))
+    let l = c .before .before .before in
+    omega (arith, c .wide .ensures, l .before .before .before .pre (l .loop .at) (c .before .before .loop-test .taken))
 
 returns : tie.Need-returns Inv-loop μ-loop
 returns c =
@@ -42,11 +42,11 @@ returns c =
 
 add-requires : tie.Need-add-requires Inv-loop μ-loop
 add-requires c κs =
-    let at = c .before .before .before .before .before in
-    omega (arith, c .before .before .wide .ensures, at .before .before .before .pre (at .loop .i) (c .before .before .before .before .loop-test .taken))
+    let l = c .before .before .before .before .before in
+    omega (arith, c .before .before .wide .ensures, l .before .before .before .pre (l .loop .at) (c .before .before .before .before .loop-test .taken))
 
-add-i : tie.Need-add-i Inv-loop μ-loop
-add-i c = search needs
+add-at : tie.Need-add-at Inv-loop μ-loop
+add-at c = search needs
 
 loop-less : tie.Need-loop-less Inv-loop μ-loop
 loop-less c = search needs
@@ -78,7 +78,7 @@ has-repeated-spec =
     test-requires
     returns
     add-requires
-    add-i
+    add-at
     loop-less
     loop-again
     returns-2)

@@ -5,10 +5,11 @@ ghost use mathlib.Core.Path.{_≡_};
 ghost use mathlib.Core.Bool.{_||_};
 ghost use Prim.Native.Nat.{ℕ, _<_};
 ghost use Rattle.rules.specs.04-Schema.{is-parent};
+ghost use Rattle.rules.specs.07-Picture.{Sound};
 ghost use Rattle.base.specs.Back.{schema-of};
 ghost use Rattle.marks.specs.Set.{has};
 ghost use Rattle.graph.specs.Graph.{Parental};
-ghost use Rattle.graph.specs.Kin.{parents-of, children-of};
+ghost use Rattle.graph.specs.Kin.{parents-of, children-of, ancestors-of, descendants-of, next-of, line-of};
 
 fn add_parents(base: &[u8], t: usize, s: TypeSet) -> TypeSet
     requires { ⌜ Parental (now base) × (t < 128) ⌝ }
@@ -69,4 +70,46 @@ pub fn children_of(base: &[u8], s: TypeSet) -> TypeSet
         t += 1;
     }
     r
+}
+
+// The parents of a set, or its children.
+fn step(base: &[u8], s: TypeSet, up: bool) -> TypeSet
+    requires { ⌜ Parental (now base) ⌝ }
+    ensures { λ r. ⌜ ((k : ℕ) → has r k ≡ next-of (schema-of (now (base .entry))) up (has s) k) ⌝ }
+{
+    if up {
+        return parents_of(base, s);
+    }
+    children_of(base, s)
+}
+
+// Its ancestors, or its descendants: steps from what one step reaches, until one adds none. One loop serves both ways.
+fn reach(base: &[u8], s: TypeSet, up: bool) -> TypeSet
+    requires { ⌜ Sound (now base) ⌝ }
+    ensures { λ r. ⌜ ((k : ℕ) → has r k ≡ line-of (schema-of (now (base .entry))) up (has s) k) ⌝ }
+{
+    let mut r = step(base, s, up);
+    let mut n: usize = 0;
+    let mut m = r.count();
+    while n < m {
+        let next = step(base, r, up);
+        r = r.join(next);
+        n = m;
+        m = r.count();
+    }
+    r
+}
+
+pub fn ancestors_of(base: &[u8], s: TypeSet) -> TypeSet
+    requires { ⌜ Sound (now base) ⌝ }
+    ensures { λ r. ⌜ ((k : ℕ) → has r k ≡ ancestors-of (schema-of (now (base .entry))) (has s) k) ⌝ }
+{
+    reach(base, s, true)
+}
+
+pub fn descendants_of(base: &[u8], s: TypeSet) -> TypeSet
+    requires { ⌜ Sound (now base) ⌝ }
+    ensures { λ r. ⌜ ((k : ℕ) → has r k ≡ descendants-of (schema-of (now (base .entry))) (has s) k) ⌝ }
+{
+    reach(base, s, false)
 }

@@ -2,9 +2,10 @@
 use marks::TypeSet;
 use rules::Limits;
 ghost use mathlib.Core.Path.{_≡_};
-ghost use mathlib.Core.Bool.{_||_};
+ghost use mathlib.Core.Bool.{true, _||_};
 ghost use Prim.Native.Nat.{ℕ, _<_};
-ghost use Rattle.rules.specs.04-Schema.{is-parent};
+ghost use Rattle.rules.specs.04-Schema.{is-object, is-parent, kind-of};
+ghost use Rattle.rules.specs.05-Descent.{depth};
 ghost use Rattle.rules.specs.07-Picture.{Sound};
 ghost use Rattle.base.specs.Back.{schema-of};
 ghost use Rattle.marks.specs.Set.{has};
@@ -112,4 +113,21 @@ pub fn descendants_of(base: &[u8], s: TypeSet) -> TypeSet
     ensures { λ r. ⌜ ((k : ℕ) → has r k ≡ descendants-of (schema-of (now (base .entry))) (has s) k) ⌝ }
 {
     reach(base, s, false)
+}
+
+// The parents of the parents, level by level, until a level is empty: where ways up differ in length the longest one counts.
+pub fn depth(base: &[u8], t: usize) -> usize
+    requires { ⌜ Sound (now base) × (is-object (kind-of (schema-of (now base)) t) ≡ true) ⌝ }
+    ensures { λ r. ⌜ r ≡ depth (schema-of (now (base .entry))) t ⌝ }
+{
+    let none = TypeSet::empty();
+    let mut s = parents_of(base, none.add(t));
+    let mut m = s.count();
+    let mut n: usize = 0;
+    while m != 0 {
+        s = parents_of(base, s);
+        m = s.count();
+        n += 1;
+    }
+    n
 }

@@ -47,13 +47,13 @@ fn has_parent_in(base: &[u8], t: usize, s: TypeSet) -> bool
     ensures { λ r. ⌜ r ≡ children-of (schema-of (now (base .entry))) (has s) t ⌝ }
 {
     let n = base::parent_count(base, t);
-    let mut i: usize = 0;
-    while i < n {
-        let a = base::parent(base, t, i);
+    let mut j: usize = 0;
+    while j < n {
+        let a = base::parent(base, t, j);
         if s.test(a) {
             return true;
         }
-        i += 1;
+        j += 1;
     }
     false
 }
@@ -63,12 +63,12 @@ pub fn children_of(base: &[u8], s: TypeSet) -> TypeSet
     ensures { λ r. ⌜ ((k : ℕ) → has r k ≡ children-of (schema-of (now (base .entry))) (has s) k) ⌝ }
 {
     let mut r = TypeSet::empty();
-    let mut t: usize = 0;
-    while t < Limits::TYPES {
-        if has_parent_in(base, t, s) {
-            r = r.add(t);
+    let mut k: usize = 0;
+    while k < Limits::TYPES {
+        if has_parent_in(base, k, s) {
+            r = r.add(k);
         }
-        t += 1;
+        k += 1;
     }
     r
 }
@@ -123,11 +123,11 @@ pub fn depth(base: &[u8], t: usize) -> usize
     let none = TypeSet::empty();
     let mut s = parents_of(base, none.add(t));
     let mut m = s.count();
-    let mut n: usize = 0;
+    let mut d: usize = 0;
     while m != 0 {
         s = parents_of(base, s);
         m = s.count();
-        n += 1;
+        d += 1;
     }
-    n
+    d
 }

@@ -17,10 +17,10 @@ use Rattle.graph.proofs.kin.children_of.Statement.{statement}
 use Rattle.graph.proofs.kin.children_of.Tie as tie
 
 abbrev Inv-loop : tie.InvT-loop
-Inv-loop base s r₀ t₀ r t = (t ≤ 128) × ((k : ℕ) → has r k ≡ grow-to t (children-of (schema-of base) (has s)) (has r₀) k)
+Inv-loop base s r₀ k₀ r k = (k ≤ 128) × ((n : ℕ) → has r n ≡ grow-to k (children-of (schema-of base) (has s)) (has r₀) n)
 
 abbrev μ-loop : tie.MeasureT-loop
-μ-loop base s r₀ t₀ r t = 128 - t
+μ-loop base s r₀ k₀ r k = 128 - k
 
 empty-requires : tie.Need-empty-requires Inv-loop μ-loop
 empty-requires c κs = tt
@@ -34,8 +34,8 @@ has-parent-in-requires c κs = (c .before .before .before .before .pre, omega ar
 add-requires : tie.Need-add-requires Inv-loop μ-loop
 add-requires c κs = omega arith
 
-add-t : tie.Need-add-t Inv-loop μ-loop
-add-t c = omega arith
+add-k : tie.Need-add-k Inv-loop μ-loop
+add-k c = omega arith
 
 loop-less : tie.Need-loop-less Inv-loop μ-loop
 loop-less c = omega arith
@@ -45,18 +45,18 @@ loop-again c =
     let l = c .before .before .before .loop in
     let child = sym (c .before .has-parent-in .ensures) in (
       omega arith,
-      λ k. ⊎-elim
+      λ n. ⊎-elim
           (λ w.
-          ap (λ (x : TypeSet). has x k) (w .2) ∙ w .1 .ensures k ∙ ap (λ (x : Bool). eqb k (l .t) || x) (l .inv .1 k)
-          ∙ grow-add _ _ (l .t) (child ∙ w .0 .taken) k)
-          (λ w. ap (λ (x : TypeSet). has x k) (w .1) ∙ l .inv .1 k ∙ grow-skip _ _ (l .t) (child ∙ w .0 .left) k)
+          ap (λ (x : TypeSet). has x n) (w .2) ∙ w .1 .ensures n ∙ ap (λ (x : Bool). eqb n (l .k) || x) (l .inv .1 n)
+          ∙ grow-add _ _ (l .k) (child ∙ w .0 .taken) n)
+          (λ w. ap (λ (x : TypeSet). has x n) (w .1) ∙ l .inv .1 n ∙ grow-skip _ _ (l .k) (child ∙ w .0 .left) n)
           (c .if1 .came),
     )
 
 returns : tie.Need-returns Inv-loop μ-loop
 returns c =
     let s = c .before .before .before .before .args in
-    children-all (s .base .now) (has (s .s)) _ _ (c .before .loop .t) (omega arith) (c .before .before .empty .ensures) (c .before .loop .inv .1)
+    children-all (s .base .now) (has (s .s)) _ _ (c .before .loop .k) (omega arith) (c .before .before .empty .ensures) (c .before .loop .inv .1)
 
 pub children-of-spec : {M : Type 1} → statement M
 children-of-spec =
@@ -68,7 +68,7 @@ children-of-spec =
     loop-holds
     has-parent-in-requires
     add-requires
-    add-t
+    add-k
     loop-less
     loop-again
     returns)

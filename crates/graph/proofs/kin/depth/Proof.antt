@@ -1,4 +1,4 @@
--- `graph::kin::depth` meets its contract: after n rounds the set has what is n + 1 steps above the type. The first empty one is just above
+-- `graph::kin::depth` meets its contract: after d rounds the set has what is d + 1 steps above the type. The first empty one is just above
 -- the end of the longest way. The measure is what of that way is left. Assumes nothing.
 use Prim.Native.Nat.{_+_, _-_, _≤_}
 use mathlib.Core.Path.{_≡_}
@@ -15,10 +15,10 @@ use Rattle.graph.proofs.kin.depth.Statement.{statement}
 use Rattle.graph.proofs.kin.depth.Tie as tie
 
 abbrev Inv-loop : tie.InvT-loop
-Inv-loop base t s₀ m₀ n₀ s m n = (m ≡ length (members (has s))) × (n ≤ depth (schema-of base) t) × Level (schema-of base) t (n + 1) (has s)
+Inv-loop base t s₀ m₀ d₀ s m d = (m ≡ length (members (has s))) × (d ≤ depth (schema-of base) t) × Level (schema-of base) t (d + 1) (has s)
 
 abbrev μ-loop : tie.MeasureT-loop
-μ-loop base t s₀ m₀ n₀ s m n = depth (schema-of base) t - n
+μ-loop base t s₀ m₀ d₀ s m d = depth (schema-of base) t - d
 
 empty-requires : tie.Need-empty-requires Inv-loop μ-loop
 empty-requires c κs = tt
@@ -48,8 +48,8 @@ parents-of-requires-2 c κs = good-parental (c .before .before .before .before .
 count-requires-2 : tie.Need-count-requires-2 Inv-loop μ-loop
 count-requires-2 c κs = tt
 
-add-n : tie.Need-add-n Inv-loop μ-loop
-add-n c =
+add-d : tie.Need-add-d Inv-loop μ-loop
+add-d c =
     let start = c .before .before .before .before .before .before .before .before .before in
     omega (arith, depth-small (sound-good (start .pre .0)) (start .args .t) (start .pre .1))
 
@@ -87,7 +87,7 @@ depth-spec =
     loop-holds
     parents-of-requires-2
     count-requires-2
-    add-n
+    add-d
     loop-less
     loop-again
     returns)

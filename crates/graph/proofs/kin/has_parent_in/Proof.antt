@@ -10,10 +10,10 @@ use Rattle.graph.proofs.kin.has_parent_in.Statement.{statement}
 use Rattle.graph.proofs.kin.has_parent_in.Tie as tie
 
 abbrev Inv-loop : tie.InvT-loop
-Inv-loop base t s n i₀ i = (i ≤ n) × (n ≤ 4) × Finds (schema-of base) t i (has s)
+Inv-loop base t s n j₀ j = (j ≤ n) × (n ≤ 4) × Finds (schema-of base) t j (has s)
 
 abbrev μ-loop : tie.MeasureT-loop
-μ-loop base t s n i₀ i = n - i
+μ-loop base t s n j₀ j = n - j
 
 parent-count-requires : tie.Need-parent-count-requires Inv-loop μ-loop
 parent-count-requires c κs = let start = c .before in (start .pre .0 .long, start .pre .1)
@@ -30,7 +30,7 @@ parent-requires c κs = let start = c .before .before .before .before in (start 
 test-requires : tie.Need-test-requires Inv-loop μ-loop
 test-requires c κs =
     let start = c .before .before .before .before .before in
-    let by = parent-at (start .pre .0) (start .args .t) (start .pre .1) (c .before .before .loop .i) (omega arith) in
+    let by = parent-at (start .pre .0) (start .args .t) (start .pre .1) (c .before .before .loop .j) (omega arith) in
     omega (arith, parent-below (start .pre .0) by)
 
 returns : tie.Need-returns Inv-loop μ-loop
@@ -39,8 +39,8 @@ returns c =
     let a = ap (has (start .args .s)) (sym (c .before .before .parent .ensures .is)) ∙ sym (c .before .test .ensures) in
     finds-here (start .pre .0) (start .args .t) (start .pre .1) _ (c .before .before .before .before .loop .inv .2) (omega arith) (a ∙ c .if1 .taken)
 
-add-i : tie.Need-add-i Inv-loop μ-loop
-add-i c = omega arith
+add-j : tie.Need-add-j Inv-loop μ-loop
+add-j c = omega arith
 
 loop-less : tie.Need-loop-less Inv-loop μ-loop
 loop-less c = omega arith
@@ -68,7 +68,7 @@ has-parent-in-spec =
     parent-requires
     test-requires
     returns
-    add-i
+    add-j
     loop-less
     loop-again
     returns-2)

@@ -1,1 +1,2 @@
 pub mod View
+pub mod Scans

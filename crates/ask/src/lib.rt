@@ -1,4 +1,5 @@
 // The asking calls. They read a sound base, and change nothing but an output.
+pub mod scan;
 pub mod view;
 
 use base::Base;

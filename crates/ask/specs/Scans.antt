@@ -1,0 +1,25 @@
+-- The sets behind the scans.
+use Prim.Native.Nat.{ℕ}
+use mathlib.Core.Path.{_≡_}
+use mathlib.Core.List.{List, [], _∷_}
+use mathlib.Core.Bool.{Bool, true, false}
+use lib.ListN.{getD}
+use Rattle.rules.specs.01-Lists.{among}
+use Rattle.rules.specs.04-Schema.{Schema}
+use Rattle.rules.specs.08-Working.{listed-sdss, upward, object-scans, link-scans}
+
+-- whether k is listed by that code, but for its being visible
+abbrev pub object-scan : Schema → List ℕ → ℕ → ℕ → ℕ → Bool
+object-scan s w t code = getD (object-scans s w t) code (λ k. false)
+
+abbrev pub link-scan : Schema → List ℕ → ℕ → ℕ → ℕ → Bool
+link-scan s w t code = getD (link-scans s w t) code (λ k. false)
+
+-- the type, and with "all" its ancestors
+abbrev pub sources : Schema → Bool → ℕ → List ℕ
+sources s true t = upward s t
+sources s false t = t ∷ []
+
+-- p is the scan under every working schema whose SDSs are these
+pub record Scanned (s : Schema) (sdss : ℕ → Bool) (scan : List ℕ → ℕ → Bool) (p : ℕ → Bool) : Type 0 where
+  pub is : (w : List ℕ) → ((d : ℕ) → sdss d ≡ among (listed-sdss s w) d) → (k : ℕ) → p k ≡ scan w k

@@ -1,6 +1,6 @@
--- Laws of kin. What is left decides: the parents or the types that a loop has not come to, with what it has found, make its answer.
--- Assumes nothing.
-use Prim.Native.Nat.{ℕ, suc, _+_, _-_, _≤_, _<_}
+-- Laws of kin. What is left decides: the parents or the types that a loop has not come to, with what it has found, make its answer. And a
+-- set that grows step by step has all that it reaches once a step adds none. Assumes nothing.
+use Prim.Native.Nat.{ℕ, _+_, _-_, _≤_, _<_}
 use native.Mathlib.Numerals.{add-one}
 use native.Mathlib.Omega.{arith}
 use mathlib.Core.Path.{_≡_, refl, sym, ap, _∙_}
@@ -30,6 +30,7 @@ use Rattle.marks.proofs.Round.{grow-cases, grow-taken}
 use Rattle.graph.specs.Graph.{Parental}
 use Rattle.graph.specs.Kin.{parents-of, children-of, ancestors-of, descendants-of, next-of, line-of}
 use Rattle.graph.proofs.Rows.{object-below, parent-below, parents-count, parents-place}
+use Rattle.graph.proofs.Laws.{types-taken, types-passed}
 
 -- ---- tests
 
@@ -52,14 +53,19 @@ moved true true found = refl
 moved true false found = refl
 moved false left found = refl
 
--- ---- the elements of a list from place i on, some of which passes
+-- some element from place i on passes: that one, or one behind it
+any-left : (f : ℕ → Bool) (l : List ℕ) (i : ℕ) → i < length l → any f (drop i l) ≡ f (getD l i 0) || any f (drop (i + 1) l)
+unfolding any
+any-left f l i h = rw (drop-cons l i 0 h, add-one i)
 
-module _ (f : ℕ → Bool) (l : List ℕ) where
-  any-left : (i : ℕ) → i < length l → any f (drop i l) ≡ f (getD l i 0) || any f (drop (i + 1) l)
-  unfolding any
-  any-left i h = rw (drop-cons l i 0 h, add-one i)
+-- some type of p passes
+any-member : (f p : ℕ → Bool) → any f (members p) ≡ true → (t : ℕ) × (t < 128) × (p t ≡ true) × (f t ≡ true)
+any-member f p e =
+    let (t, i, h) = any-where f (members p) e in
+    let (l, g) = members-in p t i in
+    (t, l, g, h)
 
--- is-parent and `Parent` say the same
+-- `is-parent` and `Parent` say the same
 module _ (s : Schema) (t a : ℕ) where
   pub parent-is : is-parent s t a ≡ true → Parent s t a
   unfolding is-parent
@@ -110,24 +116,26 @@ module _ {b : List ℕ} (rows : Parental b) (t : ℕ) (h : t < 128) where
     adds-all l k = ap (λ (x : Bool). x || q k) (sym (left-none (eqb k) i l)) ∙ so-far .left k
 
   module _ (p : ℕ → Bool) where
-    -- a parent in the set, and a member of the set that is a parent
+    -- a parent that is in the set is a type of the set that is a parent
     pub finds-none : Finds (schema-of b) t 0 p
-    unfolding children-of is-parent
+    unfolding children-of
     finds-none = record {
-      left = same-test (any p ps) (any (λ a. any (eqb a) ps) (members p))
+      left = same-test _ _
           (λ e. let (a, i, g) = any-where p ps e in
-          any-at (λ a. any (eqb a) ps) (members-of p a (parent-below rows {t = t} (record { listed = i })) g) (any-at (eqb a) i (eq-eqb a a refl)))
-          (λ e. let (a, i, g) = any-where (λ a. any (eqb a) ps) (members p) e in
-          let (x, j, same) = any-where (eqb a) ps g in
-          any-at p j (ap p (sym (eqb-true a x same)) ∙ members-in p a i .1));
+          let by : Parent (schema-of b) t a = record { listed = i } in
+          any-at (λ a. is-parent (schema-of b) t a) (members-of p a (parent-below rows by) g) (is-parent-of (schema-of b) t a by))
+          (λ e. let (a, l, g, h) = any-member (λ a. is-parent (schema-of b) t a) p e in any-at p (parent-is (schema-of b) t a h .listed) g);
     }
 
     module _ {i : ℕ} (so-far : Finds (schema-of b) t i p) where
+      passed : i < getD b (type-at t + 3) 0 → (x : Bool) → p (getD b (type-at t + 4 + i) 0) ≡ x → x || any p (drop (i + 1) ps) ≡ children-of (schema-of b) p t
+      passed l x e = sym (ap (λ (x : Bool). x || any p (drop (i + 1) ps)) e) ∙ sym (left-first p i l) ∙ so-far .left
+
       pub finds-here : i < getD b (type-at t + 3) 0 → p (getD b (type-at t + 4 + i) 0) ≡ true → true ≡ children-of (schema-of b) p t
-      finds-here l e = sym (ap (λ (x : Bool). x || any p (drop (i + 1) ps)) e) ∙ sym (left-first p i l) ∙ so-far .left
+      finds-here l e = passed l true e
 
       pub finds-more : i < getD b (type-at t + 3) 0 → p (getD b (type-at t + 4 + i) 0) ≡ false → Finds (schema-of b) t (i + 1) p
-      finds-more l e = record { left = sym (ap (λ (x : Bool). x || any p (drop (i + 1) ps)) e) ∙ sym (left-first p i l) ∙ so-far .left }
+      finds-more l e = record { left = passed l false e }
 
       pub finds-all : i ≡ getD b (type-at t + 3) 0 → false ≡ children-of (schema-of b) p t
       finds-all l = sym (left-none p i l) ∙ so-far .left
@@ -144,20 +152,16 @@ module _ (s : Schema) (p : ℕ → Bool) where
   parents-none q none = record { left = λ k. rw (none k) (or-false (any (λ t. is-parent s t k) (numbers 0 128 p))) }
 
 module _ {s : Schema} {p q : ℕ → Bool} (n : ℕ) (h : n < 128) (so-far : Parents-past s p n q) where
-  one : 128 - n ≡ suc (128 - (n + 1))
-  one = omega arith
-
   pub parents-more : p n ≡ true → (r : ℕ → Bool) → ((k : ℕ) → r k ≡ is-parent s n k || q k) → Parents-past s p (n + 1) r
-  unfolding numbers any
+  unfolding any
   parents-more e r made = record {
     left = λ k.
         let rest = any (λ t. is-parent s t k) (numbers (n + 1) (128 - (n + 1)) p) in
-        ap (λ (x : Bool). rest || x) (made k) ∙ moved (is-parent s n k) rest (q k) ∙ (rw (one, e, ← add-one n) at (so-far .left k));
+        ap (λ (x : Bool). rest || x) (made k) ∙ moved (is-parent s n k) rest (q k) ∙ (rw (types-taken p n h e) at (so-far .left k));
   }
 
   pub parents-skip : p n ≡ false → Parents-past s p (n + 1) q
-  unfolding numbers
-  parents-skip e = record { left = λ k. rw (one, e, ← add-one n) at (so-far .left k) }
+  parents-skip e = record { left = λ k. rw (types-passed p n h e) at (so-far .left k) }
 
 pub parents-all : {s : Schema} {p q : ℕ → Bool} {n : ℕ} → n ≡ 128 → Parents-past s p n q → (k : ℕ) → q k ≡ parents-of s p k
 unfolding numbers any
@@ -169,8 +173,8 @@ module _ (b : List ℕ) (p none q : ℕ → Bool) where
   children-below : (k : ℕ) → children-of (schema-of b) p k ≡ true → k < 128
   unfolding children-of
   children-below k e =
-      let (a, i, g) = any-where (λ a. is-parent (schema-of b) k a) (members p) e in
-      object-below b k (child-object (parent-is (schema-of b) k a g))
+      let (a, l, g, h) = any-member (λ a. is-parent (schema-of b) k a) p e in
+      object-below b k (child-object (parent-is (schema-of b) k a h))
 
   pub children-all : (n : ℕ) → n ≡ 128 → ((k : ℕ) → none k ≡ false) → ((k : ℕ) → q k ≡ grow-to n (children-of (schema-of b) p) none k)
       → (k : ℕ) → q k ≡ children-of (schema-of b) p k
@@ -194,7 +198,7 @@ pub data Reach (R : ℕ → ℕ → Bool) (p : ℕ → Bool) : ℕ → Type 0 wh
   at-start : {k : ℕ} → p k ≡ true → Reach R p k
   a-step-on : {t k : ℕ} → Reach R p t → R t k ≡ true → Reach R p k
 
--- q grows from p to what p reaches: it has what is one step from n of its own, among them those that it had before
+-- q grows from p to what p reaches: it has kept the n types that it had a step before, and has what is one step from these
 pub record Growing (R : ℕ → ℕ → Bool) (p : ℕ → Bool) (n : ℕ) (q : ℕ → Bool) : Type 0 where
   pub before : ℕ → Bool
   pub many : n ≡ length (members before)
@@ -252,7 +256,7 @@ near s true t k = is-parent s t k
 near s false t k = is-parent s k t
 
 -- k is an ancestor of t, or a descendant: as a test, and as a sentence
-abbrev far : Schema → Bool → ℕ → ℕ → Bool
+abbrev pub far : Schema → Bool → ℕ → ℕ → Bool
 far s true t k = descends s t k
 far s false t k = descends s k t
 
@@ -260,23 +264,21 @@ abbrev Far : Schema → Bool → ℕ → ℕ → Type 0
 Far s true t k = Descends s t k
 Far s false t k = Descends s k t
 
+-- the four sets, opened
 module _ (s : Schema) where
-  near-any : (up : Bool) (p : ℕ → Bool) (k : ℕ) → next-of s up p k ≡ any (λ t. near s up t k) (members p)
+  pub near-any : (up : Bool) (p : ℕ → Bool) (k : ℕ) → next-of s up p k ≡ any (λ t. near s up t k) (members p)
   unfolding parents-of children-of
   near-any true p k = refl
   near-any false p k = refl
 
-  far-any : (up : Bool) (p : ℕ → Bool) (k : ℕ) → line-of s up p k ≡ any (λ t. far s up t k) (members p)
+  pub far-any : (up : Bool) (p : ℕ → Bool) (k : ℕ) → line-of s up p k ≡ any (λ t. far s up t k) (members p)
   unfolding ancestors-of descendants-of
   far-any true p k = refl
   far-any false p k = refl
 
   pub stepped : (up : Bool) (p q : ℕ → Bool) → ((k : ℕ) → q k ≡ next-of s up p k) → Stepped (near s up) p q
   stepped up p q made = record {
-    only = λ k e.
-        let (t, i, h) = any-where (λ t. near s up t k) (members p) (sym (made k ∙ near-any up p k) ∙ e) in
-        let (l, g) = members-in p t i in
-        (t, l, g, h);
+    only = λ k e. any-member (λ t. near s up t k) p (sym (made k ∙ near-any up p k) ∙ e);
     all = λ t k l e h. made k ∙ near-any up p k ∙ any-at (λ t. near s up t k) (members-of p t l e) h;
   }
 
@@ -323,7 +325,6 @@ module _ {s : Schema} (good : Good s) where
       let (t, l, g, d) = reach-far s p q up step (grown .only k e) in
       any-at (λ t. far s up t k) (members-of p t l g) (far-full up t k d))
       (λ e.
-      let (t, i, h) = any-where (λ t. far s up t k) (members p) e in
-      let (l, g) = members-in p t i in
+      let (t, l, g, h) = any-member (λ t. far s up t k) p e in
       growing-done grown le below (far-reach s p q up step l g (far-sound up t k h)))
       ∙ sym (far-any s up p k)

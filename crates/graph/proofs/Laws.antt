@@ -2,8 +2,9 @@
 -- type twice is no longer than there are types; and a set to which no round adds has every object type whose ways up end.
 -- Assumes nothing.
 use Prim.Native.Nat.{ℕ, zero, suc, _+_, _-_, _≤_, _<_}
+use native.Mathlib.Numerals.{add-one}
 use native.Mathlib.Omega.{arith}
-use mathlib.Core.Path.{_≡_, refl, sym, _∙_}
+use mathlib.Core.Path.{_≡_, refl, sym, ap, _∙_}
 use mathlib.Core.Logic.{_⊎_, inl, inr, ⊎-elim}
 use mathlib.Core.List.{List, [], _∷_, List·Memᴰ·not-nil, List·Memᴰ·cases-cons}
 use mathlib.Core.Bool.{Bool, true, false, _||_, false≢true}
@@ -25,6 +26,20 @@ use Rattle.graph.specs.Graph.{object-in, Parental, Grounded, Ready, Sett
 use Rattle.graph.specs.Graph.Grounded.{ground}
 use Rattle.graph.proofs.Rows.{object-below, parent-at, parent-place}
 
+-- ---- the types from t on that pass: t and those behind it, or those alone
+
+module _ (p : ℕ → Bool) (t : ℕ) (h : t < 128) where
+  one : 128 - t ≡ suc (128 - (t + 1))
+  one = omega arith
+
+  pub types-taken : p t ≡ true → numbers t (128 - t) p ≡ t ∷ numbers (t + 1) (128 - (t + 1)) p
+  unfolding numbers
+  types-taken e = rw (one, e, add-one t)
+
+  pub types-passed : p t ≡ false → numbers t (128 - t) p ≡ numbers (t + 1) (128 - (t + 1)) p
+  unfolding numbers
+  types-passed e = rw (one, e, add-one t)
+
 -- ---- how many numbers pass: n of those before t, and those from t on
 
 module _ (p : ℕ → Bool) where
@@ -33,19 +48,11 @@ module _ (p : ℕ → Bool) where
   count-none = omega arith
 
   module _ (n t m : ℕ) (h : t < 128) (so-far : n + length (numbers t (128 - t) p) ≡ m) where
-    one : 128 - t ≡ suc (128 - (t + 1))
-    one = omega arith
-
-    next : suc t ≡ t + 1
-    next = omega arith
-
     pub count-more : p t ≡ true → n + 1 + length (numbers (t + 1) (128 - (t + 1)) p) ≡ m
-    unfolding numbers
-    count-more e = let all = rw (one, e, next) at so-far in omega arith
+    count-more e = omega (arith, ap length (types-taken p t h e))
 
     pub count-skip : p t ≡ false → n + length (numbers (t + 1) (128 - (t + 1)) p) ≡ m
-    unfolding numbers
-    count-skip e = rw (one, e, next) at so-far
+    count-skip e = omega (arith, ap length (types-passed p t h e))
 
   pub count-all : (n t m : ℕ) → 128 ≤ t → n + length (numbers t (128 - t) p) ≡ m → n ≡ m
   unfolding numbers

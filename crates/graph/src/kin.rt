@@ -12,6 +12,7 @@ ghost use Rattle.marks.specs.Set.{has};
 ghost use Rattle.graph.specs.Graph.{Parental};
 ghost use Rattle.graph.specs.Kin.{parents-of, children-of, ancestors-of, descendants-of, next-of, line-of};
 
+// `s` with the parents of `t`.
 fn add_parents(base: &[u8], t: usize, s: TypeSet) -> TypeSet
     requires { ⌜ Parental (now base) × (t < 128) ⌝ }
     ensures { λ r. ⌜ ((k : ℕ) → has r k ≡ is-parent (schema-of (now (base .entry))) t k || has s k) ⌝ }
@@ -42,6 +43,7 @@ pub fn parents_of(base: &[u8], s: TypeSet) -> TypeSet
     r
 }
 
+// Whether some parent of `t` is in `s`.
 fn has_parent_in(base: &[u8], t: usize, s: TypeSet) -> bool
     requires { ⌜ Parental (now base) × (t < 128) ⌝ }
     ensures { λ r. ⌜ r ≡ children-of (schema-of (now (base .entry))) (has s) t ⌝ }

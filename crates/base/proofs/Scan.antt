@@ -7,16 +7,17 @@ use mathlib.Core.Path.{_≡_, refl, sym, ap, _∙_, subst}
 use mathlib.Core.List.{List, _∷_}
 use mathlib.Core.Bool.{Bool, true, false, _&&_, _||_, true≢false}
 use lib.Dec.{ltb, eqb}
-use lib.ListN.{length, getD, drop, replicate, length-take, length-drop, getD-replicate}
-use lib.Seq.{drop-cons, ext-getD, getD-drop}
+use lib.ListN.{length, getD, drop, replicate, length-take, length-drop}
+use lib.Seq.{drop-cons, getD-drop}
 use borrow.Author.Tests.{ltb-true, ltb-false, lt-ltb, le-ltb, eq-eqb, ne-eqb}
-use Rattle.rules.specs.01-Lists.{bytes-before}
-use Rattle.rules.proofs.01-Lists.{before-transitive, before-first}
-use Rattle.rules.proofs.07-Picture.{zeros-long}
+use Rattle.rules.specs.01-Lists.{same-bytes, bytes-before}
+use Rattle.rules.proofs.01-Lists.{same-bytes-is, same-bytes-refl, before-transitive, before-first}
+use Rattle.names.specs.Field.{blank-field}
 use Rattle.base.specs.Rows.{part, Rising, Filled, Counted, Level, Split}
 use Rattle.base.specs.Back.{filled}
 use Rattle.base.specs.Decides.{Decides}
-use Rattle.base.proofs.Rows.{part-byte, filled-is}
+use Rattle.base.proofs.Decides.{decides-iff, decides-test}
+use Rattle.base.proofs.Rows.{filled-is}
 
 pub part-cons : (b : List ℕ) (at n m : ℕ) → at < length b → n ≡ suc m → part b at n ≡ getD b at 0 ∷ part b (at + 1) m
 part-cons b at n m h e = rw (e, add-one at, drop-cons b at 0 h)
@@ -26,21 +27,19 @@ length-part b at n h = length-take n (drop at b) ∙ omega (arith, length-drop a
 
 -- ---- zeros
 
-pub zero-part : (b : List ℕ) (from to : ℕ) → from ≤ to → to ≤ length b → ((i : ℕ) → i < to → from ≤ i → getD b i 0 ≡ 0)
-    → part b from (to - from) ≡ replicate (to - from) 0
-zero-part b from to h l z =
-    let long = length-part b from (to - from) (omega arith) in
-    ext-getD 0 (part b from (to - from)) (replicate (to - from) 0) (long ∙ sym (zeros-long (to - from)))
-    (λ i u.
-    let below : i < to - from = omega arith in
-    part-byte b from (to - from) i below ∙ z (from + i) (omega arith) (omega arith) ∙ sym (getD-replicate (to - from) i 0 0 below))
+blank-same : (l : List ℕ) (n : ℕ) → length l ≡ n → blank-field l ≡ same-bytes (replicate n 0) l
+unfolding blank-field
+blank-same l n e = rw e
 
-pub zero-byte : (b : List ℕ) (from to : ℕ) → part b from (to - from) ≡ replicate (to - from) 0 → (i : ℕ) → i < to → from ≤ i → getD b i 0 ≡ 0
-zero-byte b from to e i u l =
-    let below : i - from < to - from = omega arith in
-    let same : from + (i - from) ≡ i = omega arith in
-    ap (λ (k : ℕ). getD b k 0) (sym same) ∙ sym (part-byte b from (to - from) (i - from) below)
-    ∙ ap (λ (x : List ℕ). getD x (i - from) 0) e ∙ getD-replicate (to - from) (i - from) 0 0 below
+pub zeros-blank : (b : List ℕ) (from to : ℕ) (r : Bool) → from ≤ to → to ≤ length b → r ≡ blank-field (part b from (to - from))
+    → Decides (part b from (to - from) ≡ replicate (to - from) 0) r
+zeros-blank b from to r h l e =
+    let bytes = part b from (to - from) in
+    let zeros = replicate {A = ℕ} (to - from) 0 in
+    let test : blank-field bytes ≡ same-bytes zeros bytes = blank-same bytes (to - from) (length-part b from (to - from) (omega arith)) in
+    decides-iff (λ q. sym (same-bytes-is zeros bytes (sym test ∙ q)))
+    (λ q. test ∙ ap (same-bytes zeros) q ∙ same-bytes-refl zeros)
+    (decides-test e)
 
 -- ---- two parts compared: what is left of them decides
 

@@ -62,14 +62,7 @@ fn is_zero(base: &[u8], from: usize, to: usize) -> bool
     requires { ⌜ (from ≤ to) × (to ≤ length (now base)) ⌝ }
     ensures { λ r. ⌜ Decides (part (now (base .entry)) from (to - from) ≡ replicate (to - from) 0) r ⌝ }
 {
-    let mut i = from;
-    while i < to {
-        if base[i] != 0 {
-            return false;
-        }
-        i += 1;
-    }
-    true
+    names::is_blank_field(&base[from..to])
 }
 
 pub fn no_presence_from(base: &[u8], n: usize) -> bool

@@ -1,7 +1,7 @@
 -- A row that is found by halving: where it is, it stands at its place. Assumes nothing.
 use Prim.Native.Nat.{ℕ, suc, _+_, _*_, _%_, _≤_, _<_}
 use native.Mathlib.Omega.{arith}
-use mathlib.Core.Path.{_≡_, refl, sym, ap, _∙_}
+use mathlib.Core.Path.{_≡_, refl, sym, ap, _∙_, subst}
 use mathlib.Core.List.{List, [], _∷_}
 use mathlib.Core.Bool.{Bool, true, false, true≢false}
 use lib.Dec.{ltb}
@@ -11,6 +11,8 @@ use Rattle.rules.specs.01-Lists.{bytes-before}
 use Rattle.rules.proofs.01-Lists.{before-irreflexive}
 use Rattle.base.specs.Rows.{end-at, part, Rising, End-row}
 use Rattle.base.specs.Table.{Rises, Place}
+use Rattle.base.specs.Found.{End-at, End-found}
+use Rattle.base.specs.Decides.{Decides}
 use Rattle.base.proofs.Scan.{part-cons, rising-far}
 
 -- the bytes of an end
@@ -27,6 +29,16 @@ end-bytes b i h =
 
 pub ends-rises : (b : List ℕ) (n : ℕ) → length b ≡ 13312 → n ≤ 512 → Rising b 11264 4 4 n → Rises b 11264 4 n
 ends-rises b n l m r = record { room = omega arith; rise = rising-far b 11264 4 4 n r }
+
+module _ {b : List ℕ} {n d l s o r : ℕ} where
+  pub end-row-of : End-at b n r d l s o → End-row b n d l s o
+  end-row-of e = record { place = r; below = e .below; sds = e .sds; link = e .link; turned = e .turned; object = e .object }
+
+  pub end-found-at : End-at b n r d l s o → End-found b n d l s o r
+  end-found-at e = record { found = λ h. e; none = λ h x. let u = e .below in absurd (omega arith) }
+
+  pub end-found-has : End-found b n d l s o r → Decides (End-row b n d l s o) (ltb r n)
+  end-found-has f = record { holds = λ h. end-row-of (f .found (ltb-true r n h)); fails = λ h. f .none (ltb-false r n h) }
 
 module _ {b : List ℕ} {n d l s o r : ℕ} (long : length b ≡ 13312) (few : n ≤ 512) (rise : Rising b 11264 4 4 n)
     (small : (d < 256) × ((l < 256) × ((s < 256) × (o < 256))))
@@ -52,7 +64,7 @@ module _ {b : List ℕ} {n d l s o r : ℕ} (long : length b ≡ 13312) (few : n
       let u = x .below in
       end-bytes b (x .place) (omega arith) ∙ (λ i. x .sds i ∷ x .link i ∷ x .turned i ∷ x .object i ∷ []) ∙ sym the-key
 
-  pub there : (x : End-row b n d l s o) → x .place ≡ r
+  there : (x : End-row b n d l s o) → x .place ≡ r
   there x = go (ltb (x .place) r) refl (ltb r (x .place)) refl
     where
       go : (t : Bool) → ltb (x .place) r ≡ t → (v : Bool) → ltb r (x .place) ≡ v → x .place ≡ r
@@ -64,3 +76,9 @@ module _ {b : List ℕ} {n d l s o r : ℕ} (long : length b ≡ 13312) (few : n
           absurd (true≢false (sym (rising-far b 11264 4 4 n rise r (x .place) less u)
           ∙ ap (bytes-before (part b (end-at r) 4)) (row-key x) ∙ p .later r (omega arith) (omega arith)))
       go false q false w = omega (arith, ltb-false (x .place) r q, ltb-false r (x .place) w)
+
+  pub end-found-none : (End-at b n r d l s o → ⊥) → End-found b n d l s o n
+  end-found-none lost = record { found = λ h. absurd (omega arith); none = λ h x. lost (subst (λ (i : ℕ). End-at b n i d l s o) (there x) (here x)) }
+    where
+      here : (x : End-row b n d l s o) → End-at b n (x .place) d l s o
+      here x = record { below = x .below; sds = x .sds; link = x .link; turned = x .turned; object = x .object }

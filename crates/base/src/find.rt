@@ -12,7 +12,7 @@ ghost use Rattle.rules.specs.09-Refusals.{sds-name-taken, holds-presence};
 ghost use Rattle.rules.proofs.07-Picture.{strip};
 ghost use Rattle.base.specs.Rows.{presence-at, part, Rising, End-row};
 ghost use Rattle.base.specs.Back.{schema-of, presence-count};
-ghost use Rattle.base.specs.Found.{Free-sds, Row-of, Presence-row};
+ghost use Rattle.base.specs.Found.{Free-sds, Row-of, Presence-row, End-at, End-found};
 ghost use Rattle.base.specs.Decides.{Decides};
 
 // ---- SDSs
@@ -121,7 +121,58 @@ pub fn name_length(base: &[u8], i: usize) -> usize
     names::name_length(super::presence_field(base, i))
 }
 
-// ---- ends, by halving
+// ---- ends
+
+// Whether row i is one of the n ends: that of link type l, on that side, at object type o, in SDS d.
+fn is_end(base: &[u8], n: usize, i: usize, d: usize, l: usize, side: usize, o: usize) -> bool
+    requires { ⌜ (length (now base) ≡ base-length) × (n ≤ 512) ⌝ }
+    ensures { λ r. ⌜ Decides (End-at (now (base .entry)) n i d l side o) r ⌝ }
+{
+    if n <= i {
+        return false;
+    }
+    if super::end_sds(base, i) != d {
+        return false;
+    }
+    if super::end_link(base, i) != l {
+        return false;
+    }
+    if super::end_side(base, i) != side {
+        return false;
+    }
+    super::end_object(base, i) == o
+}
+
+// The row of that end, or n where none of the n ends is it. Row `near` is looked at first; then by halving.
+pub fn end_row(
+    base: &[u8],
+    n: usize,
+    near: usize,
+    d: usize,
+    l: usize,
+    side: usize,
+    o: usize,
+) -> usize
+    requires { ⌜ (length (now base) ≡ base-length) × (n ≤ 512) ⌝ }
+    requires { ⌜ (d < 256) × ((l < 256) × ((side < 256) × (o < 256))) ⌝ }
+    requires { ⌜ Rising (now base) 11264 4 4 n ⌝ }
+    ensures { λ r. ⌜ End-found (now (base .entry)) n d l side o r ⌝ }
+{
+    if is_end(base, n, near, d, l, side, o) {
+        return near;
+    }
+    let key = [
+        (d % 256) as u8,
+        (l % 256) as u8,
+        (side % 256) as u8,
+        (o % 256) as u8,
+    ];
+    let at = super::table::place(base, Base::ENDS_AT, n, &key);
+    if is_end(base, n, at, d, l, side, o) {
+        return at;
+    }
+    n
+}
 
 // Whether one of the n ends is that of link type l, on that side, at object type o, in SDS d.
 pub fn has_end(base: &[u8], n: usize, d: usize, l: usize, side: usize, o: usize) -> bool
@@ -130,24 +181,5 @@ pub fn has_end(base: &[u8], n: usize, d: usize, l: usize, side: usize, o: usize)
     requires { ⌜ Rising (now base) 11264 4 4 n ⌝ }
     ensures { λ r. ⌜ Decides (End-row (now (base .entry)) n d l side o) r ⌝ }
 {
-    let key = [
-        (d % 256) as u8,
-        (l % 256) as u8,
-        (side % 256) as u8,
-        (o % 256) as u8,
-    ];
-    let at = super::table::place(base, Base::ENDS_AT, n, &key);
-    if n <= at {
-        return false;
-    }
-    if super::end_sds(base, at) != d {
-        return false;
-    }
-    if super::end_link(base, at) != l {
-        return false;
-    }
-    if super::end_side(base, at) != side {
-        return false;
-    }
-    super::end_object(base, at) == o
+    end_row(base, n, n, d, l, side, o) < n
 }

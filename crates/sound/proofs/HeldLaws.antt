@@ -17,10 +17,12 @@ use Rattle.rules.proofs.07-Picture.{read-side}
 use Rattle.rules.proofs.05-Descent.{child-object}
 use Rattle.base.specs.Rows.{type-at, application-at, end-at, End-row}
 use Rattle.base.specs.Back.{schema-of, application-shown, end-shown}
+use Rattle.base.specs.Found.{End-found}
+use Rattle.base.proofs.FindLaws.{end-row-of}
 use Rattle.base.proofs.Shown.{kind-is, shows-designation, shows-paired, end-in, end-there}
 use Rattle.graph.specs.Graph.{Parental}
 use Rattle.graph.proofs.Rows.{parent-at, parent-place}
-use Rattle.sound.specs.Held.{type-in, parent-in, Closed-type, Applied, Ended, Ends}
+use Rattle.sound.specs.Held.{type-in, parent-in, Closed-type, Applied, Ended, Row-where, Ends}
 use Rattle.sound.proofs.KindLaws.{object-byte, link-byte, no-link-past}
 
 -- ---- types gathered row by row
@@ -207,6 +209,18 @@ link-below b t e = go (ltb t 128) refl
     go : (x : Bool) → ltb t 128 ≡ x → t < 128
     go true q = ltb-true t 128 q
     go false q = absurd (true≢false (sym e ∙ sym (no-link-past b t (ltb-false t 128 q))))
+
+-- ---- one of n rows, or none
+
+module _ {P : Type 0} {n : ℕ} where
+  pub row-no : (P → ⊥) → Row-where P n n
+  row-no f = record { holds = λ h. absurd (omega arith); fails = λ h. f }
+
+  pub row-yes : {r : ℕ} → r < n → P → Row-where P n r
+  row-yes l p = record { holds = λ h. p; fails = λ h q. absurd (omega arith) }
+
+  pub row-found : {b : List ℕ} {d l s o r : ℕ} → (End-row b n d l s o → P) → (P → End-row b n d l s o) → End-found b n d l s o r → Row-where P n r
+  row-found f g e = record { holds = λ h. f (end-row-of (e .found h)); fails = λ h p. e .none h (g p) }
 
 -- ---- an end, test by test: l and o are its link type and its object type
 

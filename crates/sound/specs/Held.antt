@@ -54,6 +54,11 @@ pub record Ended (b : List ℕ) (set : ℕ → Bool) (i : ℕ) : Type 0 where
   pub mirrored : (c r : ℕ) → kind-of (schema-of b) ((end-shown b i) .link) ≡ paired c r
       → has-end (schema-of b) ((end-shown b i) .sds) r (other-side ((end-shown b i) .side)) ((end-shown b i) .object) ≡ true
 
+-- r is one of n rows exactly where P holds
+pub record Row-where (P : Type 0) (n r : ℕ) : Type 0 where
+  pub holds : r < n → P
+  pub fails : n ≤ r → P → ⊥
+
 -- n rows of ends, in order, with sides that are sides
 pub record Ends (b : List ℕ) (n : ℕ) : Type 0 where
   pub long : length b ≡ base-length

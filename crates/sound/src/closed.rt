@@ -13,7 +13,7 @@ ghost use Rattle.base.specs.Back.{schema-of};
 ghost use Rattle.base.specs.Decides.{Decides};
 ghost use Rattle.graph.specs.Graph.{Parental};
 ghost use Rattle.sound.specs.Parts.{Presences, Rest, Closed};
-ghost use Rattle.sound.specs.Held.{type-in, parent-in, Gathered, Closed-type, Applied, Ended, Ends, Ready, At, Checks, Gone-through};
+ghost use Rattle.sound.specs.Held.{type-in, parent-in, Gathered, Closed-type, Applied, Ended, Row-where, Ends, Ready, At, Checks, Gone-through};
 
 // A row of each table that has an order of its own.
 pub struct Places {
@@ -175,32 +175,33 @@ fn applications_fine(base: &[u8], from: usize, to: usize, set: TypeSet) -> bool
     true
 }
 
-// Whether the end in row i of n is fine.
-fn end_fine(base: &[u8], n: usize, i: usize, set: TypeSet) -> bool
+// A row of the n ends where the end in row i is fine: that of its mirror, which is looked for at `near` first. Else n.
+fn end_fine(base: &[u8], n: usize, near: usize, i: usize, set: TypeSet) -> usize
     requires { ⌜ (Ends (now base) n) × (i < n) ⌝ }
-    ensures { λ r. ⌜ Decides (Ended (now (base .entry)) (has set) i) r ⌝ }
+    ensures { λ r. ⌜ Row-where (Ended (now (base .entry)) (has set) i) n r ⌝ }
 {
     let link = base::end_link(base, i);
     if !is_link(base, link) {
-        return false;
+        return n;
     }
     if !is_in(set, link) {
-        return false;
+        return n;
     }
     let object = base::end_object(base, i);
     if !is_object(base, object) {
-        return false;
+        return n;
     }
     if !is_in(set, object) {
-        return false;
+        return n;
     }
     if base::value(base, link) == 4 {
-        return true;
+        return i;
     }
     let side = base::end_side(base, i);
-    base::find::has_end(
+    base::find::end_row(
         base,
         n,
+        near,
         base::end_sds(base, i),
         base::reverse(base, link),
         1 - side,
@@ -208,15 +209,19 @@ fn end_fine(base: &[u8], n: usize, i: usize, set: TypeSet) -> bool
     )
 }
 
+// The ends of a link type on one side stand together, and so do their mirrors: the next one is most often behind the last one found.
 fn ends_fine(base: &[u8], n: usize, from: usize, to: usize, set: TypeSet) -> bool
     requires { ⌜ (Ends (now base) n) × (to ≤ n) ⌝ }
     ensures { λ r. ⌜ Decides ((i : ℕ) → i < to → from ≤ i → Ended (now (base .entry)) (has set) i) r ⌝ }
 {
+    let mut near = from;
     let mut i = from;
     while i < to {
-        if !end_fine(base, n, i, set) {
+        let row = end_fine(base, n, near, i, set);
+        if n <= row {
             return false;
         }
+        near = row + 1;
         i += 1;
     }
     true

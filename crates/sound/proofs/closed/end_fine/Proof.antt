@@ -5,8 +5,7 @@ use native.Mathlib.Omega.{arith}
 use mathlib.Core.Path.{_≡_, sym, _∙_}
 use borrow.Author.Tests.{not-true, not-false}
 use Rattle.marks.specs.Set.{has}
-use Rattle.base.proofs.Decides.{decides-yes, decides-no, decides-iff}
-use Rattle.sound.proofs.HeldLaws.{link-below, ended-no-link, ended-link-out, ended-no-object, ended-object-out, ended-alone, ended-both, ended-mirror}
+use Rattle.sound.proofs.HeldLaws.{row-no, row-yes, row-found, link-below, ended-no-link, ended-link-out, ended-no-object, ended-object-out, ended-alone, ended-both, ended-mirror}
 use Rattle.sound.proofs.closed.end_fine.Statement.{statement}
 use Rattle.sound.proofs.closed.end_fine.Tie as tie
 
@@ -22,7 +21,7 @@ returns : tie.Need-returns
 returns c =
     let x = c .before .before .before .before in
     let l = c .before .before .end-link in
-    decides-no (ended-no-link (x .args .base .now) (has (x .args .set)) (x .args .i) (l .result) (l .ensures .is) (sym (c .before .is-link .ensures) ∙ not-true _ (c .if1 .taken)))
+    row-no (ended-no-link (x .args .base .now) (has (x .args .set)) (x .args .i) (l .result) (l .ensures .is) (sym (c .before .is-link .ensures) ∙ not-true _ (c .if1 .taken)))
 
 is-in-requires : tie.Need-is-in-requires
 is-in-requires c κs = search needs
@@ -31,7 +30,7 @@ returns-2 : tie.Need-returns-2
 returns-2 c =
     let x = c .before .before .before .before .before .before in
     let l = c .before .before .before .before .end-link in
-    decides-no (ended-link-out (x .args .base .now) (has (x .args .set)) (x .args .i) (l .result) (l .ensures .is) (sym (c .before .is-in .ensures) ∙ not-true _ (c .if2 .taken)))
+    row-no (ended-link-out (x .args .base .now) (has (x .args .set)) (x .args .i) (l .result) (l .ensures .is) (sym (c .before .is-in .ensures) ∙ not-true _ (c .if2 .taken)))
 
 end-object-requires : tie.Need-end-object-requires
 end-object-requires c κs =
@@ -45,7 +44,7 @@ returns-3 : tie.Need-returns-3
 returns-3 c =
     let x = c .before .before .before .before .before .before .before .before .before in
     let o = c .before .before .end-object in
-    decides-no (ended-no-object (x .args .base .now) (has (x .args .set)) (x .args .i) (o .result) (o .ensures .is) (sym
+    row-no (ended-no-object (x .args .base .now) (has (x .args .set)) (x .args .i) (o .result) (o .ensures .is) (sym
     (c .before .is-object .ensures) ∙ not-true _ (c .if3 .taken)))
 
 is-in-requires-2 : tie.Need-is-in-requires-2
@@ -55,7 +54,7 @@ returns-4 : tie.Need-returns-4
 returns-4 c =
     let x = c .before .before .before .before .before .before .before .before .before .before .before in
     let o = c .before .before .before .before .end-object in
-    decides-no (ended-object-out (x .args .base .now) (has (x .args .set)) (x .args .i) (o .result) (o .ensures .is) (sym (c .before .is-in2 .ensures)
+    row-no (ended-object-out (x .args .base .now) (has (x .args .set)) (x .args .i) (o .result) (o .ensures .is) (sym (c .before .is-in2 .ensures)
     ∙ not-true _ (c .if4 .taken)))
 
 value-requires : tie.Need-value-requires
@@ -72,7 +71,7 @@ returns-5 c =
     let x = c .before .before .before .before .before .before .before .before .before .before .before .before .before in
     let l = c .before .before .before .before .before .before .before .before .before .before .before .end-link in
     let o = c .before .before .before .before .before .before .end-object in
-    decides-yes (ended-alone (x .args .base .now) (has (x .args .set)) (x .args .i) (l .result) (o .result) (l .ensures .is) (o .ensures .is)
+    row-yes (x .pre .1) (ended-alone (x .args .base .now) (has (x .args .set)) (x .args .i) (l .result) (o .result) (l .ensures .is) (o .ensures .is)
     (sym (c .before .before .before .before .before .before .before .before .before .before .is-link .ensures) ∙ not-false _
     (c .before .before .before .before .before .before .before .before .before .if1 .left)) (sym
     (c .before .before .before .before .before .before .before .before .is-in .ensures) ∙ not-false _ (c .before .before .before .before .before .before .before .if2 .left))
@@ -100,13 +99,13 @@ reverse-requires c κs =
           (c .before .before .before .before .before .before .before .before .before .before .before .if1 .left)),
     )
 
-sub-has-end : tie.Need-sub-has-end
-sub-has-end c =
+sub-end-row : tie.Need-sub-end-row
+sub-end-row c =
     let x = c .before .before .before .before .before .before .before .before .before .before .before .before .before .before .before .before in
     omega (arith, c .before .before .end-side .ensures .is, x .pre .0 .sides (x .args .i) (x .pre .1))
 
-has-end-requires : tie.Need-has-end-requires
-has-end-requires c κs =
+end-row-requires : tie.Need-end-row-requires
+end-row-requires c κs =
     let x = c .before .before .before .before .before .before .before .before .before .before .before .before .before .before .before .before in (
       (x .pre .0 .long, x .pre .0 .counted .fits),
       (
@@ -128,7 +127,7 @@ returns-6 c =
     let o = c .before .before .before .before .before .before .before .before .before .before .end-object in
     let kl = sym (c .before .before .before .before .before .before .before .before .before .before .before .before .before .before .is-link .ensures)
     ∙ not-false _ (c .before .before .before .before .before .before .before .before .before .before .before .before .before .if1 .left) in
-    decides-iff
+    row-found
     (ended-both (x .args .base .now) (has (x .args .set)) (x .args .i) (l .result) (o .result) (l .ensures .is) (o .ensures .is) kl (x .pre .0) (x .pre .1)
     (c .before .before .end-sds .result) (c .before .reverse .result) (c .before .before .before .end-side .result)
     (c .before .before .end-sds .ensures .is) (c .before .reverse .ensures .is) (c .before .before .before .end-side .ensures .is)
@@ -141,7 +140,7 @@ returns-6 c =
     (c .before .before .end-sds .result) (c .before .reverse .result) (c .before .before .before .end-side .result)
     (c .before .before .end-sds .ensures .is) (c .before .reverse .ensures .is) (c .before .before .before .end-side .ensures .is)
     (λ q. c .before .before .before .before .if5 .left (c .before .before .before .before .before .value .ensures .is ∙ q)))
-    (c .has-end .ensures)
+    (c .end-row .ensures)
 
 pub end-fine-spec : {M : Type 1} → statement M
 end-fine-spec =
@@ -162,6 +161,6 @@ end-fine-spec =
     end-side-requires
     end-sds-requires
     reverse-requires
-    sub-has-end
-    has-end-requires
+    sub-end-row
+    end-row-requires
     returns-6)

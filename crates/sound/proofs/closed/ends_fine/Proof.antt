@@ -3,7 +3,6 @@ use borrow.Author.Needs.{needs}
 use Prim.Native.Nat.{ℕ, _+_, _≤_, _<_, _-_}
 use native.Mathlib.Omega.{arith}
 use borrow.Author.Count.{below-more}
-use borrow.Author.Tests.{not-true, not-false}
 use Rattle.marks.specs.Set.{has}
 use Rattle.base.proofs.Decides.{decides-yes, decides-no}
 use Rattle.sound.specs.Held.{Ended}
@@ -11,10 +10,10 @@ use Rattle.sound.proofs.closed.ends_fine.Statement.{statement}
 use Rattle.sound.proofs.closed.ends_fine.Tie as tie
 
 abbrev Inv-loop : tie.InvT-loop
-Inv-loop base n from to set i₀ i = (from ≤ i) × ((k : ℕ) → k < i → from ≤ k → Ended base (has set) k)
+Inv-loop base n from to set near₀ i₀ near i = (from ≤ i) × ((k : ℕ) → k < i → from ≤ k → Ended base (has set) k)
 
 abbrev μ-loop : tie.MeasureT-loop
-μ-loop base n from to set i₀ i = to - i
+μ-loop base n from to set near₀ i₀ near i = to - i
 
 loop-holds : tie.Need-loop-holds Inv-loop μ-loop
 loop-holds c = (omega arith, λ k h l. absurd (omega arith))
@@ -28,7 +27,12 @@ end-fine-requires c κs =
 returns : tie.Need-returns Inv-loop μ-loop
 returns c =
     let at = c .before .before .before in
-    decides-no (λ f. c .before .end-fine .ensures .fails (not-true _ (c .if1 .taken)) (f (at .loop .i) (c .before .before .loop-test .taken) (at .loop .inv .0)))
+    decides-no (λ f. c .before .end-fine .ensures .fails (c .if1 .taken) (f (at .loop .i) (c .before .before .loop-test .taken) (at .loop .inv .0)))
+
+add-near : tie.Need-add-near Inv-loop μ-loop
+add-near c =
+    let x = c .before .before .before .before .before in
+    omega (arith, c .if1 .left, x .pre .0 .counted .fits)
 
 add-i : tie.Need-add-i Inv-loop μ-loop
 add-i c = search needs
@@ -39,7 +43,7 @@ loop-less c = search needs
 loop-again : tie.Need-loop-again Inv-loop μ-loop
 loop-again c =
     let at = c .before .before .before in
-    (omega arith, below-more _ _ (at .loop .inv .1) (λ l. c .before .end-fine .ensures .holds (not-false _ (c .if1 .left))))
+    (omega arith, below-more _ _ (at .loop .inv .1) (λ l. c .before .end-fine .ensures .holds (c .if1 .left)))
 
 returns-2 : tie.Need-returns-2 Inv-loop μ-loop
 returns-2 c = decides-yes (λ k h l. c .before .loop .inv .1 k (omega arith) l)
@@ -53,6 +57,7 @@ ends-fine-spec =
     loop-holds
     end-fine-requires
     returns
+    add-near
     add-i
     loop-less
     loop-again

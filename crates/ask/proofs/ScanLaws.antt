@@ -11,11 +11,11 @@ use Rattle.rules.specs.04-Schema.{Schema, Side, is-parent, side-code}
 use Rattle.rules.specs.04-Schema.Side.{origin, destination}
 use Rattle.rules.specs.05-Descent.{descends, members}
 use Rattle.rules.specs.08-Working.{listed-sdss, applied-in, end-in, upward}
+use Rattle.rules.proofs.Bools.{same-test}
 use Rattle.rules.proofs.01-Lists.{any-at, any-where}
 use Rattle.rules.proofs.05-Descent.{members-in, members-of}
 use Rattle.graph.specs.Kin.{parents-of, children-of, ancestors-of, descendants-of}
 use Rattle.working.specs.Shown.{gathered}
-use Rattle.working.proofs.ShownLaws.{alike}
 use Rattle.working.proofs.Rules.{among-in, in-among, attributes-are, links-are, objects-are}
 use Rattle.ask.specs.Scans.{object-scan, link-scan, sources, Scanned}
 
@@ -28,7 +28,7 @@ any-alike p q e (x ∷ l) = ap₂ _||_ (e x) (any-alike p q e l)
 
 -- some type is in both
 members-turned : (p q : ℕ → Bool) → any q (members p) ≡ any p (members q)
-members-turned p q = alike (any q (members p)) (any p (members q)) (turn p q) (turn q p)
+members-turned p q = same-test (any q (members p)) (any p (members q)) (turn p q) (turn q p)
   where
     turn : (p q : ℕ → Bool) → any q (members p) ≡ true → any p (members q) ≡ true
     turn p q e =
@@ -37,7 +37,7 @@ members-turned p q = alike (any q (members p)) (any p (members q)) (turn p q) (t
         any-at p (members-of q x u h) g
 
 members-among : (q : ℕ → Bool) (k : ℕ) → (128 ≤ k → q k ≡ false) → among (members q) k ≡ q k
-members-among q k past = alike (among (members q) k) (q k) (λ e. members-in q k (among-in (members q) k e) .1) (λ e. in-among (members-of q k (below e) e))
+members-among q k past = same-test (among (members q) k) (q k) (λ e. members-in q k (among-in (members q) k e) .1) (λ e. in-among (members-of q k (below e) e))
   where
     below : q k ≡ true → k < 128
     below e = go (ltb k 128) refl
@@ -51,7 +51,7 @@ members-among q k past = alike (among (members q) k) (q k) (λ e. members-in q k
 module _ (p : ℕ → Bool) (t : ℕ) (small : t < 128) (is : (k : ℕ) → p k ≡ eqb k t) where
   one-member : (f : ℕ → Bool) → any f (members p) ≡ f t
   one-member f =
-      alike (any f (members p)) (f t)
+      same-test (any f (members p)) (f t)
       (λ e.
       let (x, i, h) = any-where f (members p) e in
       ap f (sym (eqb-true x t (sym (is x) ∙ members-in p x i .1))) ∙ h)

@@ -11,7 +11,7 @@ use Rattle.rules.specs.07-Picture.{Sound, sds-row, picture, base-length}
 use Rattle.rules.specs.09-Refusals.{Outcome, refusal, success, answer-of}
 use Rattle.rules.specs.09-Refusals.Outcome.{refused, done}
 use Rattle.rules.specs.10-Changes.{with-sdss}
-use Rattle.rules.specs.12-Contracts.{Kept, Answered, base-after}
+use Rattle.rules.specs.12-Contracts.{Kept, Listed, Answered, base-after, output-after}
 use Rattle.base.specs.Rows.{sds-at}
 use Rattle.base.specs.Table.{written}
 use Rattle.base.specs.Back.{schema-of}
@@ -45,6 +45,18 @@ module _ {b : List ℕ} {rule : Schema → Outcome Schema} {a : Answer} where
   kept-done s₀ r e f = kept-as s₀ r e f
 
 module _ {b : List ℕ} {rule : Schema → Outcome (List ℕ)} {a : Answer} where
+  pub listed-spoiled : {out : List ℕ} → (Sound b → ⊥) → a ≡ refusal 1 → Listed b rule a out out
+  listed-spoiled n e = record { spoiled = λ _. (e, refl); kept = λ s g p. absurd (n (record { schema = s; good = g; shown = p })) }
+
+  pub listed-as : Sound b → {before after : List ℕ} {o : Outcome (List ℕ)} → rule (schema-of b) ≡ o → a ≡ answer-of o → after ≡ output-after before o
+      → Listed b rule a before after
+  listed-as s₀ {before} r e f = record {
+    spoiled = λ n. absurd (n s₀);
+    kept = λ s g p.
+        let same = sym r ∙ ap rule (shown-by g p) in
+        (e ∙ ap answer-of same, f ∙ ap (output-after before) same);
+  }
+
   pub answered-spoiled : (Sound b → ⊥) → a ≡ refusal 1 → Answered b rule a
   answered-spoiled n e = record { spoiled = λ _. e; kept = λ s g p. absurd (n (record { schema = s; good = g; shown = p })) }
 

@@ -16,7 +16,7 @@ use Rattle.rules.specs.04-Schema.{Schema, parents, is-parent}
 use Rattle.rules.specs.05-Descent.{Parent, Descends, descends, members}
 use Rattle.rules.specs.05-Descent.Descends.{by-parent, by-step}
 use Rattle.rules.specs.06-Good.{Good}
-use Rattle.rules.proofs.Bools.{or-cases, or-left, or-right}
+use Rattle.rules.proofs.Bools.{same-test, or-cases, or-left, or-right}
 use Rattle.rules.proofs.01-Lists.{any-at, any-where, numbers-none}
 use Rattle.rules.proofs.05-Descent.{members-in, members-of, child-object, past, descends-sound, descends-full}
 use Rattle.base.specs.Rows.{type-at}
@@ -33,12 +33,6 @@ use Rattle.graph.proofs.Rows.{object-below, parent-below, parents-count
 use Rattle.graph.proofs.Laws.{types-taken, types-passed}
 
 -- ---- tests
-
--- two tests that pass together are the same
-pub same-test : (x y : Bool) → (x ≡ true → y ≡ true) → (y ≡ true → x ≡ true) → x ≡ y
-same-test true y f g = sym (f refl)
-same-test false true f g = g refl
-same-test false false f g = refl
 
 -- a choice by a test that is known
 pub chosen-first : (test x y : Bool) → test ≡ true → x ≡ cond test x y

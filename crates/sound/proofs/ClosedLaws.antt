@@ -11,7 +11,7 @@ use lib.ListN.{getD}
 use borrow.Author.Count.{below-more}
 use borrow.Author.Tests.{ltb-true, ltb-false, eqb-true, eq-eqb}
 use Rattle.rules.specs.04-Schema.{Presence, holds-type, present}
-use Rattle.rules.proofs.Bools.{or-cases, or-left, or-right, and-both, and-of}
+use Rattle.rules.proofs.Bools.{same-test, or-cases, or-left, or-right, and-both, and-of}
 use Rattle.rules.proofs.01-Lists.{any-at, any-where}
 use Rattle.marks.specs.Set.{has}
 use Rattle.base.specs.Rows.{presence-at, application-at, end-at, Counted, Split}
@@ -21,11 +21,6 @@ use Rattle.sound.specs.declared.closed.Held.{Held}
 use Rattle.sound.specs.declared.closed.Places.{Places}
 use Rattle.sound.specs.declared.closed.Checked.{Checked}
 use Rattle.sound.specs.Held.{type-in, Shows, Gathered, Closed-type, Applied, Ended, Sds-closed, Ready, At, Checks}
-
-same-test : (a b : Bool) → (a ≡ true → b ≡ true) → (b ≡ true → a ≡ true) → a ≡ b
-same-test true b f g = sym (f refl)
-same-test false true f g = g refl
-same-test false false f g = refl
 
 -- ---- the rows of SDS d stand between its place and the next one's
 

@@ -8,10 +8,9 @@ use borrow.Author.Tests.{eqb-true, eq-eqb}
 use Rattle.rules.specs.01-Lists.{_∈_, any, among}
 use Rattle.rules.specs.04-Schema.{Schema, Side, Presence, Application, End, holds-type, present, is-application, applied, side-code, is-end, has-end}
 use Rattle.rules.specs.08-Working.{listed-sdss, visible, applied-in, end-in}
-use Rattle.rules.proofs.Bools.{and-both, and-of}
+use Rattle.rules.proofs.Bools.{same-test, and-both, and-of}
 use Rattle.rules.proofs.01-Lists.{any-at, any-where}
 use Rattle.working.specs.Shown.{gathered}
-use Rattle.working.proofs.ShownLaws.{alike}
 
 pub among-in : (l : List ℕ) (n : ℕ) → among l n ≡ true → n ∈ l
 among-in l n e = let (x, i, h) = any-where (eqb n) l e in rw (eqb-true n x h) i
@@ -42,7 +41,7 @@ module _ (s : Schema) (w : List ℕ) (sdss : ℕ → Bool) (listed : (d : ℕ) �
   pub visible-are : (k : ℕ) → gathered (λ p. sdss (p .sds)) (λ p. p .type) (s .presences) k ≡ visible s w k
   unfolding visible present
   visible-are k =
-      alike (gathered (λ p. sdss (p .sds)) (λ p. p .type) (s .presences) k) (any (λ d. any (holds-type d k) (s .presences)) (listed-sdss s w))
+      same-test (gathered (λ p. sdss (p .sds)) (λ p. p .type) (s .presences) k) (any (λ d. any (holds-type d k) (s .presences)) (listed-sdss s w))
       (λ e.
       let (p, i, t, q) = gathered-where (λ p. sdss (p .sds)) (λ p. p .type) (s .presences) k e in
       any-at (λ d. any (holds-type d k) (s .presences)) (inside t)
@@ -58,7 +57,7 @@ module _ (s : Schema) (w : List ℕ) (sdss : ℕ → Bool) (listed : (d : ℕ) �
         → gathered (λ x. sdss (x .sds) && types (x .to)) (λ x. x .attribute) (s .applications) k ≡ any (λ a. applied-in s w a k) l
     unfolding applied-in applied
     attributes-are k =
-        alike (gathered (λ x. sdss (x .sds) && types (x .to)) (λ x. x .attribute) (s .applications) k)
+        same-test (gathered (λ x. sdss (x .sds) && types (x .to)) (λ x. x .attribute) (s .applications) k)
         (any (λ a. any (λ d. any (is-application d a k) (s .applications)) (listed-sdss s w)) l)
         (λ e.
         let (x, i, t, q) = gathered-where (λ x. sdss (x .sds) && types (x .to)) (λ x. x .attribute) (s .applications) k e in
@@ -112,7 +111,7 @@ module _ (s : Schema) (w : List ℕ) (sdss : ℕ → Bool) (listed : (d : ℕ) �
         → gathered (λ e. (sdss (e .sds) && eqb (side-code (e .side)) (side-code side)) && types (e .object)) (λ e. e .link) (s .ends) k
         ≡ any (λ a. end-in s w k side a) l
     links-are types l of k =
-        alike (gathered (λ e. counts e && types (e .object)) (λ e. e .link) (s .ends) k) (any (λ a. end-in s w k side a) l)
+        same-test (gathered (λ e. counts e && types (e .object)) (λ e. e .link) (s .ends) k) (any (λ a. end-in s w k side a) l)
         (λ h.
         let (e, i, t, q) = gathered-where (λ e. counts e && types (e .object)) (λ e. e .link) (s .ends) k h in
         let (u, v) = and-both (counts e) (types (e .object)) t in
@@ -128,7 +127,7 @@ module _ (s : Schema) (w : List ℕ) (sdss : ℕ → Bool) (listed : (d : ℕ) �
         → gathered (λ e. (sdss (e .sds) && eqb (side-code (e .side)) (side-code side)) && eqb (e .link) link) (λ e. e .object) (s .ends) k
         ≡ end-in s w link side k
     objects-are link k =
-        alike (gathered (λ e. counts e && eqb (e .link) link) (λ e. e .object) (s .ends) k) (end-in s w link side k)
+        same-test (gathered (λ e. counts e && eqb (e .link) link) (λ e. e .object) (s .ends) k) (end-in s w link side k)
         (λ h.
         let (e, i, t, q) = gathered-where (λ e. counts e && eqb (e .link) link) (λ e. e .object) (s .ends) k h in
         let (u, v) = and-both (counts e) (eqb (e .link) link) t in

@@ -12,7 +12,7 @@ use borrow.Author.Tests.{eqb-true, eq-eqb}
 use Rattle.rules.specs.01-Lists.{_∈_, any}
 use Rattle.rules.specs.04-Schema.{Presence, Application, End, holds-type, present, side-code}
 use Rattle.rules.specs.07-Picture.{Sound, end-row}
-use Rattle.rules.proofs.Bools.{or-cases, or-left, or-right, and-both, and-of}
+use Rattle.rules.proofs.Bools.{same-test, or-cases, or-left, or-right, and-both, and-of}
 use Rattle.rules.proofs.01-Lists.{any-at, any-where}
 use Rattle.rules.proofs.05-Descent.{used-below}
 use Rattle.rules.proofs.07-Picture.{read-side, read-end}
@@ -59,19 +59,13 @@ module _ (test : ℕ → Bool) (type : ℕ → ℕ) where
       marks = λ k e. let (i, l, u, w) = so-far .marks k e in (i, omega arith, u, w);
     }
 
--- two tests that follow from each other
-pub alike : (a b : Bool) → (a ≡ true → b ≡ true) → (b ≡ true → a ≡ true) → a ≡ b
-alike true b f g = sym (f refl)
-alike false true f g = g refl
-alike false false f g = refl
-
 module _ {A : Type 0} (test : A → Bool) (type : A → ℕ) (l : List A) (row : ℕ → A) (n : ℕ)
     (there : (i : ℕ) → i < n → row i ∈ l) (only : (x : A) → x ∈ l → (i : ℕ) × (i < n) × (x ≡ row i)) where
   -- from all rows of a table
   gathers-all : (p : ℕ → Bool) → Gathers n (λ i. test (row i)) (λ i. type (row i)) p → (k : ℕ) → p k ≡ gathered test type l k
   unfolding gathered
   gathers-all p all k =
-      alike (p k) (any (λ x. test x && eqb k (type x)) l)
+      same-test (p k) (any (λ x. test x && eqb k (type x)) l)
       (λ e.
       let (i, h, t, w) = all .marks k e in
       any-at (λ x. test x && eqb k (type x)) (there i h) (and-of (test (row i)) (eqb k (type (row i))) t (eq-eqb k (type (row i)) (sym w))))

@@ -54,6 +54,7 @@ module _ {b w : List ℕ} {t : ℕ} {link known : Bool} where
       spoiled = λ _. e;
       told = λ s. absurd (n s);
       sound = λ o. absurd (o e);
+      code-known = λ z. absurd (omega arith);
       through = λ z. absurd (omega arith);
     }
 
@@ -63,18 +64,20 @@ module _ {b w : List ℕ} {t : ℕ} {link known : Bool} where
       spoiled = λ o. absurd (o (c .sound));
       told = λ s. r ∙ sym (c .left ∙ here);
       sound = λ o. c .sound;
+      code-known = λ z. absurd (omega arith);
       through = λ z. absurd (omega arith);
     }
       where
         here : cond x n (told cs) ≡ n
         here = rw e
 
-    pub view-through : Past b w t link known 5 → v .no ≡ 0 → Through b w t link v → Viewed b w t link known v
+    pub view-through : Past b w t link known 5 → known ≡ true → v .no ≡ 0 → Through b w t link v → Viewed b w t link known v
     unfolding told
-    view-through c e th = record {
+    view-through c k e th = record {
       spoiled = λ o. absurd (o (c .sound));
       told = λ s. e ∙ sym (c .left);
       sound = λ o. c .sound;
+      code-known = λ z. k;
       through = λ z. th;
     }
 

@@ -44,4 +44,5 @@ pub record Viewed (b w : List ℕ) (t : ℕ) (link known : Bool) (v : View) : Ty
   pub spoiled : (Sound b → ⊥) → v .no ≡ 1
   pub told : Sound b → v .no ≡ told (type-refusals (schema-of b) w t link known)
   pub sound : (v .no ≡ 1 → ⊥) → Sound b
+  pub code-known : v .no ≡ 0 → known ≡ true
   pub through : v .no ≡ 0 → Through b w t link v

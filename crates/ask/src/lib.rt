@@ -1,12 +1,103 @@
 // The asking calls. They read a sound base, and change nothing but an output.
+pub mod lists;
 pub mod scan;
 pub mod view;
 
 use base::Base;
 use rules::Answer;
 use rules::Limits;
-ghost use Rattle.rules.specs.11-Asks.{name};
-ghost use Rattle.rules.specs.12-Contracts.{Answered, Handed};
+ghost use Rattle.rules.specs.11-Asks.{scan-object, scan-link, profile, find, depth-of, name, descendant-set};
+ghost use Rattle.rules.specs.12-Contracts.{room, Listed, Answered, Handed};
+
+// The types that stand in one relation to an object type, by the code of the relation.
+pub fn scan_object(base: &[u8], schema: &[u8], t: usize, code: usize, out: &mut [u8]) -> Answer
+    ensures { λ r. ⌜ Listed (now (base .entry)) (scan-object (now (schema .entry)) t code (room (now (out .entry)))) r (now (out .entry)) (now (out .exit)) ⌝ }
+{
+    let view = view::of(base, schema, t, false, code < 10);
+    if view.no != 0 {
+        return Answer::refused(view.no);
+    }
+    let set = scan::of_object(base, view.listed, t, code);
+    lists::put(view.visible.meet(set), out)
+}
+
+// The like for a link type.
+pub fn scan_link(base: &[u8], schema: &[u8], t: usize, code: usize, out: &mut [u8]) -> Answer
+    ensures { λ r. ⌜ Listed (now (base .entry)) (scan-link (now (schema .entry)) t code (room (now (out .entry)))) r (now (out .entry)) (now (out .exit)) ⌝ }
+{
+    let view = view::of(base, schema, t, true, code < 5);
+    if view.no != 0 {
+        return Answer::refused(view.no);
+    }
+    let set = scan::of_link(base, view.listed, t, code);
+    lists::put(view.visible.meet(set), out)
+}
+
+// Ancestors, attribute-all and link-origin-all of an object type, each list straight after the last.
+pub fn profile(base: &[u8], schema: &[u8], t: usize, out: &mut [u8]) -> Answer
+    ensures { λ r. ⌜ Listed (now (base .entry)) (profile (now (schema .entry)) t (room (now (out .entry)))) r (now (out .entry)) (now (out .exit)) ⌝ }
+{
+    let view = view::of(base, schema, t, false, true);
+    if view.no != 0 {
+        return Answer::refused(view.no);
+    }
+    let ancestors = scan::of_object(base, view.listed, t, 3);
+    let attributes = scan::of_object(base, view.listed, t, 5);
+    let links = scan::of_object(base, view.listed, t, 7);
+    lists::put_three(
+        view.visible.meet(ancestors),
+        view.visible.meet(attributes),
+        view.visible.meet(links),
+        out,
+    )
+}
+
+// The type that bears a local name in the first listed SDS that has it.
+pub fn find(base: &[u8], schema: &[u8], name: &[u8]) -> Answer
+    ensures { λ r. ⌜ Answered (now (base .entry)) (find (now (schema .entry)) (now (name .entry))) r ⌝ }
+{
+    if !sound::is_sound(base) {
+        return Answer::refused(1);
+    }
+    if working::listed::has_unknown(base, schema) {
+        return Answer::refused(2);
+    }
+    if !names::is_well_formed(name) {
+        return Answer::refused(4);
+    }
+    let t = working::find::type_named(base, schema, name);
+    if t == Limits::TYPES {
+        return Answer::refused(6);
+    }
+    if working::listed::has_repeated(schema) {
+        return Answer::refused(8);
+    }
+    Answer::done(t, 0, 0)
+}
+
+// The greatest number of parent steps from an object type up to type 0.
+pub fn depth(base: &[u8], schema: &[u8], t: usize) -> Answer
+    ensures { λ r. ⌜ Answered (now (base .entry)) (depth-of (now (schema .entry)) t) r ⌝ }
+{
+    let view = view::of(base, schema, t, false, true);
+    if view.no != 0 {
+        return Answer::refused(view.no);
+    }
+    Answer::done(graph::kin::depth(base, t), 0, 0)
+}
+
+// The visible descendants of an object type, in two words, and how many there are.
+pub fn descendant_set(base: &[u8], schema: &[u8], t: usize) -> Answer
+    ensures { λ r. ⌜ Answered (now (base .entry)) (descendant-set (now (schema .entry)) t) r ⌝ }
+{
+    let view = view::of(base, schema, t, false, true);
+    if view.no != 0 {
+        return Answer::refused(view.no);
+    }
+    let descendants = scan::of_object(base, view.listed, t, 1);
+    let set = view.visible.meet(descendants);
+    Answer::done(set.low as usize, set.high as usize, set.count())
+}
 
 // Where the local name of a type in an SDS starts in the base, and how long it is.
 pub fn name_place(base: &[u8], sds: usize, t: usize) -> Answer

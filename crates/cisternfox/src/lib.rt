@@ -3,9 +3,9 @@
 use base::Base;
 use rules::Answer;
 ghost use Rattle.rules.specs.10-Changes.{new-sds, remove-sds};
-ghost use Rattle.rules.specs.11-Asks.{name};
+ghost use Rattle.rules.specs.11-Asks.{scan-object, scan-link, profile, find, depth-of, name, descendant-set};
 ghost use Rattle.rules.specs.07-Picture.{base-length};
-ghost use Rattle.rules.specs.12-Contracts.{Kept, Answered, Freshened};
+ghost use Rattle.rules.specs.12-Contracts.{room, Kept, Listed, Answered, Freshened};
 ghost use mathlib.Core.Path.{_≡_};
 
 #[no_mangle]
@@ -34,6 +34,60 @@ pub extern "C" fn cf_remove_sds(base: &mut [u8], sds: usize) -> Answer
     ensures { λ r. ⌜ Kept (now (base .entry)) (remove-sds sds) r (now (base .exit)) ⌝ }
 {
     change::remove_sds(base, sds)
+}
+
+#[no_mangle]
+pub extern "C" fn cf_scan_object(
+    base: &[u8],
+    schema: &[u8],
+    t: usize,
+    code: usize,
+    output: &mut [u8],
+) -> Answer
+    ensures { λ r. ⌜ Listed (now (base .entry)) (scan-object (now (schema .entry)) t code (room (now (output .entry)))) r (now (output .entry)) (now (output .exit)) ⌝ }
+{
+    ask::scan_object(base, schema, t, code, output)
+}
+
+#[no_mangle]
+pub extern "C" fn cf_scan_link(
+    base: &[u8],
+    schema: &[u8],
+    t: usize,
+    code: usize,
+    output: &mut [u8],
+) -> Answer
+    ensures { λ r. ⌜ Listed (now (base .entry)) (scan-link (now (schema .entry)) t code (room (now (output .entry)))) r (now (output .entry)) (now (output .exit)) ⌝ }
+{
+    ask::scan_link(base, schema, t, code, output)
+}
+
+#[no_mangle]
+pub extern "C" fn cf_profile(base: &[u8], schema: &[u8], t: usize, output: &mut [u8]) -> Answer
+    ensures { λ r. ⌜ Listed (now (base .entry)) (profile (now (schema .entry)) t (room (now (output .entry)))) r (now (output .entry)) (now (output .exit)) ⌝ }
+{
+    ask::profile(base, schema, t, output)
+}
+
+#[no_mangle]
+pub extern "C" fn cf_find(base: &[u8], schema: &[u8], name: &[u8]) -> Answer
+    ensures { λ r. ⌜ Answered (now (base .entry)) (find (now (schema .entry)) (now (name .entry))) r ⌝ }
+{
+    ask::find(base, schema, name)
+}
+
+#[no_mangle]
+pub extern "C" fn cf_depth(base: &[u8], schema: &[u8], t: usize) -> Answer
+    ensures { λ r. ⌜ Answered (now (base .entry)) (depth-of (now (schema .entry)) t) r ⌝ }
+{
+    ask::depth(base, schema, t)
+}
+
+#[no_mangle]
+pub extern "C" fn cf_descendant_set(base: &[u8], schema: &[u8], t: usize) -> Answer
+    ensures { λ r. ⌜ Answered (now (base .entry)) (descendant-set (now (schema .entry)) t) r ⌝ }
+{
+    ask::descendant_set(base, schema, t)
 }
 
 #[no_mangle]

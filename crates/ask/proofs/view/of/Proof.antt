@@ -95,7 +95,7 @@ returns-6 c = view-refused (past-4 (c .before .before .before)) (sym (c .before 
 
 returns-7 : tie.Need-returns-7
 returns-7 c =
-    view-through (come-next (past-4 (c .before .before)) (sym (c .before .has-repeated .ensures) ∙ c .if6 .left)) refl (record {
+    view-through (come-next (past-4 (c .before .before)) (sym (c .before .has-repeated .ensures) ∙ c .if6 .left)) (not-false _ (c .before .before .before .before .before .before .before .before .if3 .left)) refl (record {
       sound = past-4 (c .before .before) .sound;
       below = below (c .before .before .before .before);
       kind = sym (c .before .before .before .is-of-kind .ensures) ∙ not-false _ (c .before .before .if5 .left);

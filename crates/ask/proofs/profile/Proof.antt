@@ -1,0 +1,81 @@
+use borrow.Author.Needs.{needs}
+use Prim.Native.Nat.{ℕ, _<_}
+use native.Mathlib.Omega.{arith}
+use mathlib.Core.Path.{_≡_, refl, sym, ap, _∙_}
+use mathlib.Core.List.{[]}
+use borrow.Author.Tests.{ltb-true}
+use Rattle.rules.specs.12-Contracts.{room}
+use Rattle.rules.specs.09-Refusals.{success}
+use Rattle.rules.proofs.09-Refusals.{ends}
+use Rattle.base.specs.Back.{schema-of}
+use Rattle.base.proofs.Kept.{answered-as}
+use Rattle.marks.specs.Set.{has}
+use Rattle.ask.proofs.ViewLaws.{viewed-passes}
+use Rattle.rules.specs.11-Asks.{profile-list, profile-ancestors, profile-attributes, profile-links}
+use Rattle.ask.proofs.CallLaws.{profile-left, room-test, listed-refused, object-list, listed-three}
+use Rattle.ask.proofs.profile.Statement.{statement}
+use Rattle.ask.proofs.profile.Tie as tie
+
+of-requires : tie.Need-of-requires
+of-requires c κs = search needs
+
+refused-requires : tie.Need-refused-requires
+refused-requires c κs = search needs
+
+returns : tie.Need-returns
+returns c =
+    let x = c .before .before .before .before .before .before .before .args in
+    listed-refused (c .before .before .before .of .ensures) (c .before .if1 .taken) _ (profile-left (x .schema .now) (x .t) (room (x .out .now)) (schema-of (x .base .now))) (c .refused .ensures)
+
+of-object-requires : tie.Need-of-object-requires
+of-object-requires c κs = let th = c .before .before .of .ensures .through (c .if1 .left) in (th .sound, (th .below, omega arith))
+
+of-object-requires-2 : tie.Need-of-object-requires-2
+of-object-requires-2 c κs = let th = c .before .before .before .of .ensures .through (c .before .if1 .left) in (th .sound, (th .below, omega arith))
+
+of-object-requires-3 : tie.Need-of-object-requires-3
+of-object-requires-3 c κs = let th = c .before .before .before .before .of .ensures .through (c .before .before .if1 .left) in (th .sound, (th .below, omega arith))
+
+meet-requires : tie.Need-meet-requires
+meet-requires c κs = search needs
+
+meet-requires-2 : tie.Need-meet-requires-2
+meet-requires-2 c κs = search needs
+
+meet-requires-3 : tie.Need-meet-requires-3
+meet-requires-3 c κs = search needs
+
+put-three-requires : tie.Need-put-three-requires
+put-three-requires c κs = search needs
+
+same-length : tie.Need-same-length
+same-length c = search needs
+
+returns-2 : tie.Need-returns-2
+unfolding profile-list
+returns-2 c =
+    let x = c .before .before .before .before .before .before .before .before .before .before .before .before .before .before .before .before .args in
+    let v = c .before .before .before .before .before .before .before .before .before .before .before .before .of .ensures in
+    let z = c .before .before .before .before .before .before .before .before .before .before .if1 .left in
+    let th = v .through z in
+    listed-three (th .sound) (object-list th _ _ (c .before .before .before .before .before .before .meet .ensures) 3 (c .before .before .before .before .before .before .before .before .before .of-object .ensures)) (object-list th _ _ (c .before .before .before .before .before .meet2 .ensures) 5 (c .before .before .before .before .before .before .before .before .of-object2 .ensures))
+    (object-list th _ _ (c .before .before .before .before .meet3 .ensures) 7 (c .before .before .before .before .before .before .before .of-object3 .ensures)) (c .before .before .put-three .ensures)
+    (viewed-passes v (room-test (room (x .out .now)) (profile-list (x .schema .now) (x .t) (schema-of (x .base .now))))
+    (profile-left (x .schema .now) (x .t) (room (x .out .now)) (schema-of (x .base .now))) z)
+
+pub profile-spec : {M : Type 1} → statement M
+profile-spec =
+    tie.close
+    (tie.spec
+    of-requires
+    refused-requires
+    returns
+    of-object-requires
+    of-object-requires-2
+    of-object-requires-3
+    meet-requires
+    meet-requires-2
+    meet-requires-3
+    put-three-requires
+    same-length
+    returns-2)

@@ -5,7 +5,8 @@
  * between calls, and nothing is allocated.
  *
  * What the host owes: a pointer of a length above 0 points to so many bytes, and one of length 0 to anything but NULL;
- * a base overlaps no name; no other thread writes what is lent while a call runs. */
+ * what a call may write, a base or an output, overlaps nothing else that is lent; no other thread writes what is lent
+ * while a call runs. */
 #ifndef CISTERNFOX_H
 #define CISTERNFOX_H
 
@@ -36,5 +37,55 @@ cf_answer cf_remove_sds(uint8_t *base, size_t base_len, size_t sds);
  * base may move it.
  * 1: the base is not sound; 2: no SDS has the number; 6: the type is not in that SDS. */
 cf_answer cf_name(const uint8_t *base, size_t base_len, size_t sds, size_t type);
+
+/* The calls below ask under a working schema, `schema`: a list of SDS numbers, a byte each. An empty list stands for
+ * every SDS in number order. A type is visible if a listed SDS holds it. Only visible types are given, and only what
+ * is applied, an origin or a destination in a listed SDS counts.
+ *
+ * `output` takes a list: types in rising number, each once, an entry being two bytes, low byte first. Its room is
+ * counted in whole entries, and what lies beyond the entries put down stays as it was. */
+
+/* Lists types by their relation to an object type. one: their count. Codes:
+ * 0: its children; 1: its descendants; 2: its parents; 3: its ancestors;
+ * 4: the attribute types applied to it; 5: to it or an ancestor;
+ * 6: the link types that it is an origin of; 7: that it or an ancestor is;
+ * 8: the link types that it is a destination of; 9: that it or an ancestor is.
+ * 1: the base is not sound; 2: no SDS has a number listed; 5: no such code; 6: the type is not visible; 7: it is no
+ * object type; 8: an SDS is listed twice; 15: the output has too little room. */
+cf_answer cf_scan_object(const uint8_t *base, size_t base_len, const uint8_t *schema, size_t schema_len, size_t type,
+                         size_t code, uint8_t *output, size_t output_len);
+
+/* Lists types by their relation to a link type. one: their count. Codes:
+ * 0: its origins; 1: these and their descendants; 2: its destinations; 3: these and their descendants;
+ * 4: the attribute types applied to it.
+ * 1: the base is not sound; 2: no SDS has a number listed; 5: no such code; 6: the type is not visible; 7: it is no
+ * link type; 8: an SDS is listed twice; 15: the output has too little room. */
+cf_answer cf_scan_link(const uint8_t *base, size_t base_len, const uint8_t *schema, size_t schema_len, size_t type,
+                       size_t code, uint8_t *output, size_t output_len);
+
+/* Lists an object type's ancestors, then the attribute types applied to it or an ancestor, then the link types that it
+ * or an ancestor is an origin of, each list straight after the last. one, two, three: their counts.
+ * 1: the base is not sound; 2: no SDS has a number listed; 6: the type is not visible; 7: it is no object type; 8: an
+ * SDS is listed twice; 15: the output has too little room for the three together. */
+cf_answer cf_profile(const uint8_t *base, size_t base_len, const uint8_t *schema, size_t schema_len, size_t type,
+                     uint8_t *output, size_t output_len);
+
+/* The type that bears a local name in the first listed SDS that has it. one: the type.
+ * 1: the base is not sound; 2: no SDS has a number listed; 4: the name is malformed; 6: no SDS listed has it; 8: an
+ * SDS is listed twice. */
+cf_answer cf_find(const uint8_t *base, size_t base_len, const uint8_t *schema, size_t schema_len, const uint8_t *name,
+                  size_t name_len);
+
+/* The greatest number of parent steps from an object type up to type 0. one: that depth.
+ * 1: the base is not sound; 2: no SDS has a number listed; 6: the type is not visible; 7: it is no object type; 8: an
+ * SDS is listed twice. */
+cf_answer cf_depth(const uint8_t *base, size_t base_len, const uint8_t *schema, size_t schema_len, size_t type);
+
+/* The set of an object type's descendants: type n is bit n mod 64 of word n div 64. one: word 0; two: word 1; three:
+ * their count.
+ * 1: the base is not sound; 2: no SDS has a number listed; 6: the type is not visible; 7: it is no object type; 8: an
+ * SDS is listed twice. */
+cf_answer cf_descendant_set(const uint8_t *base, size_t base_len, const uint8_t *schema, size_t schema_len,
+                            size_t type);
 
 #endif

@@ -5,8 +5,8 @@
  * input ends. A request is a `struct request`, then one area of bytes that holds all that the call is lent. A reply is
  * a `struct reply`, then the whole area as the call left it. Nothing is compared here, and nothing is kept. */
 #include "cisternfox.h"
+#include "clock.h"
 #include <stdio.h>
-#include <time.h>
 
 struct slice {
     uint8_t *at;
@@ -29,10 +29,28 @@ struct lent {
     CALL(fresh, BASE) \
     CALL(new_sds, BASE, TEXT(0)) \
     CALL(remove_sds, BASE, NUMBER(0)) \
-    CALL(name, BASE, NUMBER(0), NUMBER(1))
+    CALL(name, BASE, NUMBER(0), NUMBER(1)) \
+    CALL(scan_object, BASE, TEXT(0), NUMBER(0), NUMBER(1), OUTPUT) \
+    CALL(scan_link, BASE, TEXT(0), NUMBER(0), NUMBER(1), OUTPUT) \
+    CALL(profile, BASE, TEXT(0), NUMBER(0), OUTPUT) \
+    CALL(find, BASE, TEXT(0), TEXT(1)) \
+    CALL(depth, BASE, TEXT(0), NUMBER(0)) \
+    CALL(descendant_set, BASE, TEXT(0), NUMBER(0))
 
+#ifdef ANSWER_BY_POINTER
+/* The library's x86-64 module compiled for another machine (tests/native): there as on x86-64 the caller hands over
+ * the place of the answer, in front of the inputs, which are all of one word. */
+#define FUNCTION(name, ...) \
+    extern cf_answer *placed_##name(cf_answer *, ...) __asm__("cf_" #name); \
+    static cf_answer call_##name(const struct lent *c) \
+    { \
+        cf_answer answer; \
+        return *placed_##name(&answer, __VA_ARGS__); \
+    }
+#else
 #define FUNCTION(name, ...) \
     static cf_answer call_##name(const struct lent *c) { return cf_##name(__VA_ARGS__); }
+#endif
 EXPORTED(FUNCTION)
 
 #define ENTRY(name, ...) call_##name,
@@ -72,13 +90,6 @@ static struct lent lent_by(const struct request *request)
         lent.numbers[n] = request->numbers[n];
     }
     return lent;
-}
-
-static uint64_t now(void)
-{
-    struct timespec time;
-    timespec_get(&time, TIME_UTC);
-    return (uint64_t)time.tv_sec * 1000000000 + (uint64_t)time.tv_nsec;
 }
 
 static struct reply answer(const struct request *request)

@@ -1,10 +1,10 @@
-/* The library from C, as the repository service calls it: a handful of calls on one base, and the edges of document 01
- * that they have. The comparison (tests/compare) makes many more. */
+/* The library from C, as the repository service calls it: a handful of calls on small bases, and the edges of document
+ * 01 that they have. The comparison (tests/compare) makes many more. */
 #include "cisternfox.h"
 #include <stdio.h>
 #include <string.h>
 
-enum { LENGTH = 13312, GUARD = 16 };
+enum { LENGTH = 13312, OUTPUT = 256, GUARD = 16 };
 
 static unsigned passed, failed;
 
@@ -27,27 +27,185 @@ static int same(cf_answer found, cf_answer expected)
 #define EXPECT(condition) expect(__LINE__, #condition, (condition))
 #define ANSWERS(call, ...) expect(__LINE__, #call " is " #__VA_ARGS__, same(call, (cf_answer){__VA_ARGS__}))
 
-/* The base lies between guards. */
+/* The base lies between guards, and so does the output, which has the same byte all over before a call. */
 static uint8_t area[GUARD + LENGTH + GUARD];
 static uint8_t *const base = area + GUARD;
 static uint8_t before[LENGTH];
+static uint8_t output_area[GUARD + OUTPUT + GUARD];
+static uint8_t *const output = output_area + GUARD;
 
-static int is_guarded(void)
+static int is_blank(const uint8_t *bytes, size_t length)
 {
-    for (size_t n = 0; n < GUARD; n++)
-        if (area[n] != 0xa5 || area[GUARD + LENGTH + n] != 0xa5)
+    for (size_t n = 0; n < length; n++)
+        if (bytes[n] != 0xa5)
             return 0;
     return 1;
 }
 
-static void keep(void) { memcpy(before, base, LENGTH); }
-static int is_kept(void) { return memcmp(before, base, LENGTH) == 0; }
+static int is_guarded(void) { return is_blank(area, GUARD) && is_blank(area + GUARD + LENGTH, GUARD); }
+
+static void keep(void)
+{
+    memcpy(before, base, LENGTH);
+    memset(output_area, 0xa5, sizeof output_area);
+}
+
+static int is_kept(void)
+{
+    return memcmp(before, base, LENGTH) == 0 && is_blank(output_area, sizeof output_area);
+}
 
 /* The calls on the base; a name is a string, which holds no byte 0. */
 static cf_answer fresh(void) { return cf_fresh(base, LENGTH); }
 static cf_answer new_sds(const char *name) { return cf_new_sds(base, LENGTH, (const uint8_t *)name, strlen(name)); }
 static cf_answer remove_sds(size_t sds) { return cf_remove_sds(base, LENGTH, sds); }
 static cf_answer name(size_t sds, size_t type) { return cf_name(base, LENGTH, sds, type); }
+
+/* The asking calls; a working schema is a string of bytes, written as SCHEMA("\1\2"). The output's length is the one
+ * that is set before. */
+static size_t output_length;
+
+#define SCHEMA(sdss) (const uint8_t *)(sdss), sizeof(sdss) - 1
+#define SCAN_OBJECT(sdss, type, code) cf_scan_object(base, LENGTH, SCHEMA(sdss), type, code, output, output_length)
+#define SCAN_LINK(sdss, type, code) cf_scan_link(base, LENGTH, SCHEMA(sdss), type, code, output, output_length)
+#define PROFILE(sdss, type) cf_profile(base, LENGTH, SCHEMA(sdss), type, output, output_length)
+#define FIND(sdss, name) cf_find(base, LENGTH, SCHEMA(sdss), (const uint8_t *)(name), strlen(name))
+#define DEPTH(sdss, type) cf_depth(base, LENGTH, SCHEMA(sdss), type)
+#define DESCENDANT_SET(sdss, type) cf_descendant_set(base, LENGTH, SCHEMA(sdss), type)
+
+/* Whether the call, done, has put down the types, a byte each in the string, and nothing beyond. */
+static int is_put_down(const char *types, size_t count)
+{
+    for (size_t n = 0; n < count; n++)
+        if (output[2 * n] != (uint8_t)types[n] || output[2 * n + 1] != 0)
+            return 0;
+    return is_blank(output_area, GUARD) && is_blank(output + 2 * count, OUTPUT - 2 * count + GUARD);
+}
+
+/* The call lists the types and gives the counts wherever there is room for all. At every length below it is refused
+ * and leaves the output as it was; an odd length has no room for half an entry. */
+#define LISTS(call, types, ...) \
+    do { \
+        size_t count = sizeof(types) - 1; \
+        for (output_length = 0; output_length < 2 * count; output_length++) { \
+            ANSWERS(call, 15, 0, 0, 0); \
+            EXPECT(is_kept()); \
+        } \
+        for (; output_length < 2 * count + 4; output_length++) { \
+            ANSWERS(call, 0, __VA_ARGS__); \
+            EXPECT(is_put_down(types, count)); \
+            memset(output_area, 0xa5, sizeof output_area); \
+        } \
+        EXPECT(is_kept()); \
+    } while (0)
+
+/* A base that the calls above cannot make is written row by row, as docs/LAYOUT.md has it. Rows of a table rise. */
+static struct {
+    uint8_t *presence, *application, *end;
+} next;
+
+static void begin(const char *first, const char *second)
+{
+    fresh();
+    new_sds(first);
+    new_sds(second);
+    next.presence = base + 1280 + 18;
+    next.application = base + 10496;
+    next.end = base + 11264;
+}
+
+/* kind, value kind or category, reverse, number of parents, parents */
+#define PUT_TYPE(type, ...) memcpy(base + 256 + 8 * (type), (uint8_t[8]){__VA_ARGS__}, 8)
+#define PUT_APPLICATION(...) memcpy((next.application += 3) - 3, (uint8_t[3]){__VA_ARGS__}, 3)
+#define PUT_END(...) memcpy((next.end += 4) - 4, (uint8_t[4]){__VA_ARGS__}, 4)
+
+static void put_presence(uint8_t sds, const char *name, uint8_t type)
+{
+    next.presence[0] = sds;
+    memcpy(next.presence + 1, name, strlen(name));
+    next.presence[17] = type;
+    next.presence += 18;
+}
+
+/* The auditor's case: fifo and fifo2 are both of template and radio. */
+enum { UNIT = 1, TEMPLATE, RADIO, FIFO, FIFO2, ADC = FIFO };
+
+static void put_units(void)
+{
+    PUT_TYPE(UNIT, 1, 0, 0, 1, 0);
+    PUT_TYPE(TEMPLATE, 1, 0, 0, 1, UNIT);
+    PUT_TYPE(RADIO, 1, 0, 0, 1, UNIT);
+    PUT_TYPE(FIFO2, 1, 0, 0, 2, TEMPLATE, RADIO);
+    put_presence(1, "fifo2", FIFO2);
+    put_presence(1, "object", 0);
+    put_presence(1, "radio", RADIO);
+    put_presence(1, "template", TEMPLATE);
+    put_presence(1, "unit", UNIT);
+}
+
+static void a_base_with_fifo(void)
+{
+    begin("bus", "other");
+    PUT_TYPE(FIFO, 1, 0, 0, 2, TEMPLATE, RADIO);
+    put_presence(1, "fifo", FIFO);
+    put_units();
+    keep();
+}
+
+/* The same after fifo is removed and adc made: it has the lower number and the later birth. */
+static void a_base_with_adc(void)
+{
+    begin("bus", "other");
+    PUT_TYPE(ADC, 1, 0, 0, 1, FIFO2);
+    put_presence(1, "adc", ADC);
+    put_units();
+    keep();
+}
+
+/* Low is of left and right, both of top. SDS 2 lacks right, low, an attribute type and nine; each SDS has
+ * applications and ends of its own. */
+enum { TOP = 1, LEFT, RIGHT, LOW, FIVE, SIX, SEVEN, EIGHT, NINE };
+
+static void a_base_with_links(void)
+{
+    begin("one", "two");
+    PUT_TYPE(TOP, 1, 0, 0, 1, 0);
+    PUT_TYPE(LEFT, 1, 0, 0, 1, TOP);
+    PUT_TYPE(RIGHT, 1, 0, 0, 1, TOP);
+    PUT_TYPE(LOW, 1, 0, 0, 2, LEFT, RIGHT);
+    PUT_TYPE(FIVE, 2, 5);
+    PUT_TYPE(SIX, 2, 0);
+    PUT_TYPE(SEVEN, 3, 1, EIGHT);
+    PUT_TYPE(EIGHT, 3, 2, SEVEN);
+    PUT_TYPE(NINE, 3, 4);
+    put_presence(1, "eight", EIGHT);
+    put_presence(1, "five", FIVE);
+    put_presence(1, "left", LEFT);
+    put_presence(1, "low", LOW);
+    put_presence(1, "nine", NINE);
+    put_presence(1, "object", 0);
+    put_presence(1, "right", RIGHT);
+    put_presence(1, "seven", SEVEN);
+    put_presence(1, "six", SIX);
+    put_presence(1, "top", TOP);
+    put_presence(2, "eight", EIGHT);
+    put_presence(2, "five", SIX);
+    put_presence(2, "left", LEFT);
+    put_presence(2, "object", 0);
+    put_presence(2, "seven", SEVEN);
+    put_presence(2, "top", TOP);
+    PUT_APPLICATION(1, TOP, SIX);
+    PUT_APPLICATION(1, LOW, FIVE);
+    PUT_APPLICATION(1, NINE, FIVE);
+    PUT_APPLICATION(2, LEFT, SIX);
+    PUT_END(1, SEVEN, 0, LEFT);
+    PUT_END(1, EIGHT, 1, LEFT);
+    PUT_END(1, NINE, 0, LOW);
+    PUT_END(1, NINE, 1, TOP);
+    PUT_END(2, SEVEN, 1, TOP);
+    PUT_END(2, EIGHT, 0, TOP);
+    keep();
+}
 
 static void a_fresh_base(void)
 {
@@ -137,6 +295,173 @@ static void a_spoiled_base(void)
     EXPECT(is_guarded());
 }
 
+static void a_fresh_base_asked(void)
+{
+    fresh();
+    keep();
+    LISTS(SCAN_OBJECT("\0", 0, 1), "", 0, 0, 0);
+    LISTS(PROFILE("\0", 0), "", 0, 0, 0);
+    ANSWERS(DEPTH("\0", 0), 0, 0, 0, 0);
+    ANSWERS(DESCENDANT_SET("\0", 0), 0, 0, 0, 0);
+    ANSWERS(FIND("\0", "object"), 0, 0, 0, 0);
+    ANSWERS(FIND("", "object"), 0, 0, 0, 0);
+    ANSWERS(SCAN_LINK("\0", 0, 0), 7, 0, 0, 0);
+    EXPECT(is_kept());
+}
+
+static void every_descendant(void)
+{
+    a_base_with_fifo();
+    LISTS(SCAN_OBJECT("\1", TEMPLATE, 1), "\4\5", 2, 0, 0);
+    ANSWERS(DEPTH("\1", FIFO), 0, 3, 0, 0);
+    a_base_with_adc();
+    LISTS(SCAN_OBJECT("\1", TEMPLATE, 1), "\4\5", 2, 0, 0);
+    LISTS(SCAN_OBJECT("\1", TEMPLATE, 0), "\5", 1, 0, 0);
+    LISTS(SCAN_OBJECT("", ADC, 3), "\0\1\2\3\5", 5, 0, 0);
+    ANSWERS(DEPTH("\1", ADC), 0, 4, 0, 0);
+    ANSWERS(DESCENDANT_SET("\1", TEMPLATE), 0, 1 << 4 | 1 << 5, 0, 2);
+    ANSWERS(FIND("\1", "adc"), 0, ADC, 0, 0);
+    ANSWERS(FIND("\1", "fifo"), 6, 0, 0, 0);
+    EXPECT(is_guarded());
+}
+
+/* A chain up to the last type number, so that marks stand in both words. */
+static void a_long_chain(void)
+{
+    begin("one", "two");
+    put_presence(1, "object", 0);
+    for (uint8_t type = 1; type < 128; type++) {
+        char name[] = {'t', (char)('a' + type / 16), (char)('a' + type % 16), 0};
+        PUT_TYPE(type, 1, 0, 0, 1, (uint8_t)(type - 1));
+        put_presence(1, name, type);
+    }
+    keep();
+    ANSWERS(DEPTH("\1", 127), 0, 127, 0, 0);
+    ANSWERS(DESCENDANT_SET("\1", 0), 0, SIZE_MAX - 1, SIZE_MAX, 127);
+    ANSWERS(DESCENDANT_SET("\1", 62), 0, (size_t)1 << 63, SIZE_MAX, 65);
+    LISTS(SCAN_OBJECT("\1", 124, 1), "\x7d\x7e\x7f", 3, 0, 0);
+    LISTS(SCAN_OBJECT("\1", 3, 3), "\0\1\2", 3, 0, 0);
+    EXPECT(is_guarded());
+}
+
+static void every_code(void)
+{
+    a_base_with_links();
+    LISTS(SCAN_OBJECT("\1", TOP, 0), "\2\3", 2, 0, 0);
+    LISTS(SCAN_OBJECT("\2", TOP, 1), "\2", 1, 0, 0);
+    LISTS(SCAN_OBJECT("\1", LOW, 2), "\2\3", 2, 0, 0);
+    LISTS(SCAN_OBJECT("\1", LOW, 3), "\0\1\2\3", 4, 0, 0);
+    LISTS(SCAN_OBJECT("\1", LOW, 4), "\5", 1, 0, 0);
+    LISTS(SCAN_OBJECT("\1", LOW, 5), "\5\6", 2, 0, 0);
+    LISTS(SCAN_OBJECT("\1", LOW, 6), "\x9", 1, 0, 0);
+    LISTS(SCAN_OBJECT("", LOW, 7), "\7\x8\x9", 3, 0, 0);
+    LISTS(SCAN_OBJECT("\2\1", TOP, 8), "\7\x9", 2, 0, 0);
+    LISTS(SCAN_OBJECT("\1", LOW, 9), "\x8\x9", 2, 0, 0);
+    LISTS(SCAN_LINK("\1", SEVEN, 0), "\2", 1, 0, 0);
+    LISTS(SCAN_LINK("\1", SEVEN, 1), "\2\4", 2, 0, 0);
+    LISTS(SCAN_LINK("", EIGHT, 2), "\2", 1, 0, 0);
+    LISTS(SCAN_LINK("\2\1", SEVEN, 3), "\1\2\3\4", 4, 0, 0);
+    LISTS(SCAN_LINK("\2", SEVEN, 3), "\1\2", 2, 0, 0);
+    LISTS(SCAN_LINK("\1", NINE, 4), "\5", 1, 0, 0);
+    LISTS(SCAN_LINK("\1", SEVEN, 4), "", 0, 0, 0);
+    LISTS(PROFILE("\1", LOW), "\0\1\2\3\5\6\7\x9", 4, 2, 2);
+    LISTS(PROFILE("\2", LEFT), "\0\1\6\x8", 2, 1, 1);
+    EXPECT(is_guarded());
+}
+
+static void the_first_listed_has_it(void)
+{
+    a_base_with_links();
+    ANSWERS(FIND("\1\2", "five"), 0, FIVE, 0, 0);
+    ANSWERS(FIND("\2\1", "five"), 0, SIX, 0, 0);
+    ANSWERS(FIND("", "five"), 0, FIVE, 0, 0);
+    ANSWERS(FIND("\2\1", "low"), 0, LOW, 0, 0);
+    ANSWERS(FIND("\2", "low"), 6, 0, 0, 0);
+    ANSWERS(FIND("\1", "Five"), 6, 0, 0, 0);
+    ANSWERS(FIND("\1", ""), 4, 0, 0, 0);
+    ANSWERS(FIND("\1", "5"), 4, 0, 0, 0);
+    ANSWERS(FIND("\1", "abcdefghijklmnop"), 6, 0, 0, 0);
+    ANSWERS(FIND("\1", "abcdefghijklmnopq"), 4, 0, 0, 0);
+    /* A name ends where its length says, whatever comes behind. */
+    ANSWERS(cf_find(base, LENGTH, SCHEMA("\1"), (const uint8_t *)"lower", 3), 0, LOW, 0, 0);
+    EXPECT(is_kept());
+}
+
+/* Each call with all the faults that come after the number too; an SDS twice is 8 only where no lower number holds,
+ * and before 15. */
+static void refusals_in_order(void)
+{
+    a_base_with_links();
+    output_length = 0;
+    ANSWERS(SCAN_OBJECT("\1\1\3", 128, 10), 2, 0, 0, 0);
+    ANSWERS(SCAN_OBJECT("\x10\1\1", 128, 10), 2, 0, 0, 0);
+    ANSWERS(SCAN_OBJECT("\1\1", 128, 10), 5, 0, 0, 0);
+    ANSWERS(SCAN_OBJECT("\1\1", 128, 3), 6, 0, 0, 0);
+    ANSWERS(SCAN_OBJECT("\2\2", FIVE, 3), 6, 0, 0, 0);
+    ANSWERS(SCAN_OBJECT("\1\1", FIVE, 3), 7, 0, 0, 0);
+    ANSWERS(SCAN_OBJECT("\1\1", LOW, 3), 8, 0, 0, 0);
+    ANSWERS(SCAN_OBJECT("\1\2\1\2\1\2\1\2\1\2\1\2\1\2\1\2\1", LOW, 3), 8, 0, 0, 0);
+    ANSWERS(SCAN_OBJECT("\1\2", LOW, 3), 15, 0, 0, 0);
+    ANSWERS(SCAN_LINK("\1\1\xff", 128, 5), 2, 0, 0, 0);
+    ANSWERS(SCAN_LINK("\1\1", 128, 5), 5, 0, 0, 0);
+    ANSWERS(SCAN_LINK("\2\2", NINE, 0), 6, 0, 0, 0);
+    ANSWERS(SCAN_LINK("\1\1", TOP, 0), 7, 0, 0, 0);
+    ANSWERS(SCAN_LINK("\1\1", NINE, 0), 8, 0, 0, 0);
+    ANSWERS(SCAN_LINK("\1", NINE, 0), 15, 0, 0, 0);
+    ANSWERS(PROFILE("\1\1\3", 128), 2, 0, 0, 0);
+    ANSWERS(PROFILE("\1\1", 128), 6, 0, 0, 0);
+    ANSWERS(PROFILE("\1\1", SEVEN), 7, 0, 0, 0);
+    ANSWERS(PROFILE("\1\1", LOW), 8, 0, 0, 0);
+    ANSWERS(PROFILE("\1", LOW), 15, 0, 0, 0);
+    ANSWERS(FIND("\1\1\3", "5"), 2, 0, 0, 0);
+    ANSWERS(FIND("\1\1", "5"), 4, 0, 0, 0);
+    ANSWERS(FIND("\2\2", "low"), 6, 0, 0, 0);
+    ANSWERS(FIND("\1\1", "low"), 8, 0, 0, 0);
+    ANSWERS(DEPTH("\1\1\3", 128), 2, 0, 0, 0);
+    ANSWERS(DEPTH("\2\2", LOW), 6, 0, 0, 0);
+    ANSWERS(DEPTH("\1\1", FIVE), 7, 0, 0, 0);
+    ANSWERS(DEPTH("\1\1", LOW), 8, 0, 0, 0);
+    ANSWERS(DESCENDANT_SET("\1\1\3", 128), 2, 0, 0, 0);
+    ANSWERS(DESCENDANT_SET("\2\2", LOW), 6, 0, 0, 0);
+    ANSWERS(DESCENDANT_SET("\1\1", NINE), 7, 0, 0, 0);
+    ANSWERS(DESCENDANT_SET("\1\1", LOW), 8, 0, 0, 0);
+    EXPECT(is_kept());
+}
+
+static void asked_at_full_width(void)
+{
+    static const size_t added[] = {256, (size_t)1 << 32};
+    a_base_with_links();
+    output_length = OUTPUT;
+    for (size_t n = 0; n < 2; n++) {
+        size_t high = added[n];
+        ANSWERS(SCAN_OBJECT("\1", high + LOW, 1), 6, 0, 0, 0);
+        ANSWERS(SCAN_OBJECT("\1", LOW, high + 1), 5, 0, 0, 0);
+        ANSWERS(SCAN_LINK("\1", high + NINE, 1), 6, 0, 0, 0);
+        ANSWERS(SCAN_LINK("\1", NINE, high + 1), 5, 0, 0, 0);
+        ANSWERS(PROFILE("\1", high + LOW), 6, 0, 0, 0);
+        ANSWERS(DEPTH("\1", high + LOW), 6, 0, 0, 0);
+        ANSWERS(DESCENDANT_SET("\1", high + LOW), 6, 0, 0, 0);
+    }
+    EXPECT(is_kept());
+}
+
+static void a_spoiled_base_asked(void)
+{
+    a_base_with_links();
+    /* A type that is its own parent. */
+    base[256 + 8 * TOP + 4] = TOP;
+    keep();
+    output_length = OUTPUT;
+    ANSWERS(SCAN_OBJECT("\x10", LOW, 10), 1, 0, 0, 0);
+    ANSWERS(SCAN_LINK("\1", NINE, 0), 1, 0, 0, 0);
+    ANSWERS(PROFILE("\1", LOW), 1, 0, 0, 0);
+    ANSWERS(FIND("\1", "low"), 1, 0, 0, 0);
+    ANSWERS(DEPTH("\1", LOW), 1, 0, 0, 0);
+    ANSWERS(DESCENDANT_SET("\1", LOW), 1, 0, 0, 0);
+    EXPECT(is_kept() && is_guarded());
+}
+
 int main(void)
 {
     a_fresh_base();
@@ -145,6 +470,14 @@ int main(void)
     numbers_at_full_width();
     name_of_a_type();
     a_spoiled_base();
+    a_fresh_base_asked();
+    every_descendant();
+    a_long_chain();
+    every_code();
+    the_first_listed_has_it();
+    refusals_in_order();
+    asked_at_full_width();
+    a_spoiled_base_asked();
     printf("c: %u passed, %u failed\n", passed, failed);
     return failed == 0 ? 0 : 1;
 }

@@ -504,72 +504,21 @@ impl WorkingSchema<'_> {
 /// Calls 9 to 13, which ask. `list` is the working schema, `output` the length in bytes of the output area.
 impl Schema {
     pub fn scan_object(&self, list: &[u8], ty: usize, code: usize, output: usize) -> Reply {
-        let Some(working) = self.working_schema(list) else {
-            return refused(2);
-        };
-        let Some(&scan) = OBJECT_SCANS.get(code) else {
-            return refused(5);
-        };
-        if !working.sees(ty) {
-            return refused(6);
-        }
-        if !self.is_object(ty) {
-            return refused(7);
-        }
-        if has_repeat(list) {
-            return refused(8);
-        }
-        let list = self.object_list(&working, ty, scan);
-        if list.len() > room(output) {
-            return refused(15);
-        }
-        Reply { one: list.len(), list, ..done() }
+        let asked = self.asked(list, OBJECT_SCANS.get(code), ty, Self::is_object);
+        asked.map_or_else(refused, |(working, &scan)| put_down(&[self.object_list(&working, ty, scan)], output))
     }
 
     pub fn scan_link(&self, list: &[u8], ty: usize, code: usize, output: usize) -> Reply {
-        let Some(working) = self.working_schema(list) else {
-            return refused(2);
-        };
-        let Some(&scan) = LINK_SCANS.get(code) else {
-            return refused(5);
-        };
-        if !working.sees(ty) {
-            return refused(6);
-        }
-        if !self.is_link(ty) {
-            return refused(7);
-        }
-        if has_repeat(list) {
-            return refused(8);
-        }
-        let list = self.link_list(&working, ty, scan);
-        if list.len() > room(output) {
-            return refused(15);
-        }
-        Reply { one: list.len(), list, ..done() }
+        let asked = self.asked(list, LINK_SCANS.get(code), ty, Self::is_link);
+        asked.map_or_else(refused, |(working, &scan)| put_down(&[self.link_list(&working, ty, scan)], output))
     }
 
     pub fn profile(&self, list: &[u8], ty: usize, output: usize) -> Reply {
-        let Some(working) = self.working_schema(list) else {
-            return refused(2);
-        };
-        if !working.sees(ty) {
-            return refused(6);
-        }
-        if !self.is_object(ty) {
-            return refused(7);
-        }
-        if has_repeat(list) {
-            return refused(8);
-        }
-        let ancestors = self.object_list(&working, ty, ObjectScan::Ancestor);
-        let attributes = self.object_list(&working, ty, ObjectScan::AttributeAll);
-        let links = self.object_list(&working, ty, ObjectScan::LinkOriginAll);
-        let (one, two, three) = (ancestors.len(), attributes.len(), links.len());
-        if one + two + three > room(output) {
-            return refused(15);
-        }
-        Reply { no: 0, one, two, three, list: [ancestors, attributes, links].concat() }
+        let scans = [ObjectScan::Ancestor, ObjectScan::AttributeAll, ObjectScan::LinkOriginAll];
+        let asked = self.asked(list, Some(scans), ty, Self::is_object);
+        asked.map_or_else(refused, |(working, scans)| {
+            put_down(&scans.map(|scan| self.object_list(&working, ty, scan)), output)
+        })
     }
 
     pub fn find(&self, list: &[u8], name: &[u8]) -> Reply {
@@ -589,19 +538,8 @@ impl Schema {
     }
 
     pub fn depth(&self, list: &[u8], ty: usize) -> Reply {
-        let Some(working) = self.working_schema(list) else {
-            return refused(2);
-        };
-        if !working.sees(ty) {
-            return refused(6);
-        }
-        if !self.is_object(ty) {
-            return refused(7);
-        }
-        if has_repeat(list) {
-            return refused(8);
-        }
-        gives(self.longest_way_up(ty))
+        let asked = self.asked(list, Some(()), ty, Self::is_object);
+        asked.map_or_else(refused, |_| gives(self.longest_way_up(ty)))
     }
 
     /// Gives where the local name starts in the base, and its length.
@@ -617,24 +555,42 @@ impl Schema {
 
     /// Gives the low word, the high word and the number of marks set.
     pub fn descendant_set(&self, list: &[u8], ty: usize) -> Reply {
+        let asked = self.asked(list, Some(()), ty, Self::is_object);
+        asked.map_or_else(refused, |(working, ())| {
+            let marked = &self.descendants(ty) & &working.visible;
+            let mut words = [0; 2];
+            for ty in &marked {
+                words[ty / 64] |= 1 << (ty % 64);
+            }
+            Reply { one: words[0], two: words[1], three: marked.len(), ..done() }
+        })
+    }
+
+    /// The working schema of a call that asks about a type of the wanted kind, and what it asks, none for an unknown
+    /// code; or the lowest of the numbers 2, 5, 6, 7 and 8 whose condition holds.
+    fn asked<T>(
+        &self,
+        list: &[u8],
+        what: Option<T>,
+        ty: usize,
+        is_wanted: fn(&Schema, usize) -> bool,
+    ) -> Result<(WorkingSchema<'_>, T), usize> {
         let Some(working) = self.working_schema(list) else {
-            return refused(2);
+            return Err(2);
+        };
+        let Some(what) = what else {
+            return Err(5);
         };
         if !working.sees(ty) {
-            return refused(6);
+            return Err(6);
         }
-        if !self.is_object(ty) {
-            return refused(7);
+        if !is_wanted(self, ty) {
+            return Err(7);
         }
         if has_repeat(list) {
-            return refused(8);
+            return Err(8);
         }
-        let marked = &self.descendants(ty) & &working.visible;
-        let mut words = [0; 2];
-        for ty in &marked {
-            words[ty / 64] |= 1 << (ty % 64);
-        }
-        Reply { one: words[0], two: words[1], three: marked.len(), ..done() }
+        Ok((working, what))
     }
 
     /// The SDSs listed, none if one of them is unused. An empty list stands for every SDS in number order.
@@ -683,9 +639,15 @@ impl Schema {
     }
 }
 
-/// Room is counted in whole entries of two bytes.
-fn room(output: usize) -> usize {
-    output / 2
+/// The lists put down one straight after the other, with their counts, in an output of so many bytes. Room is counted
+/// in whole entries of two bytes.
+fn put_down(lists: &[Vec<u16>], output: usize) -> Reply {
+    let list = lists.concat();
+    if list.len() > output / 2 {
+        return refused(15);
+    }
+    let count = |n: usize| lists.get(n).map_or(0, Vec::len);
+    Reply { no: 0, one: count(0), two: count(1), three: count(2), list }
 }
 
 /// In rising type number, each once; type numbers are below 128.

@@ -1,26 +1,28 @@
-//! The check of soundness timed: the library's, this program's, and one comparison of the same bytes with others.
+//! The check of soundness and three of the asking calls timed, side by side: the library, the independent keeper and
+//! SQLite.
 #![forbid(unsafe_code)]
 
 use crate::base::{is_sound, to_bytes};
-use crate::calls::Call;
+use crate::calls::{apply, Call};
 use crate::library::{start, Lent, Replies, Requests};
 use crate::schema::Schema;
+use crate::sqlite::{Answered, Sqlite};
+use std::cell::RefCell;
 use std::hint::black_box;
+use std::io::{stderr, IsTerminal};
 use std::process::ExitCode;
 use std::time::Instant;
 
-/// The best of some rounds of many calls.
-const ROUNDS: usize = 7;
-const CALLS: usize = 2000;
+/// The best of many rounds of some calls. All that are compared take turns, so that none is alone with a quiet machine.
+const ROUNDS: usize = 60;
+const CALLS: usize = 100;
 
-pub fn bench(program: &[String]) -> ExitCode {
-    if !cfg!(target_arch = "x86_64") {
-        eprintln!(
-            "compare: on this machine the library runs under an emulator, and a time says nothing: use x86-64"
-        );
-        return ExitCode::from(2);
-    }
-    match table(program) {
+/// The working schema of every question.
+const LIST: [u8; 2] = [1, 2];
+
+/// `sqlite` and `program` are the programs that ask SQLite and serve the library, built for the machine at hand.
+pub fn bench(sqlite: &str, program: &[String]) -> ExitCode {
+    match tables(sqlite, program) {
         Ok(()) => ExitCode::SUCCESS,
         Err(fault) => {
             eprintln!("compare: {fault}");
@@ -29,55 +31,146 @@ pub fn bench(program: &[String]) -> ExitCode {
     }
 }
 
-fn table(program: &[String]) -> Result<(), String> {
-    let (mut requests, mut replies) = start(program)?;
-    println!("ns for one check of soundness, the best of {ROUNDS} rounds of {CALLS}, all built for release");
-    println!(
-        "{:<10}{:>10}{:>10}{:>10}{:>18}{:>18}",
-        "base", "library", "keeper", "memcmp", "library/keeper", "library/memcmp"
-    );
-    for (name, schema) in [("fresh", Schema::fresh()), ("typical", typical()), ("full", full())] {
-        let base = to_bytes(&schema);
-        let library = library(&mut requests, &mut replies, &base)?;
-        let keeper = best(|| _ = black_box(is_sound(black_box(&base))));
-        let other = base.clone();
-        let memcmp = best(|| _ = black_box(black_box(&base) == black_box(&other)));
-        println!(
-            "{name:<10}{library:>10.0}{keeper:>10.0}{memcmp:>10.0}{:>18.2}{:>18.1}",
-            library / keeper,
-            library / memcmp
-        );
+fn tables(sqlite: &str, program: &[String]) -> Result<(), String> {
+    let server = Server::start(program)?;
+    let machine = std::env::consts::ARCH;
+    println!("ns a call, the best of {ROUNDS} rounds of {CALLS}, on {machine}; all built for release\n");
+    println!("{:<9}{:<12}{:>8}{:>8}{:>8}{:>16}", "base", "", "library", "keeper", "memcmp", "library/keeper");
+    for (base, schema) in [("fresh", Schema::fresh()), ("typical", typical()), ("full", full())] {
+        show_progress(base);
+        let [library, keeper, memcmp] = check(&server, &to_bytes(&schema))?;
+        show_progress("");
+        println!("{base:<9}{:<12}{library:>8.0}{keeper:>8.0}{memcmp:>8.0}{:>16.2}", "check", library / keeper);
     }
+    println!(
+        "\n{:<9}{:<12}{:>8}{:>8}{:>8}{:>8}{:>8}{:>16}{:>16}",
+        "base", "", "library", "check", "keeper", "held", "SQLite", "library/keeper", "library/SQLite"
+    );
+    for (base, schema) in [("typical", typical()), ("full", full())] {
+        let mut sqlite = Sqlite::start(sqlite, &schema, &LIST)?;
+        for (number, (what, call, about)) in questions(&schema).into_iter().enumerate() {
+            show_progress(&format!("{base} {what}"));
+            let mut ask = || sqlite.ask(number, CALLS, &about);
+            let [library, check, keeper, held, sqlite] = question(&server, &schema, &call, &mut ask)?;
+            show_progress("");
+            println!(
+                "{base:<9}{what:<12}{library:>8.0}{:>7.0}%{keeper:>8.0}{held:>8.0}{sqlite:>8.0}{:>16.2}{:>16.2}",
+                100.0 * check / library,
+                library / keeper,
+                library / sqlite
+            );
+        }
+    }
+    println!("\ncheck: the share of the library's time that the check of soundness takes");
+    println!("keeper: over the same bytes, which it checks too");
+    println!("held: the keeper over a schema that it holds, as SQLite does; neither checks it");
     Ok(())
 }
 
-fn best(mut check: impl FnMut()) -> f64 {
-    let mut round = || {
-        let start = Instant::now();
-        (0..CALLS).for_each(|_| check());
-        start.elapsed().as_nanos() as f64 / CALLS as f64
-    };
-    (0..ROUNDS).map(|_| round()).fold(f64::INFINITY, f64::min)
+/// A person who waits sees what is being timed.
+fn show_progress(what: &str) {
+    if stderr().is_terminal() {
+        eprint!("\r\x1b[K{what}");
+    }
 }
 
-/// The call that ends right after the check: SDS 16 is refused with 2. It is timed where it is made.
-fn library(requests: &mut Requests, replies: &mut Replies, base: &[u8]) -> Result<f64, String> {
-    let call = Call::Name { sds: Schema::SDSS, ty: 0 };
-    let lent = Lent { base: base.to_vec(), output: Vec::new() };
-    let mut round = || {
-        requests.write(&call, &lent, CALLS)?;
-        requests.flush()?;
-        replies.read_to(&call, &lent)
-    };
-    let mut best = f64::INFINITY;
+/// The descendants of a type high up, the profile of the lowest one and a name of many: in the order in which SQLite
+/// numbers them, each with what it is about.
+fn questions(schema: &Schema) -> [(&'static str, Call, String); 3] {
+    let objects = schema.types.keys().copied().filter(|&ty| schema.is_object(ty));
+    let low = objects.max_by_key(|&ty| schema.longest_way_up(ty)).expect("there is type 0");
+    let (high, name) = (1, "object_type_30");
+    let list = LIST.to_vec();
+    [
+        ("descendants", Call::ScanObject { schema: list.clone(), ty: high, code: 1 }, high.to_string()),
+        ("profile", Call::Profile { schema: list.clone(), ty: low }, low.to_string()),
+        ("find", Call::Find { schema: list, name: name.into() }, name.into()),
+    ]
+}
+
+/// One check of the library and of the keeper, and one comparison of the same bytes with others.
+fn check(server: &Server, base: &[u8]) -> Result<[f64; 3], String> {
+    let other = base.to_vec();
+    side_by_side([
+        &mut || server.time_check(base),
+        &mut || Ok(time(|| _ = black_box(is_sound(black_box(base))))),
+        &mut || Ok(time(|| _ = black_box(black_box(base) == black_box(&other)))),
+    ])
+}
+
+/// The call by the library, a check by it, the call by the keeper, over bytes and over what it holds, and by SQLite,
+/// whose entries must be the same.
+fn question(
+    server: &Server,
+    schema: &Schema,
+    call: &Call,
+    sqlite: &mut dyn FnMut() -> Result<Answered, String>,
+) -> Result<[f64; 5], String> {
+    let (mut schema, mut base) = (schema.clone(), to_bytes(schema));
+    let reply = call.on(&mut schema, usize::MAX);
+    let expected = if reply.list.is_empty() { vec![reply.one as u16] } else { reply.list };
+    let mut output = vec![0; 2 * expected.len()];
+    let lent = Lent { base: base.clone(), output: output.clone() };
+    side_by_side([
+        &mut || server.time(call, &lent, [reply.no, reply.one, reply.two, reply.three]),
+        &mut || server.time_check(&lent.base),
+        &mut || Ok(time(|| _ = black_box(apply(black_box(&mut base), &mut output, call)))),
+        &mut || Ok(time(|| _ = black_box(call.on(black_box(&mut schema), usize::MAX)))),
+        &mut || match sqlite()? {
+            answered if answered.types == expected => Ok(answered.nanoseconds),
+            answered => Err(format!("SQLite gives {:?} to {call:?}, not {expected:?}", answered.types)),
+        },
+    ])
+}
+
+type Round<'a> = &'a mut dyn FnMut() -> Result<f64, String>;
+
+/// The best that each takes for a call, where all take turns.
+fn side_by_side<const N: usize>(mut all: [Round; N]) -> Result<[f64; N], String> {
+    let mut best = [f64::INFINITY; N];
     for _ in 0..ROUNDS {
-        let reply = round().map_err(|fault| fault.to_string())?;
-        if reply.answer != [2, 0, 0, 0] {
-            return Err(format!("answer {:?} to {call:?} on a sound base", reply.answer));
+        for (best, round) in best.iter_mut().zip(&mut all) {
+            *best = best.min(round()? / CALLS as f64);
         }
-        best = best.min(reply.nanoseconds as f64 / CALLS as f64);
     }
     Ok(best)
+}
+
+/// A round.
+fn time(mut call: impl FnMut()) -> f64 {
+    let start = Instant::now();
+    (0..CALLS).for_each(|_| call());
+    start.elapsed().as_nanos() as f64
+}
+
+/// The process that serves the library; its calls are timed where they are made.
+struct Server(RefCell<(Requests, Replies)>);
+
+impl Server {
+    fn start(program: &[String]) -> Result<Server, String> {
+        start(program).map(|ends| Server(RefCell::new(ends)))
+    }
+
+    /// A round of calls that have the expected answer.
+    fn time(&self, call: &Call, lent: &Lent, expected: [usize; 4]) -> Result<f64, String> {
+        let (requests, replies) = &mut *self.0.borrow_mut();
+        let mut round = || {
+            requests.write(call, lent, CALLS)?;
+            requests.flush()?;
+            replies.read_to(call, lent)
+        };
+        let reply = round().map_err(|fault| fault.to_string())?;
+        match reply.answer == expected {
+            true => Ok(reply.nanoseconds as f64),
+            false => Err(format!("answer {:?} to {call:?}, not {expected:?}", reply.answer)),
+        }
+    }
+
+    /// A round of the call that ends right after the check: SDS 16 is refused with 2.
+    fn time_check(&self, base: &[u8]) -> Result<f64, String> {
+        let lent = Lent { base: base.to_vec(), output: Vec::new() };
+        self.time(&Call::Name { sds: Schema::SDSS, ty: 0 }, &lent, [2, 0, 0, 0])
+    }
 }
 
 /// 3 SDSs, 100 types.

@@ -50,6 +50,13 @@ pub enum Call {
     DescendantSet { schema: Vec<u8>, ty: usize },
 }
 
+/// What a call under a working schema asks.
+pub struct Asked<'a> {
+    pub schema: &'a [u8],
+    pub code: Option<usize>,
+    pub has_output: bool,
+}
+
 /// A call's name and the refusals that can occur in it, in the order in which they are tried.
 pub struct Known {
     pub name: &'static str,
@@ -156,6 +163,21 @@ impl Call {
             Call::Find { schema, name } => ([0; 3], [schema, &name.0, &[]]),
             Call::Name { sds, ty } => ([*sds, *ty, 0], [&[]; 3]),
         }
+    }
+
+    /// The working schema, the code and whether there is an output, of a call that has a working schema.
+    pub fn asked(&self) -> Option<Asked<'_>> {
+        let (schema, code, has_output) = match self {
+            Call::ScanObject { schema, code, .. } | Call::ScanLink { schema, code, .. } => {
+                (schema, Some(*code), true)
+            }
+            Call::Profile { schema, .. } => (schema, None, true),
+            Call::Find { schema, .. } | Call::Depth { schema, .. } | Call::DescendantSet { schema, .. } => {
+                (schema, None, false)
+            }
+            _ => return None,
+        };
+        Some(Asked { schema, code, has_output })
     }
 
     /// The entries that the call has put down, by its answer.

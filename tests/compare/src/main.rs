@@ -2,26 +2,28 @@
 //! byte by byte: answer, base, output, and the guards around what is lent.
 //!
 //! `compare [--calls N] [--spoiled N] [--seed S] -- PROGRAM..`
-//! `compare bench -- PROGRAM..`
+//! `compare bench SQLITE -- PROGRAM..`
 //!
-//! PROGRAM and its words start the process that serves the library (`tests/c/serve.c`).
+//! PROGRAM and its words start the process that serves the library (`tests/c/serve.c`), SQLITE is the program that asks
+//! SQLite (`tests/c/sqlite.c`).
 
 mod base;
 mod bench;
 mod calls;
+mod coverage;
 mod keeper;
 mod library;
 mod random;
 mod run;
 mod schema;
 mod spoil;
+mod sqlite;
 #[cfg(test)]
 mod tests;
 
-use calls::CALLS;
+use coverage::Counts;
 use library::Library;
-use run::{Counts, Run};
-use spoil::WAYS;
+use run::Run;
 use std::io::{stderr, IsTerminal};
 use std::process::ExitCode;
 use std::sync::atomic::{AtomicUsize, Ordering};
@@ -30,8 +32,8 @@ use std::thread;
 /// Each history starts with a fresh base; long enough to fill any table and to work near its limit.
 const HISTORY: usize = 2500;
 
-/// Each number of each call should come up at least so often.
-const OFTEN: usize = 20;
+/// A run of so many calls should have seen every number of every call.
+const LONG: usize = 200_000;
 
 /// So many differences are printed; all are counted.
 const SHOWN: usize = 10;
@@ -43,7 +45,7 @@ struct Options {
 }
 
 fn options(arguments: &[String]) -> Option<Options> {
-    let mut options = Options { calls: 200_000, spoiled: 50_000, seed: 1 };
+    let mut options = Options { calls: LONG, spoiled: 50_000, seed: 1 };
     for pair in arguments.chunks(2) {
         let [option, value] = pair else { return None };
         match option.as_str() {
@@ -96,44 +98,17 @@ fn run(options: &Options, program: &[String]) -> Result<(Counts, Vec<String>), S
     Ok((counts, differences))
 }
 
-/// Prints how often each number was answered, and how many pairs of a call and a number came up too seldom.
-fn print_answers(counts: &Counts) {
-    let mut seldom = 0;
-    print!("{:<20}", "call");
-    (0..16).for_each(|no| print!("{no:>7}"));
-    println!();
-    for (call, counts) in CALLS.iter().zip(&counts.answered).filter(|(_, counts)| **counts != [0; 16]) {
-        print!("{:<20}", call.name);
-        for (no, count) in counts.iter().enumerate() {
-            if no == 0 || call.refusals.contains(&no) {
-                seldom += usize::from(*count < OFTEN);
-                print!("{count:>7}");
-            } else {
-                print!("{:>7}", ".");
-            }
-        }
-        println!();
-    }
-    println!("pairs of a call and a number that came up less than {OFTEN} times: {seldom}");
-}
-
-fn print_spoiled(counts: &Counts) {
-    println!("\n{:<28}{:>8}{:>10}", "spoiled", "sound", "not sound");
-    for ((name, _), [sound, unsound]) in WAYS.iter().zip(&counts.spoiled) {
-        println!("{name:<28}{sound:>8}{unsound:>10}");
-    }
-    println!();
-}
-
 fn main() -> ExitCode {
     let arguments: Vec<String> = std::env::args().skip(1).collect();
     let at = arguments.iter().position(|word| word == "--").unwrap_or(arguments.len());
     let program = arguments.get(at + 1..).unwrap_or_default();
-    if arguments[..at] == ["bench"] {
-        return bench::bench(program);
+    if let [mode, sqlite] = &arguments[..at] {
+        if mode == "bench" && !program.is_empty() {
+            return bench::bench(sqlite, program);
+        }
     }
     let Some(options) = options(&arguments[..at]).filter(|_| !program.is_empty()) else {
-        eprintln!("compare [--calls N] [--spoiled N] [--seed S] -- PROGRAM..\ncompare bench -- PROGRAM..");
+        eprintln!("compare [--calls N] [--spoiled N] [--seed S] -- PROGRAM..\ncompare bench SQLITE -- PROGRAM..");
         return ExitCode::from(2);
     };
     let (counts, differences) = match run(&options, program) {
@@ -143,13 +118,12 @@ fn main() -> ExitCode {
             return ExitCode::FAILURE;
         }
     };
-    print_answers(&counts);
-    print_spoiled(&counts);
+    counts.print();
     differences.iter().take(SHOWN).for_each(|difference| println!("{difference}"));
     let spoiled: usize = counts.spoiled.as_flattened().iter().sum();
     let calls = counts.answered.as_flattened().iter().sum::<usize>() - spoiled;
     println!("compare: {calls} calls, {spoiled} spoiled bases, {} differences", differences.len());
-    if differences.is_empty() {
+    if differences.is_empty() && (options.calls < LONG || counts.seldom() == 0) {
         ExitCode::SUCCESS
     } else {
         ExitCode::FAILURE

@@ -177,13 +177,13 @@ impl Caller {
             _ => return self.random.below(8),
         };
         let exact = 2 * reply.list.len();
-        match self.random.below(6) {
-            0 => exact,
-            1 => exact.saturating_sub(1),
-            2 => exact.saturating_sub(2),
+        match self.random.below(10) {
+            0 => 0,
+            1 => exact.saturating_sub(2),
+            2 => exact.saturating_sub(1),
             3 => exact + 1,
-            4 => 0,
-            _ => exact + self.random.below(40),
+            4 | 5 => exact + self.random.below(40),
+            _ => exact,
         }
     }
 
@@ -242,11 +242,12 @@ impl Caller {
 
     fn taking_away(&mut self, schema: &Schema) -> Call {
         let sds = self.sds(schema);
+        let has_empty_sds = schema.sdss.values().any(|sds| sds.presences.is_empty());
         match self.random.below(6) {
             0 => self.unapply(schema, sds),
             1 => self.unapply_link(schema, sds),
             2 => self.remove_destination(schema, sds),
-            3 => self.remove_sds(schema),
+            3 if has_empty_sds => self.remove_sds(schema),
             _ => self.remove_type(schema, sds),
         }
     }
@@ -627,17 +628,19 @@ impl Caller {
     fn list(&mut self, schema: &Schema) -> Vec<u8> {
         let used: Vec<u8> = schema.sdss.keys().map(|&sds| sds as u8).collect();
         let mut list = self.random.shuffled(used);
-        match self.random.below(12) {
-            0..=2 => list.clear(),
-            3 => {}
-            4 => list.extend(list.clone()),
-            5 => list = list.repeat(17),
-            6 => {
+        match self.random.below(24) {
+            0..=5 => list.clear(),
+            6..=8 => {}
+            9 => list.extend(list.clone()),
+            10 => list = list.repeat(17),
+            11 => {
                 list.truncate(1 + self.random.below(3));
                 list.push(self.random.pick(&list).expect("there is SDS 0"));
             }
-            7 => {
-                list.truncate(self.random.below(3));
+            12 | 13 => {
+                if self.random.one_in(2) {
+                    list.truncate(self.random.below(3));
+                }
                 let odd = match self.random.below(3) {
                     0 => self.random.byte(),
                     1 => 16,

@@ -3,6 +3,7 @@
 
 use crate::base::{from_bytes, is_sound, to_bytes, LENGTH};
 use crate::calls::{apply, apply_to, Call, CALLS};
+use crate::coverage::Counts;
 use crate::library::{Lent, Library};
 use crate::random::{Caller, Mode, Random};
 use crate::schema::Schema;
@@ -11,27 +12,6 @@ use crate::spoil::{spoiled, WAYS};
 /// As long as a library lacks calls, the keeper alone makes so many before each call that is compared, so that bases
 /// get rich all the same.
 const LED: usize = 3;
-
-/// How often what happened.
-pub struct Counts {
-    /// For each call how often each number was answered.
-    pub answered: [[usize; 16]; CALLS.len()],
-    /// For each way of spoiling how many bases were sound all the same, and how many were not.
-    pub spoiled: [[usize; 2]; WAYS.len()],
-}
-
-impl Counts {
-    pub fn new() -> Counts {
-        Counts { answered: [[0; 16]; CALLS.len()], spoiled: [[0; 2]; WAYS.len()] }
-    }
-
-    pub fn add(&mut self, other: &Counts) {
-        let (sums, numbers) = (self.answered.as_flattened_mut(), other.answered.as_flattened());
-        sums.iter_mut().zip(numbers).for_each(|(sum, number)| *sum += number);
-        let (sums, numbers) = (self.spoiled.as_flattened_mut(), other.spoiled.as_flattened());
-        sums.iter_mut().zip(numbers).for_each(|(sum, number)| *sum += number);
-    }
-}
 
 pub struct Run {
     caller: Caller,
@@ -89,6 +69,7 @@ impl Run {
         let mut after = before.clone();
         let answer = apply_to(&mut self.schema, &mut after.base, &mut after.output, &call);
         self.compare(&call, &before, answer, &after)?;
+        self.counts.ask(&self.schema, &call, before.output.len(), answer);
         self.base = after.base;
         // Reading a base costs more than all the rest.
         if self.caller.random.one_in(50) {

@@ -1008,7 +1008,8 @@ fn every_way_of_spoiling() {
     }
 }
 
-/// A run in each mode finds no fault. Where a table is to be full, it has none, one and two places left.
+/// A run in each mode finds no fault. Where a table is to be full, it has none, one and two places left. Every code is
+/// asked and done, with every kind of list and of output.
 #[test]
 fn a_short_run() {
     let mut run = Run::new(None);
@@ -1028,4 +1029,13 @@ fn a_short_run() {
             _ => assert!(free.is_superset(&[0, 1, 2].into()), "{mode:?}"),
         }
     }
+    let asked = &run.counts.asked;
+    for (call, codes) in [("scan_object", 10), ("scan_link", 5)] {
+        (0..codes).for_each(|code| assert!(asked[&format!("{call}, code {code}")].done > 0, "{call} {code}"));
+    }
+    // Codes known and unknown, lists and outputs.
+    let kinds = asked.keys().map(|what| what.split(' ').next().unwrap_or_default());
+    let count = |kind: &str| kinds.clone().filter(|found| *found == kind).count();
+    assert_eq!([count("scan_object,"), count("scan_link,"), count("output")], [11, 7, 7]);
+    assert_eq!(asked.len(), 11 + 7 + 7 + 6);
 }

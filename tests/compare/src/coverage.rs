@@ -1,0 +1,121 @@
+//! How often what happened, so that a run shows what it has seen.
+#![forbid(unsafe_code)]
+
+use crate::calls::{Call, CALLS};
+use crate::schema::Schema;
+use crate::spoil::WAYS;
+use std::collections::BTreeMap;
+
+/// Each number of each call should come up at least so often.
+const OFTEN: usize = 20;
+
+/// Calls that have something in common.
+#[derive(Clone, Copy, Default)]
+pub struct Seen {
+    pub calls: usize,
+    pub done: usize,
+    /// The most entries that one has put down.
+    pub longest: usize,
+}
+
+pub struct Counts {
+    /// For each call how often each number was answered.
+    pub answered: [[usize; 16]; CALLS.len()],
+    /// For each way of spoiling how many bases were sound all the same, and how many were not.
+    pub spoiled: [[usize; 2]; WAYS.len()],
+    /// The calls under a working schema, by their code, their list of SDSs and their output.
+    pub asked: BTreeMap<String, Seen>,
+}
+
+impl Counts {
+    pub fn new() -> Counts {
+        Counts { answered: [[0; 16]; CALLS.len()], spoiled: [[0; 2]; WAYS.len()], asked: BTreeMap::new() }
+    }
+
+    pub fn add(&mut self, other: &Counts) {
+        let (sums, numbers) = (self.answered.as_flattened_mut(), other.answered.as_flattened());
+        sums.iter_mut().zip(numbers).for_each(|(sum, number)| *sum += number);
+        let (sums, numbers) = (self.spoiled.as_flattened_mut(), other.spoiled.as_flattened());
+        sums.iter_mut().zip(numbers).for_each(|(sum, number)| *sum += number);
+        for (what, seen) in &other.asked {
+            let sum = self.asked.entry(what.clone()).or_default();
+            sum.calls += seen.calls;
+            sum.done += seen.done;
+            sum.longest = sum.longest.max(seen.longest);
+        }
+    }
+
+    /// Counts a call that was made on the base of the schema with an output of so many bytes.
+    pub fn ask(&mut self, schema: &Schema, call: &Call, output: usize, answer: [usize; 4]) {
+        let Some(asked) = call.asked() else { return };
+        let entries = call.entries(answer);
+        let has_room_in = |output| call.on(&mut schema.clone(), output).no != 15;
+        let name = CALLS[call.index()].name;
+        let code = asked.code.map(|code| match code {
+            0..10 => format!("{name}, code {code}"),
+            _ => format!("{name}, a code over 9"),
+        });
+        let list = match asked.schema {
+            [] => "no SDS listed",
+            list if list.len() > Schema::SDSS => "more than 16 SDSs listed",
+            list if list.iter().any(|&sds| usize::from(sds) >= Schema::SDSS) => "an SDS over 15 listed",
+            list if (1..list.len()).any(|n| list[..n].contains(&list[n])) => "an SDS listed twice",
+            [_] => "one SDS listed",
+            _ => "several SDSs listed",
+        };
+        let output = asked.has_output.then(|| match output {
+            0 => "output of length 0",
+            _ if answer[0] == 15 && has_room_in(output + 1) => "output a byte too short",
+            _ if answer[0] == 15 && has_room_in(output + 2) => "output an entry too short",
+            _ if answer[0] != 0 => "output of any other length",
+            _ if output == 2 * entries => "output just long enough",
+            _ if output % 2 == 1 => "output longer, odd",
+            _ => "output longer, even",
+        });
+        for what in [code, Some(list.into()), output.map(String::from)].into_iter().flatten() {
+            let seen = self.asked.entry(what).or_default();
+            seen.calls += 1;
+            seen.done += usize::from(answer[0] == 0);
+            seen.longest = seen.longest.max(entries);
+        }
+    }
+
+    /// How many pairs of a call and a number that it can answer came up too seldom, of the calls that were made.
+    pub fn seldom(&self) -> usize {
+        let made = CALLS.iter().zip(&self.answered).filter(|(_, counts)| **counts != [0; 16]);
+        let numbers = made.flat_map(|(call, counts)| call.refusals.iter().chain(&[0]).map(|&no| counts[no]));
+        numbers.filter(|&count| count < OFTEN).count()
+    }
+
+    pub fn print(&self) {
+        self.print_answers();
+        println!("\n{:<28}{:>8}{:>8}{:>14}", "asked", "calls", "done", "longest list");
+        for (what, seen) in &self.asked {
+            println!("{what:<28}{:>8}{:>8}{:>14}", seen.calls, seen.done, seen.longest);
+        }
+        println!("\n{:<28}{:>8}{:>10}", "spoiled", "sound", "not sound");
+        for ((name, _), [sound, unsound]) in WAYS.iter().zip(&self.spoiled) {
+            println!("{name:<28}{sound:>8}{unsound:>10}");
+        }
+        println!();
+    }
+
+    /// How often each number was answered, and the share of calls on sound bases that were done.
+    fn print_answers(&self) {
+        print!("{:<19}", "call");
+        (0..16).for_each(|no| print!("{no:>6}"));
+        println!("{:>8}", "done");
+        for (call, counts) in CALLS.iter().zip(&self.answered).filter(|(_, counts)| **counts != [0; 16]) {
+            print!("{:<19}", call.name);
+            for (no, count) in counts.iter().enumerate() {
+                match no == 0 || call.refusals.contains(&no) {
+                    true => print!("{count:>6}"),
+                    false => print!("{:>6}", "."),
+                }
+            }
+            let on_sound = counts.iter().sum::<usize>() - counts[1];
+            println!("{:>7.0}%", 100.0 * counts[0] as f64 / on_sound as f64);
+        }
+        println!("pairs of a call and a number that came up less than {OFTEN} times: {}", self.seldom());
+    }
+}

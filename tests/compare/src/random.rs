@@ -195,14 +195,17 @@ impl Caller {
         self.any_of(schema, &std::array::from_fn::<usize, { CALLS.len() }, _>(|kind| kind))
     }
 
-    /// A call of one of the kinds, which are places in `CALLS`. Seldom those that would undo what a mode leads to.
+    /// A call of one of the kinds, which are places in `CALLS`. Seldom those that would undo what a mode leads to, or that
+    /// can hardly be done.
     pub fn any_of(&mut self, schema: &Schema, kinds: &[usize]) -> Call {
         let has_enough_sdss = self.mode != Mode::FullSdss && schema.sdss.len() > 4;
+        let has_empty_sds = has_empty_sds(schema);
         loop {
             let kind = self.random.pick(kinds).expect("there is a kind");
             let times = match kind {
                 0 => 300,
                 1 if has_enough_sdss => 8,
+                2 if !has_empty_sds => 8,
                 _ => 1,
             };
             if self.random.one_in(times) {
@@ -242,12 +245,11 @@ impl Caller {
 
     fn taking_away(&mut self, schema: &Schema) -> Call {
         let sds = self.sds(schema);
-        let has_empty_sds = schema.sdss.values().any(|sds| sds.presences.is_empty());
         match self.random.below(6) {
             0 => self.unapply(schema, sds),
             1 => self.unapply_link(schema, sds),
             2 => self.remove_destination(schema, sds),
-            3 if has_empty_sds => self.remove_sds(schema),
+            3 if has_empty_sds(schema) => self.remove_sds(schema),
             _ => self.remove_type(schema, sds),
         }
     }
@@ -628,16 +630,16 @@ impl Caller {
     fn list(&mut self, schema: &Schema) -> Vec<u8> {
         let used: Vec<u8> = schema.sdss.keys().map(|&sds| sds as u8).collect();
         let mut list = self.random.shuffled(used);
-        match self.random.below(24) {
-            0..=5 => list.clear(),
-            6..=8 => {}
-            9 => list.extend(list.clone()),
-            10 => list = list.repeat(17),
-            11 => {
+        match self.random.below(32) {
+            0..=7 => list.clear(),
+            8..=11 => {}
+            12 => list.extend(list.clone()),
+            13 => list = list.repeat(17),
+            14 => {
                 list.truncate(1 + self.random.below(3));
                 list.push(self.random.pick(&list).expect("there is SDS 0"));
             }
-            12 | 13 => {
+            15 | 16 => {
                 if self.random.one_in(2) {
                     list.truncate(self.random.below(3));
                 }
@@ -660,7 +662,7 @@ impl Caller {
         let visible: Vec<usize> = listed.flat_map(|(_, sds)| sds.presences.values().copied()).collect();
         let wanted: Vec<usize> = visible.iter().copied().filter(|&ty| is_wanted(schema, ty)).collect();
         let used: Vec<usize> = schema.types.keys().copied().collect();
-        let found = match self.random.below(12) {
+        let found = match self.random.below(16) {
             0 => None,
             1 => self.random.pick(&used),
             2 => self.random.pick(&visible),
@@ -680,6 +682,10 @@ pub fn free_places(mode: Mode, schema: &Schema) -> usize {
         Mode::FullApplications => Schema::APPLICATIONS - schema.application_count(),
         Mode::FullEnds => Schema::ENDS - schema.end_count(),
     }
+}
+
+fn has_empty_sds(schema: &Schema) -> bool {
+    schema.sdss.values().any(|sds| sds.presences.is_empty())
 }
 
 /// The names in the source of types that the target lacks, but not their parents.

@@ -313,9 +313,11 @@ static void every_descendant(void)
 {
     a_base_with_fifo();
     LISTS(SCAN_OBJECT("\1", TEMPLATE, 1), "\4\5", 2, 0, 0);
+    LISTS(SCAN_OBJECT("\1", RADIO, 1), "\4\5", 2, 0, 0);
     ANSWERS(DEPTH("\1", FIFO), 0, 3, 0, 0);
     a_base_with_adc();
     LISTS(SCAN_OBJECT("\1", TEMPLATE, 1), "\4\5", 2, 0, 0);
+    LISTS(SCAN_OBJECT("\1", RADIO, 1), "\4\5", 2, 0, 0);
     LISTS(SCAN_OBJECT("\1", TEMPLATE, 0), "\5", 1, 0, 0);
     LISTS(SCAN_OBJECT("", ADC, 3), "\0\1\2\3\5", 5, 0, 0);
     ANSWERS(DEPTH("\1", ADC), 0, 4, 0, 0);
@@ -325,7 +327,7 @@ static void every_descendant(void)
     EXPECT(is_guarded());
 }
 
-/* A chain up to the last type number, so that marks stand in both words. */
+/* A chain up to the last type number, so that marks stand in both words; its last type has a short way up too. */
 static void a_long_chain(void)
 {
     begin("one", "two");
@@ -335,6 +337,7 @@ static void a_long_chain(void)
         PUT_TYPE(type, 1, 0, 0, 1, (uint8_t)(type - 1));
         put_presence(1, name, type);
     }
+    PUT_TYPE(127, 1, 0, 0, 2, 0, 126);
     keep();
     ANSWERS(DEPTH("\1", 127), 0, 127, 0, 0);
     ANSWERS(DESCENDANT_SET("\1", 0), 0, SIZE_MAX - 1, SIZE_MAX, 127);
@@ -352,6 +355,7 @@ static void every_code(void)
     LISTS(SCAN_OBJECT("\1", LOW, 2), "\2\3", 2, 0, 0);
     LISTS(SCAN_OBJECT("\1", LOW, 3), "\0\1\2\3", 4, 0, 0);
     LISTS(SCAN_OBJECT("\1", LOW, 4), "\5", 1, 0, 0);
+    LISTS(SCAN_OBJECT("\2", TOP, 4), "", 0, 0, 0);
     LISTS(SCAN_OBJECT("\1", LOW, 5), "\5\6", 2, 0, 0);
     LISTS(SCAN_OBJECT("\1", LOW, 6), "\x9", 1, 0, 0);
     LISTS(SCAN_OBJECT("", LOW, 7), "\7\x8\x9", 3, 0, 0);

@@ -205,7 +205,7 @@ impl Caller {
             let times = match kind {
                 0 => 300,
                 1 if has_enough_sdss => 8,
-                2 if !has_empty_sds => 8,
+                2 if !has_empty_sds => 4,
                 _ => 1,
             };
             if self.random.one_in(times) {

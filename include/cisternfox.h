@@ -45,19 +45,19 @@ cf_answer cf_name(const uint8_t *base, size_t base_len, size_t sds, size_t type)
  * `output` takes a list: types in rising number, each once, an entry being two bytes, low byte first. Its room is
  * counted in whole entries, and what lies beyond the entries put down stays as it was. */
 
-/* Lists types by their relation to an object type. one: their count. Codes:
- * 0: its children; 1: its descendants; 2: its parents; 3: its ancestors;
- * 4: the attribute types applied to it; 5: to it or an ancestor;
- * 6: the link types that it is an origin of; 7: that it or an ancestor is;
- * 8: the link types that it is a destination of; 9: that it or an ancestor is.
+/* Lists types by their relation to an object type. one: their count.
+ * Code 0 is its children, 1 its descendants, 2 its parents, 3 its ancestors,
+ *      4 the attribute types applied to it, 5 to it or an ancestor,
+ *      6 the link types that it is an origin of, 7 that it or an ancestor is,
+ *      8 the link types that it is a destination of, 9 that it or an ancestor is.
  * 1: the base is not sound; 2: no SDS has a number listed; 5: no such code; 6: the type is not visible; 7: it is no
  * object type; 8: an SDS is listed twice; 15: the output has too little room. */
 cf_answer cf_scan_object(const uint8_t *base, size_t base_len, const uint8_t *schema, size_t schema_len, size_t type,
                          size_t code, uint8_t *output, size_t output_len);
 
-/* Lists types by their relation to a link type. one: their count. Codes:
- * 0: its origins; 1: these and their descendants; 2: its destinations; 3: these and their descendants;
- * 4: the attribute types applied to it.
+/* Lists types by their relation to a link type. one: their count.
+ * Code 0 is its origins, 1 these and their descendants, 2 its destinations, 3 these and their descendants,
+ *      4 the attribute types applied to it.
  * 1: the base is not sound; 2: no SDS has a number listed; 5: no such code; 6: the type is not visible; 7: it is no
  * link type; 8: an SDS is listed twice; 15: the output has too little room. */
 cf_answer cf_scan_link(const uint8_t *base, size_t base_len, const uint8_t *schema, size_t schema_len, size_t type,

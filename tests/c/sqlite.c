@@ -2,8 +2,8 @@
  * statements prepared once.
  *
  * Reads rows as SQL on standard input, a statement to a line, up to an empty line; then questions, a line each: which
- * one (0: the descendants of a type, 1: its profile, 2: the type that bears a name), how often it is asked, and the type
- * or the name. Answers each with a line: the nanoseconds that all took together, and the entries. */
+ * one (0: the descendants of a type, 1: its profile, 2: the type that bears a name), how often it is asked, and the
+ * type or the name. Answers each with a line: the nanoseconds that all took together, and the entries. */
 #include "clock.h"
 #include <sqlite3.h>
 #include <stdio.h>
@@ -36,7 +36,8 @@ static const char *const questions[] = {
     " UNION SELECT 2, link FROM found JOIN ends ON object = found.type AND side = 0 JOIN working USING (sds)"
     " ORDER BY 1, 2",
 
-    "SELECT type FROM working JOIN presence USING (sds) WHERE name = ?1 ORDER BY place LIMIT 1",
+    /* CROSS JOIN keeps the order: a look into each listed SDS. So it is faster by far, and all is with no ANALYZE. */
+    "SELECT type FROM working CROSS JOIN presence USING (sds) WHERE name = ?1 ORDER BY place LIMIT 1",
 };
 
 static sqlite3 *database;
@@ -79,7 +80,6 @@ int main(void)
     must(sqlite3_exec(database, tables, NULL, NULL, NULL), SQLITE_OK);
     while (fgets(line, sizeof line, stdin) && *line != '\n')
         must(sqlite3_exec(database, line, NULL, NULL, NULL), SQLITE_OK);
-    must(sqlite3_exec(database, "ANALYZE", NULL, NULL, NULL), SQLITE_OK);
     for (int n = 0; n < 3; n++)
         must(sqlite3_prepare_v2(database, questions[n], -1, &prepared[n], NULL), SQLITE_OK);
     while (scanf("%u %ld %255s", &number, &times, line) == 3 && number < 3) {

@@ -13,7 +13,8 @@ use std::io::{stderr, IsTerminal};
 use std::process::ExitCode;
 use std::time::Instant;
 
-/// The best of many rounds of some calls. All that are compared take turns, so that none is alone with a quiet machine.
+/// The best of many rounds of some calls. All that are compared take turns, so that none is alone with a quiet
+/// machine.
 const ROUNDS: usize = 60;
 const CALLS: usize = 100;
 

@@ -4,8 +4,8 @@
 //! `compare [--calls N] [--spoiled N] [--seed S] -- PROGRAM..`
 //! `compare bench SQLITE -- PROGRAM..`
 //!
-//! PROGRAM and its words start the process that serves the library (`tests/c/serve.c`), SQLITE is the program that asks
-//! SQLite (`tests/c/sqlite.c`).
+//! PROGRAM and its words start the process that serves the library (`tests/c/serve.c`), SQLITE is the program that
+//! asks SQLite (`tests/c/sqlite.c`).
 
 mod base;
 mod bench;

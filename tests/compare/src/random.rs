@@ -195,8 +195,8 @@ impl Caller {
         self.any_of(schema, &std::array::from_fn::<usize, { CALLS.len() }, _>(|kind| kind))
     }
 
-    /// A call of one of the kinds, which are places in `CALLS`. Seldom those that would undo what a mode leads to, or that
-    /// can hardly be done.
+    /// A call of one of the kinds, which are places in `CALLS`. Seldom those that would undo what a mode leads to, or
+    /// that can hardly be done.
     pub fn any_of(&mut self, schema: &Schema, kinds: &[usize]) -> Call {
         let has_enough_sdss = self.mode != Mode::FullSdss && schema.sdss.len() > 4;
         let has_empty_sds = has_empty_sds(schema);

@@ -10,7 +10,10 @@ use Rattle.base.proofs.Back.{sound-canonical, sound-good, is-sound}
 use Rattle.base.proofs.Rows.{filled-most}
 use Rattle.base.proofs.Shown.{presences-long, applications-long, ends-long, presence-read, end-read, sdss-long, types-long}
 use Rattle.base.proofs.Shown.{used-application, used-end}
-use Rattle.sound.specs.Parts.{Sdss, Kinds, Parents, Reverses, Acyclic, Presences, Rest, Closed}
+use Rattle.tables.specs.Parts.{Sdss, Presences, Rest}
+use Rattle.kinds.specs.Parts.{Kinds, Parents, Reverses}
+use Rattle.sound.specs.Parts.{Acyclic}
+use Rattle.closed.specs.Parts.{Closed}
 
 -- all the parts
 pub record Whole (b : List ℕ) : Type 0 where

@@ -1,10 +1,5 @@
 // The check of soundness: exactly the pictures of good schemas. Each part of it decides some fields of `Good`, and what they need of
 // the bytes; every call of the keeper begins with it.
-mod closed;
-mod named;
-mod rest;
-mod types;
-
 use base::Base;
 ghost use Rattle.rules.specs.07-Picture.{Sound};
 ghost use Rattle.base.specs.Decides.{Decides};
@@ -15,25 +10,25 @@ pub fn is_sound(base: &[u8]) -> bool
     if base.len() != Base::LENGTH {
         return false;
     }
-    if !named::sdss_fine(base) {
+    if !tables::named::sdss_fine(base) {
         return false;
     }
-    if !types::kinds_fine(base) {
+    if !kinds::kinds_fine(base) {
         return false;
     }
-    if !types::parents_fine(base) {
+    if !kinds::parents_fine(base) {
         return false;
     }
-    if !types::reverses_fine(base) {
+    if !kinds::reverses_fine(base) {
         return false;
     }
     if !graph::is_acyclic(base) {
         return false;
     }
-    if !named::presences_fine(base) {
+    if !tables::named::presences_fine(base) {
         return false;
     }
-    if !rest::rest_fine(base) {
+    if !tables::rest::rest_fine(base) {
         return false;
     }
     closed::closed_fine(base)

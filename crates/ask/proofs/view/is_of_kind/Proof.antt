@@ -1,7 +1,7 @@
 use borrow.Author.Needs.{needs}
 use native.Mathlib.Omega.{arith}
 use mathlib.Core.Path.{_≡_, ap, _∙_}
-use Rattle.sound.proofs.KindLaws.{object-byte, link-byte}
+use Rattle.closed.proofs.KindLaws.{object-byte, link-byte}
 use Rattle.ask.proofs.ViewLaws.{kind-link, kind-object}
 use Rattle.ask.proofs.view.is_of_kind.Statement.{statement}
 use Rattle.ask.proofs.view.is_of_kind.Tie as tie

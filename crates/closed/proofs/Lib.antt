@@ -1,0 +1,4 @@
+pub mod KindLaws
+pub mod HeldLaws
+pub mod SdsLaws
+pub mod ClosedLaws

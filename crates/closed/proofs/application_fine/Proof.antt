@@ -1,0 +1,103 @@
+-- `closed::application_fine` meets its contract: the tests are the fields of `Applied`. Assumes nothing.
+use borrow.Author.Needs.{needs}
+use mathlib.Core.Path.{_≡_, sym, ap, _∙_}
+use mathlib.Core.Bool.{Bool, true, true≢false, _&&_, _||_}
+use borrow.Author.Tests.{not-true, not-false}
+use Rattle.rules.specs.04-Schema.{kind-of, is-object, is-attribute, is-link}
+use Rattle.rules.proofs.Bools.{and-both, and-of, or-left, or-right, or-cases}
+use Rattle.marks.specs.Set.{has}
+use Rattle.base.specs.Back.{schema-of}
+use Rattle.base.proofs.Decides.{decides-yes, decides-no}
+use Rattle.closed.proofs.HeldLaws.{applied-no-attribute, applied-attribute-out, applied-to-out, applied-of, applied-neither}
+use Rattle.closed.proofs.application_fine.Statement.{statement}
+use Rattle.closed.proofs.application_fine.Tie as tie
+
+application-attribute-requires : tie.Need-application-attribute-requires
+application-attribute-requires c κs = search needs
+
+is-attribute-requires : tie.Need-is-attribute-requires
+is-attribute-requires c κs = search needs
+
+returns : tie.Need-returns
+returns c =
+    let x = c .before .before .before .before .args in
+    decides-no (applied-no-attribute (x .base .now) (has (x .set)) (x .i) (c .before .before .application-attribute .result) (c .before .before .application-attribute .ensures .is)
+    (sym (c .before .is-attribute .ensures) ∙ not-true _ (c .if1 .taken)))
+
+is-in-requires : tie.Need-is-in-requires
+is-in-requires c κs = search needs
+
+returns-2 : tie.Need-returns-2
+returns-2 c =
+    let x = c .before .before .before .before .before .before .args in
+    decides-no (applied-attribute-out (x .base .now) (has (x .set)) (x .i) (c .before .before .before .before .application-attribute .result)
+    (c .before .before .before .before .application-attribute .ensures .is)
+    (sym (c .before .is-in .ensures) ∙ not-true _ (c .if2 .taken)))
+
+application-to-requires : tie.Need-application-to-requires
+application-to-requires c κs = search needs
+
+is-in-requires-2 : tie.Need-is-in-requires-2
+is-in-requires-2 c κs = search needs
+
+returns-3 : tie.Need-returns-3
+returns-3 c =
+    let x = c .before .before .before .before .before .before .before .before .before .args in
+    decides-no (applied-to-out (x .base .now) (has (x .set)) (x .i) (c .before .before .application-to .result) (c .before .before .application-to .ensures .is)
+    (sym (c .before .is-in2 .ensures) ∙ not-true _ (c .if3 .taken)))
+
+is-object-requires : tie.Need-is-object-requires
+is-object-requires c κs = search needs
+
+returns-4 : tie.Need-returns-4
+returns-4 c =
+    let x = c .before .before .before .before .before .before .before .before .before .before .before .args in
+    let b = x .base .now in
+    let to = c .before .before .before .before .application-to .result in
+    decides-yes (applied-of b (has (x .set)) (x .i)
+    (c .before .before .before .before .before .before .before .before .before .application-attribute .result) to
+    (c .before .before .before .before .before .before .before .before .before .application-attribute .ensures .is)
+    (c .before .before .before .before .application-to .ensures .is)
+    (sym (c .before .before .before .before .before .before .before .before .is-attribute .ensures) ∙ not-false _
+    (c .before .before .before .before .before .before .before .if1 .left)) (sym (c .before .before .before .before .before .before .is-in .ensures)
+    ∙ not-false _ (c .before .before .before .before .before .if2 .left))
+    (sym (c .before .before .before .is-in2 .ensures) ∙ not-false _ (c .before .before .if3 .left))
+    (or-left (is-object (kind-of (schema-of b) to)) (is-link (kind-of (schema-of b) to)) (sym (c .before .is-object .ensures) ∙ c .if4 .taken)))
+
+is-link-requires : tie.Need-is-link-requires
+is-link-requires c κs = search needs
+
+returns-5 : tie.Need-returns-5
+returns-5 c =
+    let x = c .before .before .before .before .before .before .before .before .before .before .before .before .args in
+    let b = x .base .now in
+    let to = c .before .before .before .before .before .application-to .result in record {
+      holds = λ e. applied-of b (has (x .set)) (x .i)
+          (c .before .before .before .before .before .before .before .before .before .before .application-attribute .result) to
+          (c .before .before .before .before .before .before .before .before .before .before .application-attribute .ensures .is)
+          (c .before .before .before .before .before .application-to .ensures .is)
+          (sym (c .before .before .before .before .before .before .before .before .before .is-attribute .ensures) ∙ not-false _
+          (c .before .before .before .before .before .before .before .before .if1 .left)) (sym
+          (c .before .before .before .before .before .before .before .is-in .ensures) ∙ not-false _ (c .before .before .before .before .before .before .if2 .left))
+          (sym (c .before .before .before .before .is-in2 .ensures) ∙ not-false _ (c .before .before .before .if3 .left))
+          (or-right (is-object (kind-of (schema-of b) to)) (is-link (kind-of (schema-of b) to)) (sym (c .is-link .ensures) ∙ e));
+      fails = λ e. applied-neither b (has (x .set)) (x .i) to (c .before .before .before .before .before .application-to .ensures .is) (sym
+          (c .before .before .is-object .ensures) ∙ c .before .if4 .left) (sym (c .is-link .ensures) ∙ e);
+    }
+
+pub application-fine-spec : {M : Type 1} → statement M
+application-fine-spec =
+    tie.close
+    (tie.spec
+    application-attribute-requires
+    is-attribute-requires
+    returns
+    is-in-requires
+    returns-2
+    application-to-requires
+    is-in-requires-2
+    returns-3
+    is-object-requires
+    returns-4
+    is-link-requires
+    returns-5)

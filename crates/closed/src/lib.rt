@@ -1,0 +1,358 @@
+// SDS by SDS, with one set of the types that are in it: that these are closed, and that applications and ends stand on them.
+use marks::TypeSet;
+ghost use mathlib.Core.Path.{_≡_};
+ghost use mathlib.Core.Bool.{true};
+ghost use Prim.Native.Nat.{ℕ, _+_, _≤_, _<_};
+ghost use lib.ListN.{length};
+ghost use Rattle.rules.specs.04-Schema.{kind-of, is-used, is-object, is-attribute, is-link, has-end};
+ghost use Rattle.rules.specs.07-Picture.{base-length};
+ghost use Rattle.rules.proofs.07-Picture.{read-side};
+ghost use Rattle.marks.specs.Set.{has};
+ghost use Rattle.base.specs.Rows.{Rising};
+ghost use Rattle.base.specs.Back.{schema-of};
+ghost use Rattle.base.specs.Decides.{Decides};
+ghost use Rattle.graph.specs.Graph.{Parental};
+ghost use Rattle.tables.specs.Parts.{Presences, Rest};
+ghost use Rattle.closed.specs.Parts.{Closed};
+ghost use Rattle.closed.specs.Held.{type-in, parent-in, Gathered, Closed-type, Applied, Ended, Row-where, Ends, Ready, At, Checks, Gone-through};
+
+// A row of each table that has an order of its own.
+pub struct Places {
+    pub presences: usize,
+    pub applications: usize,
+    pub ends: usize,
+}
+
+pub struct Held {
+    pub types: TypeSet,
+    pub once: bool,
+}
+
+pub struct Checked {
+    pub fine: bool,
+    pub next: Places,
+    pub types: TypeSet,
+}
+
+fn is_in(set: TypeSet, t: usize) -> bool
+    ensures { λ r. ⌜ r ≡ has set t ⌝ }
+{
+    if 128 <= t {
+        return false;
+    }
+    set.test(t)
+}
+
+fn is_object(base: &[u8], t: usize) -> bool
+    requires { ⌜ length (now base) ≡ base-length ⌝ }
+    ensures { λ r. ⌜ r ≡ is-object (kind-of (schema-of (now (base .entry))) t) ⌝ }
+{
+    if 128 <= t {
+        return false;
+    }
+    base::kind(base, t) == 1
+}
+
+fn is_attribute(base: &[u8], t: usize) -> bool
+    requires { ⌜ length (now base) ≡ base-length ⌝ }
+    ensures { λ r. ⌜ r ≡ is-attribute (kind-of (schema-of (now (base .entry))) t) ⌝ }
+{
+    if 128 <= t {
+        return false;
+    }
+    base::kind(base, t) == 2
+}
+
+fn is_link(base: &[u8], t: usize) -> bool
+    requires { ⌜ length (now base) ≡ base-length ⌝ }
+    ensures { λ r. ⌜ r ≡ is-link (kind-of (schema-of (now (base .entry))) t) ⌝ }
+{
+    if 128 <= t {
+        return false;
+    }
+    base::kind(base, t) == 3
+}
+
+// The types of the presences from `from` up to `to`, unless one stands twice.
+fn gather(base: &[u8], from: usize, to: usize) -> Held
+    requires { ⌜ (length (now base) ≡ base-length) × ((from ≤ to) × (to ≤ 512)) ⌝ }
+    requires { ⌜ ((i : ℕ) → i < to → type-in (now base) i < 128) ⌝ }
+    ensures { λ r. ⌜ Gathered (now (base .entry)) from to r ⌝ }
+{
+    let mut types = TypeSet::empty();
+    let mut i = from;
+    while i < to {
+        let t = base::presence_type(base, i);
+        if types.test(t) {
+            return Held { types, once: false };
+        }
+        types = types.add(t);
+        i += 1;
+    }
+    Held { types, once: true }
+}
+
+// Whether the first n parents of t are in the set.
+fn parents_in(base: &[u8], t: usize, n: usize, set: TypeSet) -> bool
+    requires { ⌜ (length (now base) ≡ base-length) × ((t < 128) × (n ≤ 4)) ⌝ }
+    ensures { λ r. ⌜ Decides ((i : ℕ) → i < n → has set (parent-in (now (base .entry)) t i) ≡ true) r ⌝ }
+{
+    let mut i = 0;
+    while i < n {
+        if !is_in(set, base::parent(base, t, i)) {
+            return false;
+        }
+        i += 1;
+    }
+    true
+}
+
+fn type_closed(base: &[u8], t: usize, set: TypeSet) -> bool
+    requires { ⌜ (length (now base) ≡ base-length) × (t < 128) ⌝ }
+    requires { ⌜ Parental (now base) ⌝ }
+    ensures { λ r. ⌜ Decides (Closed-type (now (base .entry)) (has set) t) r ⌝ }
+{
+    let kind = base::kind(base, t);
+    if kind == 1 {
+        return parents_in(base, t, base::parent_count(base, t), set);
+    }
+    if kind != 3 {
+        return true;
+    }
+    if base::value(base, t) == 4 {
+        return true;
+    }
+    is_in(set, base::reverse(base, t))
+}
+
+fn types_closed(base: &[u8], from: usize, to: usize, set: TypeSet) -> bool
+    requires { ⌜ (length (now base) ≡ base-length) × (to ≤ 512) ⌝ }
+    requires { ⌜ Parental (now base) ⌝ }
+    requires { ⌜ ((i : ℕ) → i < to → type-in (now base) i < 128) ⌝ }
+    ensures { λ r. ⌜ Decides ((i : ℕ) → i < to → from ≤ i → Closed-type (now (base .entry)) (has set) (type-in (now (base .entry)) i)) r ⌝ }
+{
+    let mut i = from;
+    while i < to {
+        if !type_closed(base, base::presence_type(base, i), set) {
+            return false;
+        }
+        i += 1;
+    }
+    true
+}
+
+fn application_fine(base: &[u8], i: usize, set: TypeSet) -> bool
+    requires { ⌜ (length (now base) ≡ base-length) × (i < 256) ⌝ }
+    ensures { λ r. ⌜ Decides (Applied (now (base .entry)) (has set) i) r ⌝ }
+{
+    let attribute = base::application_attribute(base, i);
+    if !is_attribute(base, attribute) {
+        return false;
+    }
+    if !is_in(set, attribute) {
+        return false;
+    }
+    let to = base::application_to(base, i);
+    if !is_in(set, to) {
+        return false;
+    }
+    if is_object(base, to) {
+        return true;
+    }
+    is_link(base, to)
+}
+
+fn applications_fine(base: &[u8], from: usize, to: usize, set: TypeSet) -> bool
+    requires { ⌜ (length (now base) ≡ base-length) × (to ≤ 256) ⌝ }
+    ensures { λ r. ⌜ Decides ((i : ℕ) → i < to → from ≤ i → Applied (now (base .entry)) (has set) i) r ⌝ }
+{
+    let mut i = from;
+    while i < to {
+        if !application_fine(base, i, set) {
+            return false;
+        }
+        i += 1;
+    }
+    true
+}
+
+// A row of the n ends where the end in row i is fine: that of its mirror, which is looked for at `near` first. Else n.
+fn end_fine(base: &[u8], n: usize, near: usize, i: usize, set: TypeSet) -> usize
+    requires { ⌜ (Ends (now base) n) × (i < n) ⌝ }
+    ensures { λ r. ⌜ Row-where (Ended (now (base .entry)) (has set) i) n r ⌝ }
+{
+    let link = base::end_link(base, i);
+    if !is_link(base, link) {
+        return n;
+    }
+    if !is_in(set, link) {
+        return n;
+    }
+    let object = base::end_object(base, i);
+    if !is_object(base, object) {
+        return n;
+    }
+    if !is_in(set, object) {
+        return n;
+    }
+    if base::value(base, link) == 4 {
+        return i;
+    }
+    let side = base::end_side(base, i);
+    base::find::end_row(
+        base,
+        n,
+        near,
+        base::end_sds(base, i),
+        base::reverse(base, link),
+        1 - side,
+        object,
+    )
+}
+
+// The ends of a link type on one side stand together, and so do their mirrors: the next one is most often behind the last one found.
+fn ends_fine(base: &[u8], n: usize, from: usize, to: usize, set: TypeSet) -> bool
+    requires { ⌜ (Ends (now base) n) × (to ≤ n) ⌝ }
+    ensures { λ r. ⌜ Decides ((i : ℕ) → i < to → from ≤ i → Ended (now (base .entry)) (has set) i) r ⌝ }
+{
+    let mut near = from;
+    let mut i = from;
+    while i < to {
+        let row = end_fine(base, n, near, i, set);
+        if n <= row {
+            return false;
+        }
+        near = row + 1;
+        i += 1;
+    }
+    true
+}
+
+// The check of SDS d, whose rows start at these places; where it is fine, with the next SDS's places and its types.
+fn sds_fine(base: &[u8], n: Places, at: Places, d: usize) -> Checked
+    requires { ⌜ Ready (now base) n ⌝ }
+    requires { ⌜ At (now base) n d at ⌝ }
+    ensures { λ r. ⌜ Checks (now (base .entry)) n d r ⌝ }
+{
+    let presences = base::split::presences_past(base, n.presences, at.presences, d);
+    let held = gather(base, at.presences, presences);
+    let types = held.types;
+    if !held.once {
+        return Checked {
+            fine: false,
+            next: at,
+            types,
+        };
+    }
+    if !types_closed(base, at.presences, presences, types) {
+        return Checked {
+            fine: false,
+            next: at,
+            types,
+        };
+    }
+    let applications = base::split::applications_past(base, n.applications, at.applications, d);
+    if !applications_fine(base, at.applications, applications, types) {
+        return Checked {
+            fine: false,
+            next: at,
+            types,
+        };
+    }
+    let ends = base::split::ends_past(base, n.ends, at.ends, d);
+    if !ends_fine(base, n.ends, at.ends, ends, types) {
+        return Checked {
+            fine: false,
+            next: at,
+            types,
+        };
+    }
+    Checked {
+        fine: true,
+        next: Places {
+            presences,
+            applications,
+            ends,
+        },
+        types,
+    }
+}
+
+fn is_in_if_used(base: &[u8], t: usize, set: TypeSet) -> bool
+    requires { ⌜ (Parental (now base)) × (t < 128) ⌝ }
+    ensures { λ r. ⌜ Decides (is-used (kind-of (schema-of (now (base .entry))) t) ≡ true → has set t ≡ true) r ⌝ }
+{
+    if base::kind(base, t) == 0 {
+        return true;
+    }
+    set.test(t)
+}
+
+// Whether every used type is in the set.
+fn used_in(base: &[u8], set: TypeSet) -> bool
+    requires { ⌜ Parental (now base) ⌝ }
+    ensures { λ r. ⌜ Decides ((t : ℕ) → t < 128 → is-used (kind-of (schema-of (now (base .entry))) t) ≡ true → has set t ≡ true) r ⌝ }
+{
+    let mut t = 0;
+    while t < 128 {
+        if !is_in_if_used(base, t, set) {
+            return false;
+        }
+        t += 1;
+    }
+    true
+}
+
+// The SDSs one after the other: the set of all types that are in one, unless one SDS is not closed.
+fn sdss_fine(base: &[u8], n: Places) -> Checked
+    requires { ⌜ Ready (now base) n ⌝ }
+    ensures { λ r. ⌜ Gone-through (now (base .entry)) n r ⌝ }
+{
+    let mut at = Places {
+        presences: 0,
+        applications: 0,
+        ends: 0,
+    };
+    let mut all = TypeSet::empty();
+    let mut d = 0;
+    while d < 16 {
+        let sds = sds_fine(base, n, at, d);
+        if !sds.fine {
+            return sds;
+        }
+        let next = sds.next;
+        let types = sds.types;
+        at = next;
+        all = all.join(types);
+        d += 1;
+    }
+    Checked {
+        fine: true,
+        next: at,
+        types: all,
+    }
+}
+
+pub fn closed_fine(base: &[u8]) -> bool
+    requires { ⌜ Parental (now base) ⌝ }
+    requires { ⌜ Presences (now base) ⌝ }
+    requires { ⌜ Rest (now base) ⌝ }
+    ensures { λ r. ⌜ Decides (Closed (now (base .entry))) r ⌝ }
+{
+    let n = Places {
+        presences: base::used::presence_count(base),
+        applications: base::used::application_count(base),
+        ends: base::used::end_count(base),
+    };
+    let sdss = sdss_fine(base, n);
+    if !sdss.fine {
+        return false;
+    }
+    if sdss.next.applications != n.applications {
+        return false;
+    }
+    if sdss.next.ends != n.ends {
+        return false;
+    }
+    used_in(base, sdss.types)
+}

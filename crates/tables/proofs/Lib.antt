@@ -1,0 +1,4 @@
+pub mod NamedLaws
+pub mod OrderLaws
+pub mod PresenceLaws
+pub mod RestLaws

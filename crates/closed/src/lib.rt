@@ -34,15 +34,6 @@ pub struct Checked {
     pub types: TypeSet,
 }
 
-fn is_in(set: TypeSet, t: usize) -> bool
-    ensures { λ r. ⌜ r ≡ has set t ⌝ }
-{
-    if 128 <= t {
-        return false;
-    }
-    set.test(t)
-}
-
 fn is_object(base: &[u8], t: usize) -> bool
     requires { ⌜ length (now base) ≡ base-length ⌝ }
     ensures { λ r. ⌜ r ≡ is-object (kind-of (schema-of (now (base .entry))) t) ⌝ }
@@ -99,7 +90,7 @@ fn parents_in(base: &[u8], t: usize, n: usize, set: TypeSet) -> bool
 {
     let mut i = 0;
     while i < n {
-        if !is_in(set, base::parent(base, t, i)) {
+        if !set.holds(base::parent(base, t, i)) {
             return false;
         }
         i += 1;
@@ -122,7 +113,7 @@ fn type_closed(base: &[u8], t: usize, set: TypeSet) -> bool
     if base::value(base, t) == 4 {
         return true;
     }
-    is_in(set, base::reverse(base, t))
+    set.holds(base::reverse(base, t))
 }
 
 fn types_closed(base: &[u8], from: usize, to: usize, set: TypeSet) -> bool
@@ -149,11 +140,11 @@ fn application_fine(base: &[u8], i: usize, set: TypeSet) -> bool
     if !is_attribute(base, attribute) {
         return false;
     }
-    if !is_in(set, attribute) {
+    if !set.holds(attribute) {
         return false;
     }
     let to = base::application_to(base, i);
-    if !is_in(set, to) {
+    if !set.holds(to) {
         return false;
     }
     if is_object(base, to) {
@@ -185,14 +176,14 @@ fn end_fine(base: &[u8], n: usize, near: usize, i: usize, set: TypeSet) -> usize
     if !is_link(base, link) {
         return n;
     }
-    if !is_in(set, link) {
+    if !set.holds(link) {
         return n;
     }
     let object = base::end_object(base, i);
     if !is_object(base, object) {
         return n;
     }
-    if !is_in(set, object) {
+    if !set.holds(object) {
         return n;
     }
     if base::value(base, link) == 4 {

@@ -24,27 +24,27 @@ returns c =
     decides-no (applied-no-attribute (x .base .now) (has (x .set)) (x .i) (c .before .before .application-attribute .result) (c .before .before .application-attribute .ensures .is)
     (sym (c .before .is-attribute .ensures) ∙ not-true _ (c .if1 .taken)))
 
-is-in-requires : tie.Need-is-in-requires
-is-in-requires c κs = search needs
+holds-requires : tie.Need-holds-requires
+holds-requires c κs = search needs
 
 returns-2 : tie.Need-returns-2
 returns-2 c =
     let x = c .before .before .before .before .before .before .args in
     decides-no (applied-attribute-out (x .base .now) (has (x .set)) (x .i) (c .before .before .before .before .application-attribute .result)
     (c .before .before .before .before .application-attribute .ensures .is)
-    (sym (c .before .is-in .ensures) ∙ not-true _ (c .if2 .taken)))
+    (sym (c .before .holds .ensures) ∙ not-true _ (c .if2 .taken)))
 
 application-to-requires : tie.Need-application-to-requires
 application-to-requires c κs = search needs
 
-is-in-requires-2 : tie.Need-is-in-requires-2
-is-in-requires-2 c κs = search needs
+holds-requires-2 : tie.Need-holds-requires-2
+holds-requires-2 c κs = search needs
 
 returns-3 : tie.Need-returns-3
 returns-3 c =
     let x = c .before .before .before .before .before .before .before .before .before .args in
     decides-no (applied-to-out (x .base .now) (has (x .set)) (x .i) (c .before .before .application-to .result) (c .before .before .application-to .ensures .is)
-    (sym (c .before .is-in2 .ensures) ∙ not-true _ (c .if3 .taken)))
+    (sym (c .before .holds2 .ensures) ∙ not-true _ (c .if3 .taken)))
 
 is-object-requires : tie.Need-is-object-requires
 is-object-requires c κs = search needs
@@ -59,9 +59,9 @@ returns-4 c =
     (c .before .before .before .before .before .before .before .before .before .application-attribute .ensures .is)
     (c .before .before .before .before .application-to .ensures .is)
     (sym (c .before .before .before .before .before .before .before .before .is-attribute .ensures) ∙ not-false _
-    (c .before .before .before .before .before .before .before .if1 .left)) (sym (c .before .before .before .before .before .before .is-in .ensures)
+    (c .before .before .before .before .before .before .before .if1 .left)) (sym (c .before .before .before .before .before .before .holds .ensures)
     ∙ not-false _ (c .before .before .before .before .before .if2 .left))
-    (sym (c .before .before .before .is-in2 .ensures) ∙ not-false _ (c .before .before .if3 .left))
+    (sym (c .before .before .before .holds2 .ensures) ∙ not-false _ (c .before .before .if3 .left))
     (or-left (is-object (kind-of (schema-of b) to)) (is-link (kind-of (schema-of b) to)) (sym (c .before .is-object .ensures) ∙ c .if4 .taken)))
 
 is-link-requires : tie.Need-is-link-requires
@@ -78,8 +78,8 @@ returns-5 c =
           (c .before .before .before .before .before .application-to .ensures .is)
           (sym (c .before .before .before .before .before .before .before .before .before .is-attribute .ensures) ∙ not-false _
           (c .before .before .before .before .before .before .before .before .if1 .left)) (sym
-          (c .before .before .before .before .before .before .before .is-in .ensures) ∙ not-false _ (c .before .before .before .before .before .before .if2 .left))
-          (sym (c .before .before .before .before .is-in2 .ensures) ∙ not-false _ (c .before .before .before .if3 .left))
+          (c .before .before .before .before .before .before .before .holds .ensures) ∙ not-false _ (c .before .before .before .before .before .before .if2 .left))
+          (sym (c .before .before .before .before .holds2 .ensures) ∙ not-false _ (c .before .before .before .if3 .left))
           (or-right (is-object (kind-of (schema-of b) to)) (is-link (kind-of (schema-of b) to)) (sym (c .is-link .ensures) ∙ e));
       fails = λ e. applied-neither b (has (x .set)) (x .i) to (c .before .before .before .before .before .application-to .ensures .is) (sym
           (c .before .before .is-object .ensures) ∙ c .before .if4 .left) (sym (c .is-link .ensures) ∙ e);
@@ -92,10 +92,10 @@ application-fine-spec =
     application-attribute-requires
     is-attribute-requires
     returns
-    is-in-requires
+    holds-requires
     returns-2
     application-to-requires
-    is-in-requires-2
+    holds-requires-2
     returns-3
     is-object-requires
     returns-4

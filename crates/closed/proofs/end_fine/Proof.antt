@@ -23,14 +23,14 @@ returns c =
     let l = c .before .before .end-link in
     row-no (ended-no-link (x .args .base .now) (has (x .args .set)) (x .args .i) (l .result) (l .ensures .is) (sym (c .before .is-link .ensures) ∙ not-true _ (c .if1 .taken)))
 
-is-in-requires : tie.Need-is-in-requires
-is-in-requires c κs = search needs
+holds-requires : tie.Need-holds-requires
+holds-requires c κs = search needs
 
 returns-2 : tie.Need-returns-2
 returns-2 c =
     let x = c .before .before .before .before .before .before in
     let l = c .before .before .before .before .end-link in
-    row-no (ended-link-out (x .args .base .now) (has (x .args .set)) (x .args .i) (l .result) (l .ensures .is) (sym (c .before .is-in .ensures) ∙ not-true _ (c .if2 .taken)))
+    row-no (ended-link-out (x .args .base .now) (has (x .args .set)) (x .args .i) (l .result) (l .ensures .is) (sym (c .before .holds .ensures) ∙ not-true _ (c .if2 .taken)))
 
 end-object-requires : tie.Need-end-object-requires
 end-object-requires c κs =
@@ -47,14 +47,14 @@ returns-3 c =
     row-no (ended-no-object (x .args .base .now) (has (x .args .set)) (x .args .i) (o .result) (o .ensures .is) (sym
     (c .before .is-object .ensures) ∙ not-true _ (c .if3 .taken)))
 
-is-in-requires-2 : tie.Need-is-in-requires-2
-is-in-requires-2 c κs = search needs
+holds-requires-2 : tie.Need-holds-requires-2
+holds-requires-2 c κs = search needs
 
 returns-4 : tie.Need-returns-4
 returns-4 c =
     let x = c .before .before .before .before .before .before .before .before .before .before .before in
     let o = c .before .before .before .before .end-object in
-    row-no (ended-object-out (x .args .base .now) (has (x .args .set)) (x .args .i) (o .result) (o .ensures .is) (sym (c .before .is-in2 .ensures)
+    row-no (ended-object-out (x .args .base .now) (has (x .args .set)) (x .args .i) (o .result) (o .ensures .is) (sym (c .before .holds2 .ensures)
     ∙ not-true _ (c .if4 .taken)))
 
 value-requires : tie.Need-value-requires
@@ -74,9 +74,9 @@ returns-5 c =
     row-yes (x .pre .1) (ended-alone (x .args .base .now) (has (x .args .set)) (x .args .i) (l .result) (o .result) (l .ensures .is) (o .ensures .is)
     (sym (c .before .before .before .before .before .before .before .before .before .before .is-link .ensures) ∙ not-false _
     (c .before .before .before .before .before .before .before .before .before .if1 .left)) (sym
-    (c .before .before .before .before .before .before .before .before .is-in .ensures) ∙ not-false _ (c .before .before .before .before .before .before .before .if2 .left))
+    (c .before .before .before .before .before .before .before .before .holds .ensures) ∙ not-false _ (c .before .before .before .before .before .before .before .if2 .left))
     (sym (c .before .before .before .before .before .is-object .ensures) ∙ not-false _ (c .before .before .before .before .if3 .left)) (sym
-    (c .before .before .before .is-in2 .ensures) ∙ not-false _ (c .before .before .if4 .left))
+    (c .before .before .before .holds2 .ensures) ∙ not-false _ (c .before .before .if4 .left))
     (sym (c .before .value .ensures .is) ∙ c .if5 .taken))
 
 end-side-requires : tie.Need-end-side-requires
@@ -131,11 +131,11 @@ returns-6 c =
     (ended-both (x .args .base .now) (has (x .args .set)) (x .args .i) (l .result) (o .result) (l .ensures .is) (o .ensures .is) kl (x .pre .0) (x .pre .1)
     (c .before .before .end-sds .result) (c .before .reverse .result) (c .before .before .before .end-side .result)
     (c .before .before .end-sds .ensures .is) (c .before .reverse .ensures .is) (c .before .before .before .end-side .ensures .is)
-    (sym (c .before .before .before .before .before .before .before .before .before .before .before .before .is-in .ensures) ∙ not-false _
+    (sym (c .before .before .before .before .before .before .before .before .before .before .before .before .holds .ensures) ∙ not-false _
     (c .before .before .before .before .before .before .before .before .before .before .before .if2 .left)) (sym
     (c .before .before .before .before .before .before .before .before .before .is-object .ensures) ∙ not-false _
     (c .before .before .before .before .before .before .before .before .if3 .left)) (sym
-    (c .before .before .before .before .before .before .before .is-in2 .ensures) ∙ not-false _ (c .before .before .before .before .before .before .if4 .left)))
+    (c .before .before .before .before .before .before .before .holds2 .ensures) ∙ not-false _ (c .before .before .before .before .before .before .if4 .left)))
     (ended-mirror (x .args .base .now) (has (x .args .set)) (x .args .i) (l .result) (o .result) (l .ensures .is) (o .ensures .is) kl (x .pre .0) (x .pre .1)
     (c .before .before .end-sds .result) (c .before .reverse .result) (c .before .before .before .end-side .result)
     (c .before .before .end-sds .ensures .is) (c .before .reverse .ensures .is) (c .before .before .before .end-side .ensures .is)
@@ -149,12 +149,12 @@ end-fine-spec =
     end-link-requires
     is-link-requires
     returns
-    is-in-requires
+    holds-requires
     returns-2
     end-object-requires
     is-object-requires
     returns-3
-    is-in-requires-2
+    holds-requires-2
     returns-4
     value-requires
     returns-5

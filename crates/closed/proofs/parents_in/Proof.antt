@@ -24,15 +24,15 @@ loop-holds c = (omega arith, below-none _)
 parent-requires : tie.Need-parent-requires Inv-loop μ-loop
 parent-requires c κs = search needs
 
-is-in-requires : tie.Need-is-in-requires Inv-loop μ-loop
-is-in-requires c κs = search needs
+holds-requires : tie.Need-holds-requires Inv-loop μ-loop
+holds-requires c κs = search needs
 
 returns : tie.Need-returns Inv-loop μ-loop
 returns c =
     let at = c .before .before .before .before in
     let set = at .before .before .args .set in
     decides-no (λ f. true≢false (sym (f (at .loop .i) (c .before .before .before .loop-test .taken)) ∙ ap (has set) (sym
-    (c .before .before .parent .ensures .is)) ∙ sym (c .before .is-in .ensures) ∙ not-true _ (c .if1 .taken)))
+    (c .before .before .parent .ensures .is)) ∙ sym (c .before .holds .ensures) ∙ not-true _ (c .if1 .taken)))
 
 add-i : tie.Need-add-i Inv-loop μ-loop
 add-i c = search needs
@@ -46,7 +46,7 @@ loop-again c =
     let set = at .before .before .args .set in (
       omega arith,
       below-more _ _ (at .loop .inv .1)
-          (ap (has set) (sym (c .before .before .parent .ensures .is)) ∙ sym (c .before .is-in .ensures) ∙ not-false _ (c .if1 .left)),
+          (ap (has set) (sym (c .before .before .parent .ensures .is)) ∙ sym (c .before .holds .ensures) ∙ not-false _ (c .if1 .left)),
     )
 
 returns-2 : tie.Need-returns-2 Inv-loop μ-loop
@@ -60,7 +60,7 @@ parents-in-spec =
     μ-loop
     loop-holds
     parent-requires
-    is-in-requires
+    holds-requires
     returns
     add-i
     loop-less

@@ -51,8 +51,8 @@ returns-3 c =
 reverse-requires : tie.Need-reverse-requires
 reverse-requires c κs = search needs
 
-is-in-requires : tie.Need-is-in-requires
-is-in-requires c κs = search needs
+holds-requires : tie.Need-holds-requires
+holds-requires c κs = search needs
 
 returns-4 : tie.Need-returns-4
 returns-4 c =
@@ -60,10 +60,10 @@ returns-4 c =
     let is = c .before .before .before .before .before .before .kind .ensures .is in
     let three = sym is ∙ c .before .before .before .before .if2 .left in
     let same = ap (has (x .args .set)) (c .before .reverse .ensures .is) in record {
-      holds = λ e. closed-paired (x .pre .1) (has (x .args .set)) (x .args .t) (x .pre .0 .1) three (sym same ∙ sym (c .is-in .ensures) ∙ e);
+      holds = λ e. closed-paired (x .pre .1) (has (x .args .set)) (x .args .t) (x .pre .0 .1) three (sym same ∙ sym (c .holds .ensures) ∙ e);
       fails = λ e g. true≢false (sym (closed-reverse (x .pre .1) (has (x .args .set)) (x .args .t) (x .pre .0 .1) three
           (λ q. c .before .before .if3 .left (c .before .before .before .value .ensures .is ∙ q)) g)
-          ∙ sym same ∙ sym (c .is-in .ensures) ∙ e);
+          ∙ sym same ∙ sym (c .holds .ensures) ∙ e);
     }
 
 pub type-closed-spec : {M : Type 1} → statement M
@@ -78,5 +78,5 @@ type-closed-spec =
     value-requires
     returns-3
     reverse-requires
-    is-in-requires
+    holds-requires
     returns-4)

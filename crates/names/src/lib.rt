@@ -1,11 +1,11 @@
 // Names, and the runs of bytes that they stand in. What is well formed, what is the same and what stands first is `rules`'.
 ghost use mathlib.Core.Path.{_≡_};
-ghost use Prim.Native.Nat.{_+_, _≤_};
-ghost use lib.ListN.{length, take, drop};
+ghost use Prim.Native.Nat.{_≤_};
+ghost use lib.ListN.{length};
 ghost use Rattle.rules.specs.01-Lists.{same-bytes};
 ghost use Rattle.rules.specs.03-Names.{letter, letter-or-digit, well-formed, same-name, name-before};
 ghost use Rattle.names.specs.Bytes.{marked};
-ghost use Rattle.names.specs.Field.{name-field, blank-field, Stripped, low-bytes, each, flag, filled, orderly};
+ghost use Rattle.names.specs.Field.{name-field, blank-field, Stripped, may-follow};
 ghost use Rattle.names.specs.Run.{Ended, Started, Standing, Parted};
 use rules::Limits;
 
@@ -123,89 +123,36 @@ pub fn name_length(field: &[u8]) -> usize
     i
 }
 
-// Eight bytes are tested at once, in one number, the first byte lowest; each constant is one byte eight times. The lower seven bits of a
-// byte and 128 less a bound, added, set its top bit where the bound is reached, and carry into no other byte.
-const TOP_BITS: u64 = 0x8080_8080_8080_8080;
-
-const LOWER_BITS: u64 = 0x7f7f_7f7f_7f7f_7f7f;
-
-// The bit that makes a letter small.
-const SMALL: u64 = 0x2020_2020_2020_2020;
-
-const FROM_SMALL_A: u64 = 0x1f1f_1f1f_1f1f_1f1f;
-
-const PAST_SMALL_Z: u64 = 0x0505_0505_0505_0505;
-
-const FROM_ZERO: u64 = 0x5050_5050_5050_5050;
-
-const PAST_NINE: u64 = 0x4646_4646_4646_4646;
-
-const UNDERSCORES: u64 = 0x5f5f_5f5f_5f5f_5f5f;
-
-// A loop of a known length: the compiler makes one load of it.
-fn eight_bytes(field: &[u8], at: usize) -> u64
-    requires { ⌜ at + 8 ≤ length (now field) ⌝ }
-    ensures { λ r. ⌜ low-bytes 8 r ≡ take 8 (drop at (now (field .entry))) ⌝ }
+// Whether byte c may stand behind byte `last` of a field, which is a space before the first one: a name begins with a letter, and
+// behind its first zero are only zeros. Made of comparisons alone, so that the loop below makes sixteen at once.
+fn may_follow(last: u8, c: u8) -> bool
+    ensures { λ r. ⌜ r ≡ may-follow last c ⌝ }
 {
-    let mut x: u64 = 0;
-    let mut i = 0;
-    while i < 8 {
-        x += (field[at + i] as u64) << (8 * i);
-        i += 1;
-    }
-    x
+    let letter = ((b'A' <= c) & (c <= b'Z')) | ((b'a' <= c) & (c <= b'z'));
+    let word = letter | (((b'0' <= c) & (c <= b'9')) | (c == b'_'));
+    let begun = (last != 0) & ((last != b' ') | letter);
+    (word & begun) | ((c == 0) & (last != b' '))
 }
 
-// The top bit of each byte, where its lower bits are a letter.
-fn letters(x: u64) -> u64
-    ensures { λ r. ⌜ r ≡ each (flag letter) 8 x ⌝ }
-{
-    let small = (x & LOWER_BITS) | SMALL;
-    ((small + FROM_SMALL_A) ^ (small + PAST_SMALL_Z)) & TOP_BITS
-}
-
-// The top bit of each byte, where its lower bits are not zero.
-fn filled(x: u64) -> u64
-    ensures { λ r. ⌜ r ≡ each (flag filled) 8 x ⌝ }
-{
-    ((x & LOWER_BITS) + LOWER_BITS) & TOP_BITS
-}
-
-// Whether letters, digits and underscores stand in the eight bytes, and zeros behind them.
-fn is_orderly(x: u64) -> bool
-    ensures { λ r. ⌜ r ≡ orderly (low-bytes 8 x) ⌝ }
-{
-    let lower = x & LOWER_BITS;
-    let digits = (lower + FROM_ZERO) ^ (lower + PAST_NINE);
-    let marks = filled(x);
-    let others = marks & ((lower ^ UNDERSCORES) + LOWER_BITS);
-    let strays = ((letters(x) | digits) ^ others) | x;
-    if strays & TOP_BITS != 0 {
-        return false;
-    }
-    (marks >> 8) | marks == marks
-}
-
-// Whether a field of 16 bytes holds a well-formed name and zeros behind it.
+// Whether a field of 16 bytes holds a well-formed name and zeros behind it. Every byte is read: with no way out of the loop, and a
+// length that is known, the compiler reads them at once.
 pub fn is_name_field(field: &[u8]) -> bool
     requires { ⌜ length (now field) ≡ 16 ⌝ }
     ensures { λ r. ⌜ r ≡ name-field (now (field .entry)) ⌝ }
 {
-    let first = eight_bytes(field, 0);
-    let second = eight_bytes(field, 8);
-    if letters(first) % 256 == 0 {
-        return false;
+    let mut fine = true;
+    let mut last: u8 = b' ';
+    let mut i = 0;
+    while i < Limits::NAME {
+        let c = field[i];
+        fine = fine & may_follow(last, c);
+        last = c;
+        i += 1;
     }
-    if !is_orderly(first) {
-        return false;
-    }
-    if !is_orderly(second) {
-        return false;
-    }
-    (second == 0) | (filled(first) == TOP_BITS)
+    fine
 }
 
-// Every byte is read: with no way out of the loop, the compiler reads many at once.
+// No way out of this loop either.
 pub fn is_blank_field(field: &[u8]) -> bool
     ensures { λ r. ⌜ r ≡ blank-field (now (field .entry)) ⌝ }
 {

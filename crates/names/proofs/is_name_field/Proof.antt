@@ -1,81 +1,55 @@
--- `names::is_name_field` meets its contract: a letter first, both halves in order, and no zero in the first where the second is filled.
--- Assumes nothing.
+-- `names::is_name_field` meets its contract. The loop's invariant: that each byte passed may follow the one before it, and each one left
+-- may, decide. Assumes nothing.
+use Prim.Native.Nat.{_+_, _-_, _≤_}
+use native.Mathlib.Omega.{arith}
 use borrow.Author.Needs.{needs}
-use borrow.Author.Tests.{not-true, not-false}
-use mathlib.Core.Path.{sym, _∙_}
-use Rattle.names.proofs.FieldLaws.{no-letter-first, first-wrong, second-wrong, both-orderly}
+use mathlib.Core.Path.{_≡_, sym, ap, _∙_}
+use mathlib.Core.Bool.{Bool, _&&_}
+use lib.ListN.{getD, drop}
+use Rattle.names.specs.Field.{name-field}
+use Rattle.names.proofs.FieldLaws.{following, following-named, follow-more, follow-end}
 use Rattle.names.proofs.is_name_field.Statement.{statement}
 use Rattle.names.proofs.is_name_field.Tie as tie
 
-eight-bytes-requires : tie.Need-eight-bytes-requires
-eight-bytes-requires c κs = search needs
+abbrev Inv-loop : tie.InvT-loop
+Inv-loop field fine₀ last₀ i₀ fine last i = (i ≤ 16) × (name-field field ≡ (fine && following last (drop i field)))
 
-eight-bytes-requires-2 : tie.Need-eight-bytes-requires-2
-eight-bytes-requires-2 c κs = search needs
+abbrev μ-loop : tie.MeasureT-loop
+μ-loop field fine₀ last₀ i₀ fine last i = 16 - i
 
-letters-requires : tie.Need-letters-requires
-letters-requires c κs = search needs
+loop-holds : tie.Need-loop-holds Inv-loop μ-loop
+loop-holds c = (omega arith, sym (following-named (c .before .args .field .now) (c .before .pre)))
 
-returns : tie.Need-returns
+shared-slice-read-c : tie.Need-shared-slice-read-c Inv-loop μ-loop
+shared-slice-read-c c = omega (arith, c .before .before .before .before .pre, c .before .loop-test .taken)
+
+may-follow-requires : tie.Need-may-follow-requires Inv-loop μ-loop
+may-follow-requires c κs = search needs
+
+add-i : tie.Need-add-i Inv-loop μ-loop
+add-i c = search needs
+
+loop-less : tie.Need-loop-less Inv-loop μ-loop
+loop-less c = search needs
+
+loop-again : tie.Need-loop-again Inv-loop μ-loop
+loop-again c =
+    let at = c .before .before .before in
+    let start = at .before .before in
+    let l = start .args .field .now in
+    let i = at .loop .i in (
+      omega arith,
+      at .loop .inv .1 ∙ follow-more l i (at .loop .last) (at .loop .fine) (omega (arith, start .pre, c .before .before .loop-test .taken))
+          ∙ ap (λ (t : Bool). (at .loop .fine && t) && following (getD l i 0) (drop (i + 1) l)) (sym (c .may-follow .ensures)),
+    )
+
+returns : tie.Need-returns Inv-loop μ-loop
 returns c =
-    let at = c .before .before in
-    let start = at .before .before .before in
-    let x = at .before .eight-bytes in
-    let z = at .eight-bytes2 in
-    let letters = c .before .letters in
-    sym (no-letter-first (start .args .field .now) (x .result) (z .result) (start .pre) (x .ensures) (z .ensures) (letters .result) (letters .ensures) (c .if1 .taken))
-
-is-orderly-requires : tie.Need-is-orderly-requires
-is-orderly-requires c κs = search needs
-
-returns-2 : tie.Need-returns-2
-returns-2 c =
-    let at = c .before .before .before .before in
-    let start = at .before .before .before in
-    let x = at .before .eight-bytes in
-    let z = at .eight-bytes2 in
-    let wrong = sym (c .before .is-orderly .ensures) ∙ not-true _ (c .if2 .taken) in
-    sym (first-wrong (start .args .field .now) (x .result) (z .result) (start .pre) (x .ensures) (z .ensures) wrong)
-
-is-orderly-requires-2 : tie.Need-is-orderly-requires-2
-is-orderly-requires-2 c κs = search needs
-
-returns-3 : tie.Need-returns-3
-returns-3 c =
-    let at = c .before .before .before .before .before .before in
-    let start = at .before .before .before in
-    let x = at .before .eight-bytes in
-    let z = at .eight-bytes2 in
-    let wrong = sym (c .before .is-orderly2 .ensures) ∙ not-true _ (c .if3 .taken) in
-    sym (second-wrong (start .args .field .now) (x .result) (z .result) (start .pre) (x .ensures) (z .ensures) wrong)
-
-filled-requires : tie.Need-filled-requires
-filled-requires c κs = search needs
-
-returns-4 : tie.Need-returns-4
-returns-4 c =
-    let tests = c .before .before .before .before in
-    let at = tests .before .before .before in
-    let start = at .before .before .before in
-    let x = at .before .eight-bytes in
-    let z = at .eight-bytes2 in
-    let letters = tests .before .before .letters in
-    let first = sym (tests .is-orderly .ensures) ∙ not-false _ (c .before .before .before .if2 .left) in
-    let second = sym (c .before .before .is-orderly2 .ensures) ∙ not-false _ (c .before .if3 .left) in
-    sym (both-orderly (start .args .field .now) (x .result) (z .result) (start .pre) (x .ensures) (z .ensures)
-    (letters .result) (letters .ensures) (c .filled .result) (tests .before .if1 .left) first second (z .ok) (c .filled .ensures))
+    let at = c .before in
+    let start = at .before .before in
+    sym (at .loop .inv .1 ∙ follow-end (start .args .field .now) (at .loop .i) (at .loop .last) (at .loop .fine) (omega (arith, start .pre, c .loop-test .left)))
 
 pub is-name-field-spec : {M : Type 1} → statement M
 is-name-field-spec =
     tie.close
-    (tie.spec
-    eight-bytes-requires
-    eight-bytes-requires-2
-    letters-requires
-    returns
-    is-orderly-requires
-    returns-2
-    is-orderly-requires-2
-    returns-3
-    filled-requires
-    returns-4)
+    (tie.spec Inv-loop μ-loop loop-holds shared-slice-read-c may-follow-requires add-i loop-less loop-again returns)

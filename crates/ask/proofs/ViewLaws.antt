@@ -17,13 +17,13 @@ use Rattle.rules.proofs.Bools.{or-neither, and-both}
 use Rattle.rules.proofs.01-Lists.{any-at, place-in}
 use Rattle.rules.proofs.05-Descent.{used-below}
 use Rattle.rules.proofs.08-Working.{visible-used}
-use Rattle.rules.proofs.09-Refusals.{Left}
+use Rattle.rules.proofs.09-Refusals.{Left, told, told-stops, told-passes}
 use Rattle.base.specs.Back.{schema-of}
 use Rattle.base.proofs.Back.{sound-good}
 use Rattle.base.proofs.Kept.{sound-long}
 use Rattle.base.proofs.SdsShown as SdsShown
 use Rattle.ask.specs.declared.view.View.{View}
-use Rattle.ask.specs.View.{of-kind, type-refusals, told, Through, Viewed}
+use Rattle.ask.specs.View.{of-kind, type-refusals, Through, Viewed}
 
 -- ---- the tests, one after the other
 
@@ -120,30 +120,6 @@ kind-object true k e f = absurd (true≢false e)
 kind-object false k e f = f
 
 -- ---- the verdict of a call whose refusals begin with these
-
-module _ {Made : Type 0} {o : Outcome Made} (effect : Outcome Made) where
-  told-stops : (cs rest : Refusals) → o ≡ verdict (cs ++ rest) effect → (told cs ≡ 0 → ⊥) → o ≡ refused (told cs)
-  unfolding told verdict
-  told-stops [] rest e n = absurd (n refl)
-  told-stops (c ∷ cs) rest e n = go (c .1) e n (told-stops cs rest)
-    where
-      go : (x : Bool) → o ≡ cond x (refused (c .0)) (verdict (cs ++ rest) effect) → (cond x (c .0) (told cs) ≡ 0 → ⊥)
-          → (o ≡ verdict (cs ++ rest) effect → (told cs ≡ 0 → ⊥) → o ≡ refused (told cs)) → o ≡ refused (cond x (c .0) (told cs))
-      go true e n f = e
-      go false e n f = f e n
-
-  told-passes : (cs rest : Refusals) → all (λ c. ltb 0 (c .0)) cs ≡ true → o ≡ verdict (cs ++ rest) effect → told cs ≡ 0 → o ≡ verdict rest effect
-  unfolding told verdict all
-  told-passes [] rest h e z = e
-  told-passes (c ∷ cs) rest h e z = go (c .1) e z (told-passes cs rest (and-both (ltb 0 (c .0)) (all (λ c. ltb 0 (c .0)) cs) h .1))
-    where
-      positive : ltb 0 (c .0) ≡ true
-      positive = and-both (ltb 0 (c .0)) (all (λ c. ltb 0 (c .0)) cs) h .0
-
-      go : (x : Bool) → o ≡ cond x (refused (c .0)) (verdict (cs ++ rest) effect) → cond x (c .0) (told cs) ≡ 0
-          → (o ≡ verdict (cs ++ rest) effect → told cs ≡ 0 → o ≡ verdict rest effect) → o ≡ verdict rest effect
-      go true e z f = absurd (true≢false (sym positive ∙ ap (ltb 0) z))
-      go false e z f = f e z
 
 module _ {Made : Type 0} {o effect : Outcome Made} {b w : List ℕ} {t : ℕ} {link known : Bool} {v : View} (viewed : Viewed b w t link known v) where
   -- rest is what the call tests besides

@@ -2,12 +2,13 @@
 use Prim.Native.Nat.{ℕ, _<_}
 use mathlib.Core.Path.{_≡_}
 use mathlib.Core.List.{List, [], _∷_}
-use mathlib.Core.Bool.{Bool, true, false, not, cond}
+use mathlib.Core.Bool.{Bool, true, false, not}
 use Rattle.rules.specs.01-Lists.{any, among, repeated}
 use Rattle.rules.specs.04-Schema.{Schema, Kind, kind-of, is-object, is-link}
 use Rattle.rules.specs.07-Picture.{Sound}
 use Rattle.rules.specs.08-Working.{listed-sdss, visible}
 use Rattle.rules.specs.09-Refusals.{Refusals, unknown-sds, not-visible}
+use Rattle.rules.proofs.09-Refusals.{told}
 use Rattle.base.specs.Back.{schema-of}
 use Rattle.marks.specs.Set.{has}
 use Rattle.ask.specs.declared.view.View.{View}
@@ -26,11 +27,6 @@ type-refusals s w t link known =
     ∷ (7, not (of-kind link (kind-of s t)))
     ∷ (8, repeated w)
     ∷ []
-
--- the number of the first condition that holds, 0 where none does
-unfoldable pub told : Refusals → ℕ
-told [] = 0
-told (c ∷ cs) = cond (c .1) (c .0) (told cs)
 
 -- what a call looks through where none holds
 pub record Through (b w : List ℕ) (t : ℕ) (link : Bool) (v : View) : Type 0 where

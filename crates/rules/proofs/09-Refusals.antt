@@ -1,11 +1,14 @@
 -- A verdict, condition by condition: one that fails is passed over, one that holds refuses, and what is left of the list decides.
 -- Assumes nothing.
 use Prim.Native.Nat.{ℕ}
-use mathlib.Core.Path.{_≡_, refl, _∙_}
-use mathlib.Core.List.{[], _∷_}
-use mathlib.Core.Bool.{Bool, true, false, cond}
+use mathlib.Core.Path.{_≡_, refl, sym, ap, _∙_}
+use mathlib.Core.List.{[], _∷_, _++_}
+use mathlib.Core.Bool.{Bool, true, false, cond, true≢false}
+use lib.Dec.{ltb}
+use Rattle.rules.specs.01-Lists.{all}
 use Rattle.rules.specs.09-Refusals.{Outcome, Refusals, verdict}
 use Rattle.rules.specs.09-Refusals.Outcome.{refused}
+use Rattle.rules.proofs.Bools.{and-both}
 
 -- every condition fails
 abbrev pub Passed : Refusals → Type 0
@@ -40,3 +43,34 @@ module _ {Made : Type 0} where
       go : (t : Bool) → c .1 ≡ t → ((Passed cs → P effect) → P (verdict cs effect)) → P (cond t (refused (c .0)) (verdict cs effect))
       go true q k = r (c .0)
       go false q k = k (λ w. f (q, w))
+
+-- ---- several conditions told at once
+
+-- the number of the first that holds, 0 where none does
+unfoldable pub told : Refusals → ℕ
+told [] = 0
+told (c ∷ cs) = cond (c .1) (c .0) (told cs)
+
+module _ {Made : Type 0} {o : Outcome Made} (effect : Outcome Made) where
+  pub told-stops : (cs rest : Refusals) → o ≡ verdict (cs ++ rest) effect → (told cs ≡ 0 → ⊥) → o ≡ refused (told cs)
+  unfolding told verdict
+  told-stops [] rest e n = absurd (n refl)
+  told-stops (c ∷ cs) rest e n = go (c .1) e n (told-stops cs rest)
+    where
+      go : (x : Bool) → o ≡ cond x (refused (c .0)) (verdict (cs ++ rest) effect) → (cond x (c .0) (told cs) ≡ 0 → ⊥)
+          → (o ≡ verdict (cs ++ rest) effect → (told cs ≡ 0 → ⊥) → o ≡ refused (told cs)) → o ≡ refused (cond x (c .0) (told cs))
+      go true e n f = e
+      go false e n f = f e n
+
+  pub told-passes : (cs rest : Refusals) → all (λ c. ltb 0 (c .0)) cs ≡ true → o ≡ verdict (cs ++ rest) effect → told cs ≡ 0 → o ≡ verdict rest effect
+  unfolding told verdict all
+  told-passes [] rest h e z = e
+  told-passes (c ∷ cs) rest h e z = go (c .1) e z (told-passes cs rest (and-both (ltb 0 (c .0)) (all (λ c. ltb 0 (c .0)) cs) h .1))
+    where
+      positive : ltb 0 (c .0) ≡ true
+      positive = and-both (ltb 0 (c .0)) (all (λ c. ltb 0 (c .0)) cs) h .0
+
+      go : (x : Bool) → o ≡ cond x (refused (c .0)) (verdict (cs ++ rest) effect) → cond x (c .0) (told cs) ≡ 0
+          → (o ≡ verdict (cs ++ rest) effect → told cs ≡ 0 → o ≡ verdict rest effect) → o ≡ verdict rest effect
+      go true e z f = absurd (true≢false (sym positive ∙ ap (ltb 0) z))
+      go false e z f = f e z

@@ -9,3 +9,4 @@ pub mod KindBytes
 pub mod SdsShown
 pub mod SdsWritten
 pub mod Kept
+pub mod OrderLaws

@@ -3,3 +3,4 @@ pub mod Back
 pub mod Decides
 pub mod Table
 pub mod Found
+pub mod Order

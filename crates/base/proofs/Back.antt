@@ -1,4 +1,5 @@
--- A good schema's picture shows that schema, and canonical bytes are the picture of the schema that they show. Assumes nothing.
+-- The picture of a schema that can be stored shows that schema, as does that of a good one, and canonical bytes are the picture of
+-- the schema that they show. Assumes nothing.
 use Prim.Native.Nat.{ℕ, _+_, _*_, _-_, _≤_, _<_}
 use native.Mathlib.Nat.{zero-add}
 use native.Mathlib.Omega.{arith}
@@ -22,6 +23,7 @@ use Rattle.rules.proofs.07-Picture.{strip, read-kind, read-presence, read-appli
 use Rattle.rules.proofs.07-Picture.{wide-application, wide-end, length-table, picture-length, sds-back, fitting, kind-back, presence-back}
 use Rattle.rules.proofs.07-Picture.{application-back, end-back, zeros-long}
 use Rattle.base.specs.Rows.{sds-at, part}
+use Rattle.base.specs.Stored.{Storable}
 use Rattle.base.specs.Back.{rows, filled, presence-count, application-count, end-count, schema-of, Canonical}
 use Rattle.base.proofs.Rows.{part-part, rows-table, table-rows, table-part, table-rest, rows-append, filled-most, filled-table}
 
@@ -75,108 +77,108 @@ unfolding pad well-formed
 name-first [] r f e = false≢true f
 name-first (x ∷ n) r f e = formed-no-zero (x ∷ n) f (List·Memᴰ·head (sym e))
 
--- ---- a good schema's picture shows it
+-- ---- the picture of a schema that can be stored shows it
 
-module _ {s : Schema} (good : Good s) where
+-- the rows of a table, read back
+whole : {A : Type 0} (w : ℕ) (read : List ℕ → A) (row : A → List ℕ) (wide : (a : A) → length (row a) ≡ w) (n m : ℕ) (rs : List A) (l r : List ℕ)
+    → l ≡ table w row n rs ++ r → m ≡ length rs → length rs ≤ n → length rs * w ≤ n * w → ((a : A) → a ∈ rs → read (row a) ≡ a) → rows w read m l ≡ rs
+whole w read row wide n m rs l r e c h k f =
+    ap (rows w read m) e ∙ ap (λ (j : ℕ). rows w read j (table w row n rs ++ r)) c
+    ∙ rows-append w read (length rs) (table w row n rs) r (omega (arith, length-table w row wide n rs))
+    ∙ rows-table w read row wide n rs h f
+
+module _ {s : Schema} (st : Storable s) where
   presences-counted : presence-count (picture s) ≡ length (s .presences)
   unfolding presence-row
   presences-counted =
       ap (filled 18 1 512) (from-presences s)
-      ∙ filled-table 18 1 presence-row wide-presence (omega arith) 512 (s .presences) (application-table s ++ end-table s) (good .presence-room)
-      (λ p i e. name-first (p .name) (p .type ∷ []) (good .presence-named p i) e)
+      ∙ filled-table 18 1 presence-row wide-presence (omega arith) 512 (s .presences) (application-table s ++ end-table s) (st .presences .room)
+      (λ p i e. name-first (p .name) (p .type ∷ []) (st .presences .used p i) e)
 
   applications-counted : application-count (picture s) ≡ length (s .applications)
   unfolding application-row
   applications-counted =
       ap (filled 3 0 256) (from-applications s)
-      ∙ filled-table 3 0 application-row wide-application (omega arith) 256 (s .applications) (end-table s) (good .application-room)
-      (λ x i e. good .system-no-application x i e)
+      ∙ filled-table 3 0 application-row wide-application (omega arith) 256 (s .applications) (end-table s) (st .applications .room)
+      (λ x i e. st .applications .used x i e)
 
   ends-counted : end-count (picture s) ≡ length (s .ends)
   unfolding end-row
   ends-counted =
       ap (filled 4 0 512) (from-ends s)
-      ∙ filled-table 4 0 end-row wide-end (omega arith) 512 (s .ends) [] (good .end-room)
-      (λ x i e. good .system-no-end x i e)
+      ∙ filled-table 4 0 end-row wide-end (omega arith) 512 (s .ends) [] (st .ends .room)
+      (λ x i e. st .ends .used x i e)
 
-  -- the rows of a table, read back
-  whole : {A : Type 0} (w : ℕ) (read : List ℕ → A) (row : A → List ℕ) (wide : (a : A) → length (row a) ≡ w) (n m : ℕ) (rs : List A) (l r : List ℕ)
-      → l ≡ table w row n rs ++ r → m ≡ length rs → length rs ≤ n → length rs * w ≤ n * w → ((a : A) → a ∈ rs → read (row a) ≡ a) → rows w read m l ≡ rs
-  whole w read row wide n m rs l r e c h k f =
-      ap (rows w read m) e ∙ ap (λ (j : ℕ). rows w read j (table w row n rs ++ r)) c
-      ∙ rows-append w read (length rs) (table w row n rs) r (omega (arith, length-table w row wide n rs))
-      ∙ rows-table w read row wide n rs h f
-
-  pub way-back : schema-of (picture s) ≡ s
+  pub storable-back : schema-of (picture s) ≡ s
   unfolding schema-of picture
-  way-back =
+  storable-back =
       let sdss : rows 16 strip 16 (picture s) ≡ s .sdss
-      = whole 16 strip sds-row wide-sds 16 16 (s .sdss) (picture s) (type-table s ++ (presence-table s ++ (application-table s ++ end-table s))) refl (sym (good .sds-room))
-      (omega (arith, good .sds-room)) (omega (arith, good .sds-room)) (sds-back good) in
+      = whole 16 strip sds-row wide-sds 16 16 (s .sdss) (picture s) (type-table s ++ (presence-table s ++ (application-table s ++ end-table s))) refl (sym (st .sds-room))
+      (omega (arith, st .sds-room)) (omega (arith, st .sds-room)) (st .sds-shown) in
       let types : rows 8 read-kind 128 (drop 256 (picture s)) ≡ s .types
       = whole 8 read-kind type-row wide-type 128 128 (s .types) (drop 256 (picture s)) (presence-table s ++ (application-table s ++ end-table s))
-      (from-types s) (sym (good .type-room))
-      (omega (arith, good .type-room)) (omega (arith, good .type-room)) (λ k i. kind-back (fitting good k i)) in
+      (from-types s) (sym (st .type-room))
+      (omega (arith, st .type-room)) (omega (arith, st .type-room)) (st .kind-shown) in
       let presences : rows 18 read-presence (presence-count (picture s)) (drop 1280 (picture s)) ≡ s .presences
       = whole 18 read-presence presence-row wide-presence 512 (presence-count (picture s)) (s .presences) (drop 1280 (picture s))
       (application-table s ++ end-table s) (from-presences s) presences-counted
-      (good .presence-room) (omega (arith, good .presence-room)) (λ p i. presence-back p (good .presence-named p i)) in
+      (st .presences .room) (omega (arith, st .presences .room)) (λ p i. presence-back p (st .presences .used p i)) in
       let applications : rows 3 read-application (application-count (picture s)) (drop 10496 (picture s)) ≡ s .applications
       = whole 3 read-application application-row wide-application 256 (application-count (picture s)) (s .applications) (drop 10496 (picture s))
       (end-table s) (from-applications s) applications-counted
-      (good .application-room) (omega (arith, good .application-room)) (λ x i. application-back x) in
+      (st .applications .room) (omega (arith, st .applications .room)) (λ x i. application-back x) in
       let ends : rows 4 read-end (end-count (picture s)) (drop 11264 (picture s)) ≡ s .ends
       = whole 4 read-end end-row wide-end 512 (end-count (picture s)) (s .ends) (drop 11264 (picture s)) [] (from-ends s) ends-counted
-      (good .end-room) (omega (arith, good .end-room)) (λ x i. end-back x) in
+      (st .ends .room) (omega (arith, st .ends .room)) (λ x i. end-back x) in
       λ i. record { sdss = sdss i; types = types i; presences = presences i; applications = applications i; ends = ends i }
 
--- ---- a sound base is canonical
+-- ---- such a picture is canonical
 
-module _ {s : Schema} (good : Good s) where
-  -- a row of a table that starts at `at`
-  row-there : {A : Type 0} (w : ℕ) (row : A → List ℕ) (wide : (a : A) → length (row a) ≡ w) (n : ℕ) (rs : List A) (b r : List ℕ) (at : ℕ) (d : A)
-      → drop at b ≡ table w row n rs ++ r → length rs ≤ n → (k : ℕ) → k < length rs → part b (at + k * w) w ≡ row (getD rs k d)
-  row-there w row wide n rs b r at d e h k q =
-      ap (take w) (sym (drop-drop (k * w) at b) ∙ ap (drop (k * w)) e) ∙ table-part w (λ x. d) row wide n rs r k d q h
+-- a row of a table that starts at `at`
+pub row-there : {A : Type 0} (w : ℕ) (row : A → List ℕ) (wide : (a : A) → length (row a) ≡ w) (n : ℕ) (rs : List A) (b r : List ℕ) (at : ℕ) (d : A)
+    → drop at b ≡ table w row n rs ++ r → length rs ≤ n → (k : ℕ) → k < length rs → part b (at + k * w) w ≡ row (getD rs k d)
+row-there w row wide n rs b r at d e h k q =
+    ap (take w) (sym (drop-drop (k * w) at b) ∙ ap (drop (k * w)) e) ∙ table-part w (λ x. d) row wide n rs r k d q h
 
-  rest-there : {A : Type 0} (w : ℕ) (row : A → List ℕ) (wide : (a : A) → length (row a) ≡ w) (n m : ℕ) (rs : List A) (b r : List ℕ) (at : ℕ) (d : A)
-      → drop at b ≡ table w row n rs ++ r → m ≡ length rs → length rs ≤ n → length rs * w + (n - length rs) * w ≡ n * w
-      → part b (at + m * w) ((n - m) * w) ≡ replicate ((n - m) * w) 0
-  rest-there w row wide n m rs b r at d e c h k =
-      rw c
-      (ap (take ((n - length rs) * w))
-      (sym (drop-drop (length rs * w) at b) ∙ ap (drop (length rs * w)) e
-      ∙ drop-append-le (length rs * w) (table w row n rs) r (omega (arith, length-table w row wide n rs)) ∙ ap (λ (x : List ℕ). x ++ r) (table-rest w (λ x. d) row wide n rs h))
-      ∙ take-at (replicate ((n - length rs) * w) 0) r ((n - length rs) * w) (zeros-long ((n - length rs) * w)))
+rest-there : {A : Type 0} (w : ℕ) (row : A → List ℕ) (wide : (a : A) → length (row a) ≡ w) (n m : ℕ) (rs : List A) (b r : List ℕ) (at : ℕ) (d : A)
+    → drop at b ≡ table w row n rs ++ r → m ≡ length rs → length rs ≤ n → length rs * w + (n - length rs) * w ≡ n * w
+    → part b (at + m * w) ((n - m) * w) ≡ replicate ((n - m) * w) 0
+rest-there w row wide n m rs b r at d e c h k =
+    rw c
+    (ap (take ((n - length rs) * w))
+    (sym (drop-drop (length rs * w) at b) ∙ ap (drop (length rs * w)) e
+    ∙ drop-append-le (length rs * w) (table w row n rs) r (omega (arith, length-table w row wide n rs)) ∙ ap (λ (x : List ℕ). x ++ r) (table-rest w (λ x. d) row wide n rs h))
+    ∙ take-at (replicate ((n - length rs) * w) 0) r ((n - length rs) * w) (zeros-long ((n - length rs) * w)))
 
-  pub good-canonical : Canonical (picture s)
+module _ {s : Schema} (st : Storable s) where
+  pub storable-canonical : Canonical (picture s)
   unfolding picture
-  good-canonical = record {
+  storable-canonical = record {
     long = picture-length s;
     sds-fields = λ d h.
         let e = row-there 16 sds-row wide-sds 16 (s .sdss) (picture s) (type-table s ++ (presence-table s ++ (application-table s ++ end-table s))) 0 [] refl
-        (omega (arith, good .sds-room)) d (omega (arith, good .sds-room)) in
+        (omega (arith, st .sds-room)) d (omega (arith, st .sds-room)) in
         let e′ : part (picture s) (sds-at d) 16 ≡ sds-row (sds-name s d) = subst (λ (n : ℕ). part (picture s) n 16 ≡ sds-row (sds-name s d)) (zero-add (d * 16)) e in
-        rw e′ (ap sds-row (sds-back good (sds-name s d) (place-in [] (s .sdss) d (omega (arith, good .sds-room)))));
+        rw e′ (ap sds-row (st .sds-shown (sds-name s d) (place-in [] (s .sdss) d (omega (arith, st .sds-room)))));
     type-rows = λ t h.
         let e = row-there 8 type-row wide-type 128 (s .types) (picture s) (presence-table s ++ (application-table s ++ end-table s)) 256 unused (from-types s)
-        (omega (arith, good .type-room)) t (omega (arith, good .type-room)) in
-        rw e (ap type-row (kind-back (fitting good (kind-of s t) (place-in unused (s .types) t (omega (arith, good .type-room))))));
+        (omega (arith, st .type-room)) t (omega (arith, st .type-room)) in
+        rw e (ap type-row (st .kind-shown (kind-of s t) (place-in unused (s .types) t (omega (arith, st .type-room)))));
     presence-rows = λ i h.
-        let l : i < length (s .presences) = omega (arith, presences-counted good) in
+        let l : i < length (s .presences) = omega (arith, presences-counted st) in
         let e = row-there 18 presence-row wide-presence 512 (s .presences) (picture s) (application-table s ++ end-table s) 1280 system-presence (from-presences s)
-        (good .presence-room) i l in
-        rw e (ap presence-row (presence-back _ (good .presence-named _ (place-in system-presence (s .presences) i l))));
+        (st .presences .room) i l in
+        rw e (ap presence-row (presence-back _ (st .presences .used _ (place-in system-presence (s .presences) i l))));
     end-rows = λ i h.
-        let l : i < length (s .ends) = omega (arith, ends-counted good) in
-        let e = row-there 4 end-row wide-end 512 (s .ends) (picture s) [] 11264 no-end (from-ends s) (good .end-room) i l in
+        let l : i < length (s .ends) = omega (arith, ends-counted st) in
+        let e = row-there 4 end-row wide-end 512 (s .ends) (picture s) [] 11264 no-end (from-ends s) (st .ends .room) i l in
         rw e (ap end-row (end-back (getD (s .ends) i no-end)));
     presence-rest = rest-there 18 presence-row wide-presence 512 (presence-count (picture s)) (s .presences) (picture s) (application-table s ++ end-table s) 1280 system-presence
-        (from-presences s) (presences-counted good) (good .presence-room) (let r = good .presence-room in omega arith);
+        (from-presences s) (presences-counted st) (st .presences .room) (let r = st .presences .room in omega arith);
     application-rest = rest-there 3 application-row wide-application 256 (application-count (picture s)) (s .applications) (picture s) (end-table s) 10496 no-application
-        (from-applications s) (applications-counted good) (good .application-room) (let r = good .application-room in omega arith);
+        (from-applications s) (applications-counted st) (st .applications .room) (let r = st .applications .room in omega arith);
     end-rest = rest-there 4 end-row wide-end 512 (end-count (picture s)) (s .ends) (picture s) [] 11264 no-end
-        (from-ends s) (ends-counted good) (good .end-room) (let r = good .end-room in omega arith);
+        (from-ends s) (ends-counted st) (st .ends .room) (let r = st .ends .room in omega arith);
   }
 
 -- ---- canonical bytes are the picture of the schema that they show
@@ -246,10 +248,26 @@ canonical-picture b c =
     = part-table 4 read-end end-row wide-end 512 (end-count b) b 11264 ne (omega arith) (omega arith) (omega arith) (λ k h. omega arith) (c .end-rows) (c .end-rest) in
     rw (sdss, types, presences, applications, ends) (parts b long)
 
+-- ---- a good schema can be stored
+
+pub good-storable : {s : Schema} → Good s → Storable s
+good-storable good = record {
+  sds-room = good .sds-room;
+  type-room = good .type-room;
+  sds-shown = sds-back good;
+  kind-shown = λ k i. kind-back (fitting good k i);
+  presences = record { room = good .presence-room; used = good .presence-named; rise = good .presences-rising };
+  applications = record { room = good .application-room; used = good .system-no-application; rise = good .applications-rising };
+  ends = record { room = good .end-room; used = good .system-no-end; rise = good .ends-rising };
+}
+
+pub way-back : {s : Schema} → Good s → schema-of (picture s) ≡ s
+way-back good = storable-back (good-storable good)
+
 -- ---- so soundness is two questions: are the bytes canonical, and is the schema that they show good
 
 pub sound-canonical : {b : List ℕ} → Sound b → Canonical b
-sound-canonical x = rw (x .shown) (good-canonical (x .good))
+sound-canonical x = rw (x .shown) (storable-canonical (good-storable (x .good)))
 
 pub sound-good : {b : List ℕ} → Sound b → Good (schema-of b)
 sound-good {b} x = subst (λ (s : Schema). Good s) (sym (ap schema-of (x .shown) ∙ way-back (x .good))) (x .good)

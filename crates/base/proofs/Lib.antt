@@ -10,3 +10,4 @@ pub mod SdsShown
 pub mod SdsWritten
 pub mod Kept
 pub mod OrderLaws
+pub mod StoredLaws

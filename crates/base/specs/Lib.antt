@@ -4,3 +4,4 @@ pub mod Decides
 pub mod Table
 pub mod Found
 pub mod Order
+pub mod Stored

@@ -11,3 +11,4 @@ pub mod SdsWritten
 pub mod Kept
 pub mod OrderLaws
 pub mod StoredLaws
+pub mod OrderedLaws

@@ -1,0 +1,224 @@
+-- Rows kept in their order: the order of their bytes, a row put in, a row taken out. One law for the three tables. Assumes nothing.
+use Prim.Native.Nat.{ℕ, zero, suc, _+_, _*_, _≤_, _<_}
+use native.Mathlib.Nat.{mul-le-mul-right}
+use native.Mathlib.Omega.{arith}
+use mathlib.Core.Path.{_≡_, refl, sym, ap, _∙_, subst}
+use mathlib.Core.Logic.{_⊎_, inl, inr, ⊎-elim}
+use mathlib.Core.List.{List, [], _∷_, _++_, List·Memᴰ·not-nil, List·Memᴰ·cases-cons}
+use mathlib.Core.List.List·Memᴰ.{List·Memᴰ·head, List·Memᴰ·tail}
+use mathlib.Core.Bool.{Bool, true, false, not, cond, _&&_, _||_, true≢false, false≢true, and-false, or-false}
+use lib.Dec.{ltb, eqb}
+use lib.ListN.{length, getD, take, drop, length-append, length-take, length-drop}
+use lib.Seq.{drop-at}
+use borrow.Author.Tests.{ltb-true, ltb-false, lt-ltb, le-ltb, eq-eqb, ne-eqb}
+use Rattle.rules.specs.01-Lists.{_∈_, bytes-before, rising, put}
+use Rattle.rules.specs.04-Schema.{Presence, Application, End, presence-before, application-before, end-before, side-code}
+use Rattle.rules.specs.07-Picture.{pad, presence-row, application-row, end-row, table}
+use Rattle.rules.proofs.Bools.{and-both, and-of}
+use Rattle.rules.proofs.01-Lists.{place-in, before-transitive, before-connected, rising-at}
+use Rattle.rules.proofs.03-Names.{pad-before}
+use Rattle.rules.proofs.07-Picture.{length-pad, length-table, wide-presence, wide-application, wide-end}
+use Rattle.base.specs.Rows.{part}
+use Rattle.base.specs.Table.{Rises, Place, Put-in, opened, closed}
+use Rattle.base.specs.Stored.{Named, Applied, Ended, Ordered, less-row}
+use Rattle.base.proofs.Scan.{rising-far}
+use Rattle.base.proofs.Back.{row-there}
+use Rattle.base.proofs.TableLaws.{put-at, table-opened, table-closed}
+
+-- ---- the bytes of two rows stand as the rows do
+
+last-byte : (x y : ℕ) → ltb x y || (eqb x y && false) ≡ ltb x y
+last-byte x y = rw (and-false (eqb x y)) (or-false (ltb x y))
+
+-- a byte behind each of two fields
+append-before : (a b : List ℕ) (x y : ℕ) → length a ≡ length b
+    → bytes-before (a ++ (x ∷ [])) (b ++ (y ∷ [])) ≡ bytes-before a b || (not (bytes-before b a) && ltb x y)
+unfolding bytes-before
+append-before [] [] x y e = last-byte x y
+append-before [] (d ∷ b) x y e = absurd (omega arith)
+append-before (c ∷ a) [] x y e = absurd (omega arith)
+append-before (c ∷ a) (d ∷ b) x y e = go (ltb c d) refl (ltb d c) refl (append-before a b x y (omega arith))
+  where
+    go : (s : Bool) → ltb c d ≡ s → (t : Bool) → ltb d c ≡ t
+        → bytes-before (a ++ (x ∷ [])) (b ++ (y ∷ [])) ≡ bytes-before a b || (not (bytes-before b a) && ltb x y)
+        → (ltb c d || (eqb c d && bytes-before (a ++ (x ∷ [])) (b ++ (y ∷ []))))
+        ≡ (ltb c d || (eqb c d && bytes-before a b)) || (not (ltb d c || (eqb d c && bytes-before b a)) && ltb x y)
+    go true p t q ih = rw p
+    go false p true q ih = let u = ltb-true d c q in rw (p, q, ne-eqb c d (λ s. omega arith))
+    go false p false q ih =
+        let same : c ≡ d = omega (arith, ltb-false c d p, ltb-false d c q) in
+        rw (p, q, eq-eqb c d same, eq-eqb d c (sym same)) ih
+
+pub presence-rows : (p q : Presence) → Named p → Named q → bytes-before (presence-row p) (presence-row q) ≡ presence-before p q
+unfolding bytes-before presence-row presence-before
+presence-rows p q f g =
+    ap (λ (t : Bool). ltb (p .sds) (q .sds) || (eqb (p .sds) (q .sds) && t))
+    (append-before (pad 16 (p .name)) (pad 16 (q .name)) (p .type) (q .type) (length-pad 16 (p .name) ∙ sym (length-pad 16 (q .name)))
+    ∙ rw (pad-before (p .name) (q .name) f g, pad-before (q .name) (p .name) g f))
+
+pub application-rows : (x y : Application) → bytes-before (application-row x) (application-row y) ≡ application-before x y
+unfolding bytes-before application-row application-before
+application-rows x y = rw (last-byte (x .attribute) (y .attribute))
+
+pub end-rows : (x y : End) → bytes-before (end-row x) (end-row y) ≡ end-before x y
+unfolding bytes-before end-row end-before
+end-rows x y = rw (last-byte (x .object) (y .object))
+
+-- all in which the three tables differ
+pub record Rows-of {A : Type 0} (w : ℕ) (row : A → List ℕ) (Used : A → Type 0) (before : A → A → Bool) : Type 0 where
+  pub wide : (a : A) → length (row a) ≡ w
+  pub order : (x y : A) → Used x → Used y → bytes-before (row x) (row y) ≡ before x y
+
+pub of-presences : Rows-of 18 presence-row Named presence-before
+of-presences = record { wide = wide-presence; order = presence-rows }
+
+pub of-applications : Rows-of 3 application-row Applied application-before
+of-applications = record { wide = wide-application; order = λ x y f g. application-rows x y }
+
+pub of-ends : Rows-of 4 end-row Ended end-before
+of-ends = record { wide = wide-end; order = λ x y f g. end-rows x y }
+
+-- ---- a list with one element more or less
+
+module _ {A : Type 0} (before : A → A → Bool) where
+  put-long : (a : A) (rs : List A) → length (put before a rs) ≡ suc (length rs)
+  unfolding put
+  put-long a [] = refl
+  put-long a (x ∷ rs) = go (before x a) (put-long a rs)
+    where
+      go : (t : Bool) → length (put before a rs) ≡ suc (length rs) → length (cond t (x ∷ put before a rs) (a ∷ x ∷ rs)) ≡ suc (suc (length rs))
+      go true ih = ap suc ih
+      go false ih = refl
+
+  put-in : (a : A) (rs : List A) {y : A} → y ∈ put before a rs → (y ≡ a) ⊎ (y ∈ rs)
+  unfolding put
+  put-in a [] i = List·Memᴰ·cases-cons i
+  put-in a (x ∷ rs) {y} i = go (before x a) i (λ h. put-in a rs h)
+    where
+      go : (t : Bool) → y ∈ cond t (x ∷ put before a rs) (a ∷ x ∷ rs) → (y ∈ put before a rs → (y ≡ a) ⊎ (y ∈ rs)) → (y ≡ a) ⊎ (y ∈ x ∷ rs)
+      go true i ih =
+          ⊎-elim (λ h. inr (List·Memᴰ·head h)) (λ h. ⊎-elim (λ e. inl e) (λ m. inr (List·Memᴰ·tail m)) (ih h)) (List·Memᴰ·cases-cons i)
+      go false i ih = List·Memᴰ·cases-cons i
+
+  -- x before all of a list that is put into
+  put-behind : (x a : A) (rs : List A) → before x a ≡ true → rising before (x ∷ rs) ≡ true → rising before (put before a rs) ≡ true
+      → rising before (x ∷ put before a rs) ≡ true
+  unfolding put rising
+  put-behind x a [] h r q = and-of (before x a) true h refl
+  put-behind x a (y ∷ rs) h r q = go (before y a) q
+    where
+      go : (t : Bool) → rising before (cond t (y ∷ put before a rs) (a ∷ y ∷ rs)) ≡ true
+          → rising before (x ∷ cond t (y ∷ put before a rs) (a ∷ y ∷ rs)) ≡ true
+      go true q = and-of (before x y) (rising before (y ∷ put before a rs)) (and-both (before x y) (rising before (y ∷ rs)) r .0) q
+      go false q = and-of (before x a) (rising before (a ∷ y ∷ rs)) h q
+
+  tail-rising : (x : A) (rs : List A) → rising before (x ∷ rs) ≡ true → rising before rs ≡ true
+  unfolding rising
+  tail-rising x [] e = refl
+  tail-rising x (y ∷ rs) e = and-both (before x y) (rising before (y ∷ rs)) e .1
+
+  put-rising : (a : A) (rs : List A) → rising before rs ≡ true → ((x : A) → x ∈ rs → before x a ≡ false → before a x ≡ true)
+      → rising before (put before a rs) ≡ true
+  unfolding put rising
+  put-rising a [] r f = refl
+  put-rising a (x ∷ rs) r f = go (before x a) refl (put-rising a rs (tail-rising x rs r) (λ y i. f y (List·Memᴰ·tail i)))
+    where
+      go : (t : Bool) → before x a ≡ t → rising before (put before a rs) ≡ true → rising before (cond t (x ∷ put before a rs) (a ∷ x ∷ rs)) ≡ true
+      go true q ih = put-behind x a rs q r ih
+      go false q ih = and-of (before a x) (rising before (x ∷ rs)) (f x (List·Memᴰ·head refl) q) r
+
+  less-in : (k : ℕ) (rs : List A) {y : A} → y ∈ less-row k rs → y ∈ rs
+  less-in zero [] i = i
+  less-in (suc k) [] i = i
+  less-in zero (x ∷ rs) i = List·Memᴰ·tail i
+  less-in (suc k) (x ∷ rs) i = ⊎-elim (λ h. List·Memᴰ·head h) (λ h. List·Memᴰ·tail (less-in k rs h)) (List·Memᴰ·cases-cons i)
+
+  less-rising : (k : ℕ) (rs : List A) → rising before rs ≡ true
+      → ((x y z : A) → x ∈ rs → y ∈ rs → z ∈ rs → before x y ≡ true → before y z ≡ true → before x z ≡ true) → rising before (less-row k rs) ≡ true
+  unfolding rising
+  less-rising zero [] r f = refl
+  less-rising (suc k) [] r f = refl
+  less-rising zero (x ∷ rs) r f = tail-rising x rs r
+  less-rising (suc zero) (x ∷ []) r f = refl
+  less-rising (suc (suc k)) (x ∷ []) r f = refl
+  less-rising (suc zero) (x ∷ y ∷ []) r f = refl
+  less-rising (suc zero) (x ∷ y ∷ z ∷ rs) r f =
+      let (a, more) = and-both (before x y) (rising before (y ∷ z ∷ rs)) r in
+      let (b, rest) = and-both (before y z) (rising before (z ∷ rs)) more in
+      and-of (before x z) (rising before (z ∷ rs))
+      (f x y z (List·Memᴰ·head refl) (List·Memᴰ·tail (List·Memᴰ·head refl)) (List·Memᴰ·tail (List·Memᴰ·tail (List·Memᴰ·head refl))) a b) rest
+  less-rising (suc (suc k)) (x ∷ y ∷ rs) r f =
+      let (a, more) = and-both (before x y) (rising before (y ∷ rs)) r in
+      and-of (before x y) (rising before (y ∷ less-row k rs)) a
+      (less-rising (suc k) (y ∷ rs) more (λ u v w i j l. f u v w (List·Memᴰ·tail i) (List·Memᴰ·tail j) (List·Memᴰ·tail l)))
+
+-- ---- rows of a table
+
+module _ {A : Type 0} {w : ℕ} {row : A → List ℕ} {Used : A → Type 0} {before : A → A → Bool} (t : Rows-of w row Used before)
+    {n : ℕ} {rs : List A} (o : Ordered Used before n rs) where
+  -- a row more, unlike all others
+  pub ordered-put : (a : A) → Used a → length rs < n → ((x : A) → x ∈ rs → row x ≡ row a → ⊥) → Ordered Used before n (put before a rs)
+  ordered-put a u h other = record {
+    room = omega (arith, put-long before a rs);
+    used = λ x i. ⊎-elim (λ e. subst Used (sym e) u) (λ m. o .used x m) (put-in before a rs i);
+    rise = put-rising before a rs (o .rise) (λ x i e. go x i e (before a x) refl);
+  }
+    where
+      go : (x : A) → x ∈ rs → before x a ≡ false → (s : Bool) → before a x ≡ s → before a x ≡ true
+      go x i e true q = q
+      go x i e false q =
+          let v = o .used x i in
+          absurd (other x i (before-connected (row x) (row a) (t .order x a v u ∙ e) (t .order a x u v ∙ q)))
+
+  -- a row less
+  pub ordered-less : (k : ℕ) → Ordered Used before n (less-row k rs)
+  ordered-less k = record {
+    room = omega (arith, o .room, length-append (take k rs) (drop (suc k) rs), length-take k rs, length-drop (suc k) rs);
+    used = λ x i. o .used x (less-in before k rs i);
+    rise = less-rising before k rs (o .rise) (λ x y z i j l p q.
+        let u = o .used x i in
+        let v = o .used z l in
+        sym (t .order x z u v)
+        ∙ before-transitive (row x) (row y) (row z) (t .order x y u (o .used y j) ∙ p) (t .order y z (o .used y j) v ∙ q));
+  }
+
+  module _ (pre post : List ℕ) (b : List ℕ) (whole : b ≡ pre ++ (table w row n rs ++ post)) where
+    from-pre : drop (length pre) b ≡ table w row n rs ++ post
+    from-pre = ap (drop (length pre)) whole ∙ drop-at pre (table w row n rs ++ post) (length pre) refl
+
+    row-is : (d : A) (i : ℕ) → i < length rs → part b (length pre + i * w) w ≡ row (getD rs i d)
+    row-is d i h = row-there w row (t .wide) n rs b post (length pre) d from-pre (o .room) i h
+
+    -- so that a place is found by halving
+    pub ordered-rises : (d : A) → Rises b (length pre) w (length rs)
+    ordered-rises d = record {
+      room = omega (
+        arith,
+        ap length whole,
+        length-append pre (table w row n rs ++ post),
+        length-append (table w row n rs) post,
+        length-table w row (t .wide) n rs,
+        mul-le-mul-right w (o .room),
+      );
+      rise = rising-far b (length pre) w w (length rs) (λ i h.
+          rw (row-is d i (omega arith), row-is d (suc i) h)
+          (t .order (getD rs i d) (getD rs (suc i) d) (o .used (getD rs i d) (place-in d rs i (omega arith))) (o .used (getD rs (suc i) d) (place-in d rs (suc i) h))
+          ∙ rising-at before d rs (o .rise) i h));
+    }
+
+    -- a row put in at its place is put in at its place in the list
+    pub ordered-opened : (a : A) → Used a → length rs < n → {b′ : List ℕ} → Put-in b (length pre) (length rs) (row a) b′
+        → b′ ≡ pre ++ (table w row n (put before a rs) ++ post)
+    ordered-opened a u h x =
+        let k = x .at in
+        let p = x .place in
+        let there : (i : ℕ) → i < length rs → before (getD rs i a) a ≡ bytes-before (part b (length pre + i * length (row a)) (length (row a))) (row a)
+        = λ i l.
+        rw (t .wide a, row-is a i l) (sym (t .order (getD rs i a) a (o .used (getD rs i a) (place-in a rs i l)) u)) in
+        let here : put before a rs ≡ take k rs ++ a ∷ drop k rs
+        = put-at before a a rs k (p .most) (λ i l. there i (omega (arith, p .most)) ∙ p .earlier i l) (λ i l m. there i m ∙ p .later i l m) in
+        x .is ∙ rw (t .wide a, whole, here) (table-opened w row (t .wide) n rs pre post k a (p .most) h)
+
+    -- the row k taken out
+    pub ordered-closed : (k : ℕ) → k < length rs → closed b (length pre + k * w) (length pre + length rs * w) w ≡ pre ++ (table w row n (less-row k rs) ++ post)
+    ordered-closed k h = rw whole (table-closed w row (t .wide) n rs pre post k h (o .room))

@@ -37,19 +37,19 @@ no-end = record { sds = 0; link = 0; side = origin; object = 0 }
 -- ---- the tables of a picture, from where they start
 
 module _ (s : Schema) where
-  long-sdss : length (sds-table s) ≡ 256
+  pub long-sdss : length (sds-table s) ≡ 256
   long-sdss = length-table 16 sds-row wide-sds 16 (s .sdss)
 
-  long-types : length (type-table s) ≡ 1024
+  pub long-types : length (type-table s) ≡ 1024
   long-types = length-table 8 type-row wide-type 128 (s .types)
 
-  long-presences : length (presence-table s) ≡ 9216
+  pub long-presences : length (presence-table s) ≡ 9216
   long-presences = length-table 18 presence-row wide-presence 512 (s .presences)
 
-  long-applications : length (application-table s) ≡ 768
+  pub long-applications : length (application-table s) ≡ 768
   long-applications = length-table 3 application-row wide-application 256 (s .applications)
 
-  long-ends : length (end-table s) ≡ 2048
+  pub long-ends : length (end-table s) ≡ 2048
   long-ends = length-table 4 end-row wide-end 512 (s .ends)
 
   from-types : drop 256 (picture s) ≡ type-table s ++ (presence-table s ++ (application-table s ++ end-table s))

@@ -12,3 +12,4 @@ pub mod Kept
 pub mod OrderLaws
 pub mod StoredLaws
 pub mod OrderedLaws
+pub mod EditLaws

@@ -23,7 +23,7 @@ use Rattle.base.specs.Table.{Rises, Place, Put-in, opened, closed}
 use Rattle.base.specs.Stored.{Named, Applied, Ended, Ordered, less-row}
 use Rattle.base.proofs.Scan.{rising-far}
 use Rattle.base.proofs.Back.{row-there}
-use Rattle.base.proofs.TableLaws.{put-at, table-opened, table-closed}
+use Rattle.base.proofs.TableLaws.{row-fits, put-at, table-opened, table-closed}
 
 -- ---- the bytes of two rows stand as the rows do
 
@@ -182,43 +182,50 @@ module _ {A : Type 0} {w : ℕ} {row : A → List ℕ} {Used : A → Type 0} {be
         ∙ before-transitive (row x) (row y) (row z) (t .order x y u (o .used y j) ∙ p) (t .order y z (o .used y j) v ∙ q));
   }
 
-  module _ (pre post : List ℕ) (b : List ℕ) (whole : b ≡ pre ++ (table w row n rs ++ post)) where
-    from-pre : drop (length pre) b ≡ table w row n rs ++ post
-    from-pre = ap (drop (length pre)) whole ∙ drop-at pre (table w row n rs ++ post) (length pre) refl
+  -- they stand in b from `start` on
+  module _ {start : ℕ} {b : List ℕ} (pre post : List ℕ) (long : start ≡ length pre) (whole : b ≡ pre ++ (table w row n rs ++ post)) where
+    from-start : drop start b ≡ table w row n rs ++ post
+    from-start = ap (drop start) whole ∙ drop-at pre (table w row n rs ++ post) start (sym long)
 
-    row-is : (d : A) (i : ℕ) → i < length rs → part b (length pre + i * w) w ≡ row (getD rs i d)
-    row-is d i h = row-there w row (t .wide) n rs b post (length pre) d from-pre (o .room) i h
+    row-is : (d : A) (i : ℕ) → i < length rs → part b (start + i * w) w ≡ row (getD rs i d)
+    row-is d i h = row-there w row (t .wide) n rs b post start d from-start (o .room) i h
 
-    -- so that a place is found by halving
-    pub ordered-rises : (d : A) → Rises b (length pre) w (length rs)
-    ordered-rises d = record {
-      room = omega (
-        arith,
-        ap length whole,
-        length-append pre (table w row n rs ++ post),
-        length-append (table w row n rs) post,
-        length-table w row (t .wide) n rs,
-        mul-le-mul-right w (o .room),
-      );
-      rise = rising-far b (length pre) w w (length rs) (λ i h.
+    table-fits : start + n * w ≤ length b
+    table-fits =
+        omega (
+          arith,
+          ap length whole,
+          length-append pre (table w row n rs ++ post),
+          length-append (table w row n rs) post,
+          length-table w row (t .wide) n rs,
+        )
+
+    rises : (d : A) → Rises b start w (length rs)
+    rises d = record {
+      room = omega (arith, table-fits, mul-le-mul-right w (o .room));
+      rise = rising-far b start w w (length rs) (λ i h.
           rw (row-is d i (omega arith), row-is d (suc i) h)
           (t .order (getD rs i d) (getD rs (suc i) d) (o .used (getD rs i d) (place-in d rs i (omega arith))) (o .used (getD rs (suc i) d) (place-in d rs (suc i) h))
           ∙ rising-at before d rs (o .rise) i h));
     }
 
-    -- a row put in at its place is put in at its place in the list
-    pub ordered-opened : (a : A) → Used a → length rs < n → {b′ : List ℕ} → Put-in b (length pre) (length rs) (row a) b′
-        → b′ ≡ pre ++ (table w row n (put before a rs) ++ post)
-    ordered-opened a u h x =
-        let k = x .at in
-        let p = x .place in
-        let there : (i : ℕ) → i < length rs → before (getD rs i a) a ≡ bytes-before (part b (length pre + i * length (row a)) (length (row a))) (row a)
-        = λ i l.
-        rw (t .wide a, row-is a i l) (sym (t .order (getD rs i a) a (o .used (getD rs i a) (place-in a rs i l)) u)) in
-        let here : put before a rs ≡ take k rs ++ a ∷ drop k rs
-        = put-at before a a rs k (p .most) (λ i l. there i (omega (arith, p .most)) ∙ p .earlier i l) (λ i l m. there i m ∙ p .later i l m) in
-        x .is ∙ rw (t .wide a, whole, here) (table-opened w row (t .wide) n rs pre post k a (p .most) h)
+    module _ (a : A) (less : length rs < n) {count : ℕ} {key : List ℕ} (many : count ≡ length rs) (is : key ≡ row a) where
+      -- the place of a row is found by halving, and there is room for it
+      pub put-ready : Rises b start (length key) count × (start + count * length key + length key ≤ length b)
+      put-ready = rw (is, many, t .wide a) (rises a, omega (arith, table-fits, row-fits w less))
 
-    -- the row k taken out
-    pub ordered-closed : (k : ℕ) → k < length rs → closed b (length pre + k * w) (length pre + length rs * w) w ≡ pre ++ (table w row n (less-row k rs) ++ post)
-    ordered-closed k h = rw whole (table-closed w row (t .wide) n rs pre post k h (o .room))
+      -- put in at its place among the bytes it is put in at its place in the list
+      pub put-opened : Used a → {b′ : List ℕ} → Put-in b start count key b′ → b′ ≡ pre ++ (table w row n (put before a rs) ++ post)
+      put-opened u {b′} x₀ =
+          let x : Put-in b start (length rs) (row a) b′ = rw (is, many) at x₀ in
+          let k = x .at in
+          let p = x .place in
+          let there : (i : ℕ) → i < length rs → before (getD rs i a) a ≡ bytes-before (part b (start + i * length (row a)) (length (row a))) (row a)
+          = λ i l. rw (t .wide a, row-is a i l) (sym (t .order (getD rs i a) a (o .used (getD rs i a) (place-in a rs i l)) u)) in
+          let here : put before a rs ≡ take k rs ++ a ∷ drop k rs
+          = put-at before a a rs k (p .most) (λ i l. there i (omega (arith, p .most)) ∙ p .earlier i l) (λ i l m. there i m ∙ p .later i l m) in
+          x .is ∙ rw (t .wide a, whole, long, here) (table-opened w row (t .wide) n rs pre post k a (p .most) less)
+
+    pub take-closed : {count : ℕ} → count ≡ length rs → (k : ℕ) → k < count
+        → closed b (start + k * w) (start + count * w) w ≡ pre ++ (table w row n (less-row k rs) ++ post)
+    take-closed many k h = rw (whole, long, many) (table-closed w row (t .wide) n rs pre post k (omega arith) (o .room))

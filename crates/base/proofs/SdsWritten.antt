@@ -12,11 +12,11 @@ use Rattle.rules.specs.04-Schema.{Schema}
 use Rattle.rules.specs.06-Good.{Good}
 use Rattle.rules.specs.07-Picture.{pad, sds-row, table, sds-table, type-table, presence-table, application-table, end-table, picture}
 use Rattle.rules.specs.10-Changes.{with-sdss}
-use Rattle.rules.proofs.07-Picture.{length-pad, length-table, wide-sds}
+use Rattle.rules.proofs.07-Picture.{zeros-long, length-pad, length-table, wide-sds}
 use Rattle.base.specs.Rows.{sds-at}
 use Rattle.base.specs.Table.{written}
 
--- ---- a name over zeros
+-- ---- bytes over others
 
 zeros : (m j : ℕ) → m ≤ j → replicate {A = ℕ} m 0 ≡ take m (replicate j 0)
 zeros zero j h = refl
@@ -28,30 +28,8 @@ over-zeros [] m j h l = zeros m j l
 over-zeros (x ∷ xs) zero j h l = absurd (not-suc-le-zero h)
 over-zeros (x ∷ xs) (suc m) j h l = ap (λ (r : List ℕ). x ∷ r) (over-zeros xs m j (le-of-suc-le-suc h) (omega arith))
 
--- the field cleared, and then the name
-pub name-written : (b z y n : List ℕ) (at : ℕ) → at + 16 ≤ length b → length n ≤ 16 → z ≡ replicate (length (take ((at + 16) - at) (drop at b))) 0
-    → y ≡ written (putMid at ((at + 16) - at) b z) at n → y ≡ written b at (sds-row n)
-unfolding written sds-row pad
-name-written b z y n at h l f q =
-    let w : (at + 16) - at ≡ 16 = omega arith in
-    let many : length (take 16 (drop at b)) ≡ 16 = length-take 16 (drop at b) ∙ omega (arith, length-drop at b) in
-    let rest = drop (at + 16) b in
-    let blank = replicate {A = ℕ} 16 0 in
-    let front : length (take at b) ≡ at = length-take-le at b (omega arith) in
-    let z-is : z ≡ blank = f ∙ rw (w, many) in
-    let m-is : putMid at ((at + 16) - at) b z ≡ take at b ++ (blank ++ rest) = rw (w, z-is, drop-drop 16 at b) in
-    let first : take at (take at b ++ (blank ++ rest)) ≡ take at b = take-at (take at b) (blank ++ rest) at front in
-    let behind : drop (at + length n) (take at b ++ (blank ++ rest)) ≡ drop (length n) blank ++ rest
-    = ap (λ (k : ℕ). drop (k + length n) (take at b ++ (blank ++ rest))) (sym front) ∙ drop-append-add (take at b) (blank ++ rest) (length n)
-    ∙ drop-append-le (length n) blank rest (omega arith) in
-    let wide : length (take 16 (n ++ replicate 16 0)) ≡ 16 = length-pad 16 n in
-    q ∙ ap (λ (m : List ℕ). written m at n) m-is ∙ rw (first, behind, wide)
-    (ap (λ (r : List ℕ). take at b ++ r) (sym (append-assoc n (drop (length n) blank) rest) ∙ ap (λ (r : List ℕ). r ++ rest) (over-zeros n 16 16 l (omega arith))))
-
--- ---- a row written over another
-
 -- behind p
-written-past : (p q r : List ℕ) (at m : ℕ) → at ≡ length p + m → written (p ++ q) at r ≡ p ++ written q m r
+pub written-past : (p q r : List ℕ) (at m : ℕ) → at ≡ length p + m → written (p ++ q) at r ≡ p ++ written q m r
 unfolding written
 written-past p q r at m e =
     let far : at + length r ≡ length p + (m + length r) = omega arith in
@@ -63,11 +41,35 @@ unfolding written
 written-over p q r e = ap (λ (x : List ℕ). r ++ x) (drop-at p q (0 + length r) (omega (arith, e)))
 
 -- before q
-written-before : (p q r : List ℕ) (m : ℕ) → m + length r ≤ length p → written (p ++ q) m r ≡ written p m r ++ q
+pub written-before : (p q r : List ℕ) (m : ℕ) → m + length r ≤ length p → written (p ++ q) m r ≡ written p m r ++ q
 unfolding written
 written-before p q r m h =
     rw (take-append-le m p q (omega arith), drop-append-le (m + length r) p q h)
     (sym (append-assoc (take m p) (r ++ drop (m + length r) p) q ∙ ap (λ (x : List ℕ). take m p ++ x) (append-assoc r (drop (m + length r) p) q)))
+
+-- bytes over a field of zeros
+pub field-written : (p q n : List ℕ) (w at : ℕ) → at ≡ length p → length n ≤ w → written (p ++ (replicate w 0 ++ q)) at n ≡ p ++ (pad w n ++ q)
+unfolding written pad
+field-written p q n w at e h =
+    let blank = replicate {A = ℕ} w 0 in
+    let none : 0 + length n ≡ length n = omega arith in
+    written-past p (blank ++ q) n at 0 (omega arith)
+    ∙ ap (λ (r : List ℕ). p ++ r) (written-before blank q n 0 (omega (arith, zeros-long w)))
+    ∙ rw none (ap (λ (r : List ℕ). p ++ (r ++ q)) (over-zeros n w w h (omega arith)))
+
+-- the field cleared, and then the name
+pub name-written : (b z y n : List ℕ) (at : ℕ) → at + 16 ≤ length b → length n ≤ 16 → z ≡ replicate (length (take ((at + 16) - at) (drop at b))) 0
+    → y ≡ written (putMid at ((at + 16) - at) b z) at n → y ≡ written b at (sds-row n)
+unfolding written sds-row
+name-written b z y n at h l f q =
+    let w : (at + 16) - at ≡ 16 = omega arith in
+    let many : length (take 16 (drop at b)) ≡ 16 = length-take 16 (drop at b) ∙ omega (arith, length-drop at b) in
+    let z-is : z ≡ replicate 16 0 = f ∙ rw (w, many) in
+    let m-is : putMid at ((at + 16) - at) b z ≡ take at b ++ (replicate 16 0 ++ drop (at + 16) b) = rw (w, z-is, drop-drop 16 at b) in
+    q ∙ ap (λ (m : List ℕ). written m at n) m-is
+    ∙ field-written (take at b) (drop (at + 16) b) n 16 at (sym (length-take-le at b (omega arith))) l ∙ rw (length-pad 16 n)
+
+-- ---- a row written over another
 
 module _ {A : Type 0} (w : ℕ) (row : A → List ℕ) (wide : (a : A) → length (row a) ≡ w) where
   pub table-set : (n : ℕ) (rs : List A) (k : ℕ) (a : A) → k < length rs → length rs ≤ n

@@ -1,0 +1,58 @@
+// Rows put in, taken out and written over: each is the same edit of the schema that the bytes show. Within a call a base is not
+// always sound; here it need only be stored.
+use super::Base;
+use super::table;
+use super::used;
+use rules::Limits;
+ghost use mathlib.Core.Path.{_≡_};
+ghost use mathlib.Core.Bool.{true, false};
+ghost use Prim.Native.Nat.{_≤_, _<_};
+ghost use lib.ListN.{length};
+ghost use Rattle.rules.specs.01-Lists.{put};
+ghost use Rattle.rules.specs.03-Names.{well-formed};
+ghost use Rattle.rules.specs.04-Schema.{bears, presence-before};
+ghost use Rattle.rules.specs.07-Picture.{presence-row};
+ghost use Rattle.rules.specs.10-Changes.{with-presences};
+ghost use Rattle.base.specs.Back.{schema-of, presence-count};
+ghost use Rattle.base.specs.Stored.{Stored, Shows, less-row};
+
+// ---- presences
+
+// The bytes of the row that says that type t is in SDS d under that name.
+fn presence_bytes(d: usize, name: &[u8], t: usize) -> [u8; Base::PRESENCE_WIDTH]
+    requires { ⌜ (d < 256) × ((t < 256) × (length (now name) ≤ 16)) ⌝ }
+    ensures { λ r. ⌜ r ≡ presence-row (record { sds = d; name = now (name .entry); type = t }) ⌝ }
+{
+    let mut row: [u8; Base::PRESENCE_WIDTH] = [0; Base::PRESENCE_WIDTH];
+    row[0] = (d % 256) as u8;
+    row[Limits::NAME + 1] = (t % 256) as u8;
+    table::write(&mut row, 1, name);
+    row
+}
+
+// Type t gets a presence in SDS d, under a name that is free there.
+pub fn put_presence(base: &mut [u8], d: usize, name: &[u8], t: usize)
+    requires { ⌜ Stored (now base) ⌝ }
+    requires { ⌜ (d < 256) × (t < 256) ⌝ }
+    requires { ⌜ well-formed (now name) ≡ true ⌝ }
+    requires { ⌜ length ((schema-of (now base)) .presences) < 512 ⌝ }
+    requires { ⌜ bears (schema-of (now base)) d (now name) ≡ false ⌝ }
+    ensures { λ _. ⌜ (let s = schema-of (now (base .entry)) in
+        Shows (now (base .exit)) (with-presences s (put presence-before (record { sds = d; name = now (name .entry); type = t }) (s .presences)))) ⌝ }
+{
+    let row = presence_bytes(d, name, t);
+    let n = used::presence_count(base);
+    table::put_in(base, Base::PRESENCES_AT, n, &row);
+}
+
+// Row i goes.
+pub fn take_presence(base: &mut [u8], i: usize)
+    requires { ⌜ Stored (now base) ⌝ }
+    requires { ⌜ i < presence-count (now base) ⌝ }
+    ensures { λ _. ⌜ (let s = schema-of (now (base .entry)) in Shows (now (base .exit)) (with-presences s (less-row i (s .presences)))) ⌝ }
+{
+    let n = used::presence_count(base);
+    let at = Base::PRESENCES_AT + i * Base::PRESENCE_WIDTH;
+    let end = Base::PRESENCES_AT + n * Base::PRESENCE_WIDTH;
+    table::take_row(base, at, end, Base::PRESENCE_WIDTH);
+}

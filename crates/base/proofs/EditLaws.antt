@@ -1,5 +1,5 @@
 -- A row put in among the bytes, or taken out, is put into the schema that they show, or taken out. Assumes nothing.
-use Prim.Native.Nat.{ℕ, suc, _+_, _*_, _%_, _≤_, _<_}
+use Prim.Native.Nat.{ℕ, zero, suc, _+_, _*_, _%_, _≤_, _<_}
 use native.Mathlib.Omega.{arith}
 use mathlib.Core.Path.{_≡_, refl, sym, ap, _∙_}
 use mathlib.Core.List.{List, [], _∷_, _++_, append-assoc, append-nil}
@@ -7,22 +7,23 @@ use mathlib.Core.Bool.{Bool, true, false, _&&_, true≢false}
 use lib.Dec.{eqb}
 use lib.ListN.{length, set, replicate, length-append}
 use borrow.Author.Tests.{eq-eqb}
-use Rattle.rules.specs.01-Lists.{_∈_, put}
+use Rattle.rules.specs.01-Lists.{_∈_, any, put}
 use Rattle.rules.specs.03-Names.{Name, well-formed, same-name}
-use Rattle.rules.specs.04-Schema.{Schema, Presence, Application, End, holds-name, bears, presence-before, application-before, end-before}
+use Rattle.rules.specs.04-Schema.{Schema, Presence, Application, End, holds-name, bears, is-application, applied, is-end, has-end, side-code}
+use Rattle.rules.specs.04-Schema.{presence-before, application-before, end-before}
 use Rattle.rules.specs.07-Picture.{pad, presence-row, application-row, end-row, table, sds-table, type-table, presence-table}
 use Rattle.rules.specs.07-Picture.{application-table, end-table, picture}
 use Rattle.rules.specs.10-Changes.{with-presences, with-applications, with-ends}
 use Rattle.rules.proofs.Bools.{and-of}
 use Rattle.rules.proofs.01-Lists.{any-at}
 use Rattle.rules.proofs.03-Names.{same-name-refl}
-use Rattle.rules.proofs.07-Picture.{presence-back}
+use Rattle.rules.proofs.07-Picture.{read-presence, read-application, read-side, read-end, presence-back, application-back, end-back}
 use Rattle.base.specs.Back.{schema-of, presence-count, application-count, end-count}
 use Rattle.base.specs.Table.{Rises, Put-in, written, closed}
 use Rattle.base.specs.Stored.{Named, Applied, Ended, Ordered, less-row, Storable, Shows, Stored}
 use Rattle.base.proofs.Back.{long-sdss, long-types, long-presences, long-applications}
 use Rattle.base.proofs.SdsWritten.{field-written}
-use Rattle.base.proofs.OrderedLaws.{Rows-of, of-presences, of-applications, of-ends, ordered-put, ordered-less, put-ready, put-opened, take-closed}
+use Rattle.base.proofs.OrderedLaws.{Unlike, Rows-of, of-presences, of-applications, of-ends, ordered-put, ordered-less, put-ready, put-opened, take-closed}
 
 -- ---- the three tables
 
@@ -135,7 +136,7 @@ module _ {A : Type 0} {w : ℕ} {row : A → List ℕ} {Used : A → Type 0} {be
     pub ready : Rises b start (length key) count × (start + count * length key + length key ≤ length b)
     ready = put-ready (t .of) (t .kept (x .rows)) (t .pre s) (t .post s) (t .long s) in-picture a less many is
 
-    pub row-put : Used a → ((y : A) → y ∈ rows-in s → row y ≡ row a → ⊥) → {b′ : List ℕ} → Put-in b start count key b′
+    pub row-put : Used a → Unlike row a (rows-in s) → {b′ : List ℕ} → Put-in b start count key b′
         → Shows b′ (with-rows s (put before a (rows-in s)))
     row-put u unlike p = record {
       rows = t .storable (x .rows) (ordered-put (t .of) (t .kept (x .rows)) a u less unlike);
@@ -149,6 +150,12 @@ module _ {A : Type 0} {w : ℕ} {row : A → List ℕ} {Used : A → Type 0} {be
     shown = e ∙ take-closed (t .of) (t .kept (x .rows)) (t .pre s) (t .post s) (t .long s) in-picture many k h ∙ sym (t .other s (less-row k (rows-in s)));
   }
 
+-- a row that no test lets pass is like none that it does
+unlike : {A : Type 0} (row : A → List ℕ) (read : List ℕ → A) (q : A → Bool) {a : A} {rs : List A}
+    → ((y : A) → y ∈ rs → read (row y) ≡ y) → read (row a) ≡ a → q a ≡ true → any q rs ≡ false → Unlike row a rs
+unlike row read q back own it none y i e =
+    true≢false (sym (any-at q i (ap q (sym (back y i) ∙ ap read e ∙ own) ∙ it)) ∙ none)
+
 -- ---- presences
 
 pub presence-built : (d t : ℕ) (n y : List ℕ) → d < 256 → t < 256 → length n ≤ 16
@@ -159,10 +166,53 @@ presence-built d t n y h k l e =
     let t-is : t % 256 ≡ t = omega arith in
     e ∙ rw (d-is, t-is) (field-written (d ∷ []) (t ∷ []) n 16 1 refl l)
 
--- no row of an SDS in which the name is free is like one that bears it
-pub presence-unlike : (s : Schema) (a : Presence) → Named a → bears s (a .sds) (a .name) ≡ false
-    → (Named-all : (p : Presence) → p ∈ s .presences → Named p) → (p : Presence) → p ∈ s .presences → presence-row p ≡ presence-row a → ⊥
+pub presence-unlike : {s : Schema} → Storable s → (a : Presence) → Named a → bears s (a .sds) (a .name) ≡ false → Unlike presence-row a (s .presences)
 unfolding bears
-presence-unlike s a u e named p i q =
-    let same : p ≡ a = sym (presence-back p (named p i)) ∙ ap Rattle.rules.proofs.07-Picture.read-presence q ∙ presence-back a u in
-    true≢false (sym (any-at (holds-name (a .sds) (a .name)) i (rw same (and-of (eqb (a .sds) (a .sds)) (same-name (a .name) (a .name)) (eq-eqb (a .sds) (a .sds) refl) (same-name-refl (a .name))))) ∙ e)
+presence-unlike {s} st a u e =
+    unlike presence-row read-presence (holds-name (a .sds) (a .name)) (λ p i. presence-back p (st .presences .used p i)) (presence-back a u)
+    (and-of (eqb (a .sds) (a .sds)) (same-name (a .name) (a .name)) (eq-eqb (a .sds) (a .sds) refl) (same-name-refl (a .name))) e
+
+-- ---- applications
+
+pub application-built : (d t a : ℕ) → d < 256 → t < 256 → a < 256
+    → d % 256 ∷ t % 256 ∷ a % 256 ∷ [] ≡ application-row (record { sds = d; to = t; attribute = a })
+unfolding application-row
+application-built d t a f g h =
+    let d-is : d % 256 ≡ d = omega arith in
+    let t-is : t % 256 ≡ t = omega arith in
+    let a-is : a % 256 ≡ a = omega arith in
+    λ i. d-is i ∷ t-is i ∷ a-is i ∷ []
+
+pub application-unlike : (s : Schema) (x : Application) → applied s (x .sds) (x .to) (x .attribute) ≡ false → Unlike application-row x (s .applications)
+unfolding applied
+application-unlike s x e =
+    unlike application-row read-application (is-application (x .sds) (x .to) (x .attribute)) (λ y i. application-back y) (application-back x)
+    (and-of (eqb (x .sds) (x .sds)) (eqb (x .to) (x .to) && eqb (x .attribute) (x .attribute)) (eq-eqb (x .sds) (x .sds) refl)
+    (and-of (eqb (x .to) (x .to)) (eqb (x .attribute) (x .attribute)) (eq-eqb (x .to) (x .to) refl) (eq-eqb (x .attribute) (x .attribute) refl))) e
+
+-- ---- ends
+
+side-of : (k : ℕ) → k < 2 → side-code (read-side k) ≡ k
+unfolding read-side
+side-of zero h = refl
+side-of (suc zero) h = refl
+side-of (suc (suc k)) h = absurd (omega arith)
+
+pub end-built : (d l k o : ℕ) → d < 256 → l < 256 → k < 2 → o < 256
+    → d % 256 ∷ l % 256 ∷ k % 256 ∷ o % 256 ∷ [] ≡ end-row (record { sds = d; link = l; side = read-side k; object = o })
+unfolding end-row
+end-built d l k o e f g h =
+    let d-is : d % 256 ≡ d = omega arith in
+    let l-is : l % 256 ≡ l = omega arith in
+    let k-is : k % 256 ≡ side-code (read-side k) = omega (arith, side-of k g) in
+    let o-is : o % 256 ≡ o = omega arith in
+    λ i. d-is i ∷ l-is i ∷ k-is i ∷ o-is i ∷ []
+
+pub end-unlike : (s : Schema) (x : End) → has-end s (x .sds) (x .link) (x .side) (x .object) ≡ false → Unlike end-row x (s .ends)
+unfolding has-end
+end-unlike s x e =
+    let c = side-code (x .side) in
+    unlike end-row read-end (is-end (x .sds) (x .link) (x .side) (x .object)) (λ y i. end-back y) (end-back x)
+    (and-of (eqb (x .sds) (x .sds)) (eqb (x .link) (x .link) && (eqb c c && eqb (x .object) (x .object))) (eq-eqb (x .sds) (x .sds) refl)
+    (and-of (eqb (x .link) (x .link)) (eqb c c && eqb (x .object) (x .object)) (eq-eqb (x .link) (x .link) refl)
+    (and-of (eqb c c) (eqb (x .object) (x .object)) (eq-eqb c c refl) (eq-eqb (x .object) (x .object) refl)))) e

@@ -154,10 +154,14 @@ module _ {A : Type 0} (before : A → A → Bool) where
 
 -- ---- rows of a table
 
+-- no row has the bytes of that of a
+abbrev pub Unlike : {A : Type 0} → (A → List ℕ) → A → List A → Type 0
+Unlike {A} row a rs = (x : A) → x ∈ rs → row x ≡ row a → ⊥
+
 module _ {A : Type 0} {w : ℕ} {row : A → List ℕ} {Used : A → Type 0} {before : A → A → Bool} (t : Rows-of w row Used before)
     {n : ℕ} {rs : List A} (o : Ordered Used before n rs) where
   -- a row more, unlike all others
-  pub ordered-put : (a : A) → Used a → length rs < n → ((x : A) → x ∈ rs → row x ≡ row a → ⊥) → Ordered Used before n (put before a rs)
+  pub ordered-put : (a : A) → Used a → length rs < n → Unlike row a rs → Ordered Used before n (put before a rs)
   ordered-put a u h other = record {
     room = omega (arith, put-long before a rs);
     used = λ x i. ⊎-elim (λ e. subst Used (sym e) u) (λ m. o .used x m) (put-in before a rs i);

@@ -10,10 +10,11 @@ ghost use Prim.Native.Nat.{_≤_, _<_};
 ghost use lib.ListN.{length};
 ghost use Rattle.rules.specs.01-Lists.{put};
 ghost use Rattle.rules.specs.03-Names.{well-formed};
-ghost use Rattle.rules.specs.04-Schema.{bears, presence-before};
+ghost use Rattle.rules.specs.04-Schema.{bears, applied, has-end, presence-before, application-before, end-before};
 ghost use Rattle.rules.specs.07-Picture.{presence-row};
-ghost use Rattle.rules.specs.10-Changes.{with-presences};
-ghost use Rattle.base.specs.Back.{schema-of, presence-count};
+ghost use Rattle.rules.specs.10-Changes.{with-presences, with-applications, with-ends};
+ghost use Rattle.rules.proofs.07-Picture.{read-side};
+ghost use Rattle.base.specs.Back.{schema-of, presence-count, application-count, end-count};
 ghost use Rattle.base.specs.Stored.{Stored, Shows, less-row};
 
 // ---- presences
@@ -55,4 +56,65 @@ pub fn take_presence(base: &mut [u8], i: usize)
     let at = Base::PRESENCES_AT + i * Base::PRESENCE_WIDTH;
     let end = Base::PRESENCES_AT + n * Base::PRESENCE_WIDTH;
     table::take_row(base, at, end, Base::PRESENCE_WIDTH);
+}
+
+// ---- applications
+
+// Attribute type a is applied to type t in SDS d, as it was not.
+pub fn put_application(base: &mut [u8], d: usize, t: usize, a: usize)
+    requires { ⌜ Stored (now base) ⌝ }
+    requires { ⌜ (d ≡ 0 → ⊥) × ((d < 256) × ((t < 256) × (a < 256))) ⌝ }
+    requires { ⌜ length ((schema-of (now base)) .applications) < 256 ⌝ }
+    requires { ⌜ applied (schema-of (now base)) d t a ≡ false ⌝ }
+    ensures { λ _. ⌜ (let s = schema-of (now (base .entry)) in
+        Shows (now (base .exit)) (with-applications s (put application-before (record { sds = d; to = t; attribute = a }) (s .applications)))) ⌝ }
+{
+    let row = [(d % 256) as u8, (t % 256) as u8, (a % 256) as u8];
+    let n = used::application_count(base);
+    table::put_in(base, Base::APPLICATIONS_AT, n, &row);
+}
+
+// Row i goes.
+pub fn take_application(base: &mut [u8], i: usize)
+    requires { ⌜ Stored (now base) ⌝ }
+    requires { ⌜ i < application-count (now base) ⌝ }
+    ensures { λ _. ⌜ (let s = schema-of (now (base .entry)) in Shows (now (base .exit)) (with-applications s (less-row i (s .applications)))) ⌝ }
+{
+    let n = used::application_count(base);
+    let at = Base::APPLICATIONS_AT + i * Base::APPLICATION_WIDTH;
+    let end = Base::APPLICATIONS_AT + n * Base::APPLICATION_WIDTH;
+    table::take_row(base, at, end, Base::APPLICATION_WIDTH);
+}
+
+// ---- ends
+
+// Object type o becomes an end of link type l in SDS d, as it was not: an origin where `side` is 0, a destination where it is 1.
+pub fn put_end(base: &mut [u8], d: usize, l: usize, side: usize, o: usize)
+    requires { ⌜ Stored (now base) ⌝ }
+    requires { ⌜ (d ≡ 0 → ⊥) × ((d < 256) × ((l < 256) × ((side < 2) × (o < 256)))) ⌝ }
+    requires { ⌜ length ((schema-of (now base)) .ends) < 512 ⌝ }
+    requires { ⌜ has-end (schema-of (now base)) d l (read-side side) o ≡ false ⌝ }
+    ensures { λ _. ⌜ (let s = schema-of (now (base .entry)) in
+        Shows (now (base .exit)) (with-ends s (put end-before (record { sds = d; link = l; side = read-side side; object = o }) (s .ends)))) ⌝ }
+{
+    let row = [
+        (d % 256) as u8,
+        (l % 256) as u8,
+        (side % 256) as u8,
+        (o % 256) as u8,
+    ];
+    let n = used::end_count(base);
+    table::put_in(base, Base::ENDS_AT, n, &row);
+}
+
+// Row i goes.
+pub fn take_end(base: &mut [u8], i: usize)
+    requires { ⌜ Stored (now base) ⌝ }
+    requires { ⌜ i < end-count (now base) ⌝ }
+    ensures { λ _. ⌜ (let s = schema-of (now (base .entry)) in Shows (now (base .exit)) (with-ends s (less-row i (s .ends)))) ⌝ }
+{
+    let n = used::end_count(base);
+    let at = Base::ENDS_AT + i * Base::END_WIDTH;
+    let end = Base::ENDS_AT + n * Base::END_WIDTH;
+    table::take_row(base, at, end, Base::END_WIDTH);
 }

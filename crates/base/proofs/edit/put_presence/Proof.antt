@@ -22,20 +22,24 @@ slice-aggregate-put-in c = search needs
 
 put-in-requires : tie.Need-put-in-requires
 put-in-requires c κs =
-    let x = c .before .before .before .before .before .before .before in
-    ready the-presences (x .pre .0) (record { sds = x .args .d; name = x .args .name .now; type = x .args .t }) (x .pre .1 .1 .1 .0)
-    (c .before .before .presence-count .ensures .is ∙ sym (presences-long (x .args .base .now))) (c .before .before .before .before .presence-bytes .ensures)
+    let bytes = c .before .before .before .before in
+    let x = bytes .before .before .before in
+    let row : Presence = record { sds = x .args .d; name = x .args .name .now; type = x .args .t } in
+    let many = c .before .before .presence-count .ensures .is ∙ sym (presences-long (x .args .base .now)) in
+    ready the-presences (x .pre .0) row (x .pre .1 .1 .1 .0) many (bytes .presence-bytes .ensures)
 
 same-length : tie.Need-same-length
 same-length c = search needs
 
 returns : tie.Need-returns
 returns c =
-    let x = c .before .before .before .before .before .before .before .before .before .before in
-    let a : Presence = record { sds = x .args .d; name = x .args .name .now; type = x .args .t } in
-    row-put the-presences (x .pre .0) a (x .pre .1 .1 .1 .0)
-    (c .before .before .before .before .before .presence-count .ensures .is ∙ sym (presences-long (x .args .base .now))) (c .before .before .before .before .before .before .before .presence-bytes .ensures)
-    (x .pre .1 .1 .0) (presence-unlike _ a (x .pre .1 .1 .0) (x .pre .1 .1 .1 .1) (x .pre .0 .rows .presences .used)) (c .before .before .put-in .ensures)
+    let bytes = c .before .before .before .before .before .before .before in
+    let x = bytes .before .before .before in
+    let row : Presence = record { sds = x .args .d; name = x .args .name .now; type = x .args .t } in
+    let many = c .before .before .before .before .before .presence-count .ensures .is ∙ sym (presences-long (x .args .base .now)) in
+    let named = x .pre .1 .1 .0 in
+    row-put the-presences (x .pre .0) row (x .pre .1 .1 .1 .0) many (bytes .presence-bytes .ensures)
+    named (presence-unlike (x .pre .0 .rows) row named (x .pre .1 .1 .1 .1)) (c .before .before .put-in .ensures)
 
 pub put-presence-spec : {M : Type 1} → statement M
 put-presence-spec =

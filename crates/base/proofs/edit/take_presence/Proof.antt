@@ -32,8 +32,8 @@ same-length c = search needs
 returns : tie.Need-returns
 returns c =
     let x = c .before .before .before .before .before .before .before in
-    row-taken the-presences (x .pre .0) (c .before .before .before .before .presence-count .ensures .is ∙ sym (presences-long (x .args .base .now))) (x .args .i)
-    (omega arith) (c .before .before .take-row .ensures)
+    let many = c .before .before .before .before .presence-count .ensures .is ∙ sym (presences-long (x .args .base .now)) in
+    row-taken the-presences (x .pre .0) many (x .args .i) (omega arith) (c .before .before .take-row .ensures)
 
 pub take-presence-spec : {M : Type 1} → statement M
 take-presence-spec =

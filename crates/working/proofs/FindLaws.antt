@@ -21,7 +21,7 @@ use Rattle.rules.proofs.11-Asks.{place-is, first-at}
 use Rattle.base.specs.Rows.{presence-at}
 use Rattle.base.specs.Back.{schema-of, presence-shown, presence-count}
 use Rattle.base.proofs.Shown.{presences-long, presence-is, presence-there, presence-in}
-use Rattle.working.specs.Listed.{drawn-from, Named-row, Named-first}
+use Rattle.working.specs.Listed.{drawn-from, Named-row, Named-in, Named-first}
 use Rattle.working.proofs.ListedLaws.{any-there, any-nowhere, unused-sds, listed-is}
 
 -- ---- a row
@@ -63,6 +63,17 @@ module _ {b : List ℕ} {d : ℕ} {n : Name} {r : ℕ} (row : Named-row b (prese
 -- a row's type is below 128
 pub type-below : (b : List ℕ) → Good (schema-of b) → (i : ℕ) → i < presence-count b → getD b (presence-at i + 17) 0 < 128
 type-below b good i h = used-below good _ (good .presence-type (presence-shown b i) (presence-there b i h))
+
+-- what the search says of SDS d, whether it found a row or none
+module _ {b : List ℕ} {d : ℕ} {n : Name} {r : ℕ} (row : Named-row b (presence-count b) d n r) where
+  pub named-here : Good (schema-of b) → (h : r < presence-count b) (t : ℕ) → t ≡ getD b (presence-at r + 17) 0 → Named-in (schema-of b) d n t
+  named-here good h t e = record {
+    found = λ q. (omega (arith, type-below b good r h), e ∙ type-is row h);
+    none = λ q. absurd (true≢false (sym (bears-it row h) ∙ q));
+  }
+
+  pub named-not-here : presence-count b ≤ r → Named-in (schema-of b) d n 128
+  named-not-here h = record { found = λ q. absurd (true≢false (sym q ∙ bears-none row h)); none = λ q. refl }
 
 -- an SDS in which a name is borne is used
 bears-used : {s : Schema} → Good s → (d : ℕ) (n : Name) → bears s d n ≡ true → unused-sds s d ≡ false

@@ -26,3 +26,8 @@ pub record Named-row (b : List ℕ) (n d : ℕ) (name : Name) (r : ℕ) : Type 0
 pub record Named-first (s : Schema) (w : List ℕ) (n : Name) (r : ℕ) : Type 0 where
   pub found : no-name-listed s w n ≡ false → (r < 128) × (r ≡ type-named s (first (λ d. bears s d n) 0 (listed-sdss s w)) n)
   pub none : no-name-listed s w n ≡ true → r ≡ 128
+
+-- r is the type that bears the name in SDS d, as many as there are types where none does
+pub record Named-in (s : Schema) (d : ℕ) (n : Name) (r : ℕ) : Type 0 where
+  pub found : bears s d n ≡ true → (r < 128) × (r ≡ type-named s d n)
+  pub none : bears s d n ≡ false → r ≡ 128

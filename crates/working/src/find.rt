@@ -1,18 +1,17 @@
 // A type by its local name, in the SDSs that a list stands for.
 use rules::Limits;
 ghost use mathlib.Core.Path.{_≡_};
-ghost use mathlib.Core.Bool.{true, false};
+ghost use mathlib.Core.Bool.{false};
 ghost use Prim.Native.Nat.{_+_, _<_};
 ghost use lib.ListN.{length};
 ghost use Rattle.rules.specs.01-Lists.{any};
-ghost use Rattle.rules.specs.03-Names.{well-formed};
 ghost use Rattle.rules.specs.04-Schema.{holds-name};
 ghost use Rattle.rules.specs.07-Picture.{Sound, base-length};
 ghost use Rattle.rules.specs.09-Refusals.{unknown-sds};
 ghost use Rattle.rules.proofs.07-Picture.{strip};
 ghost use Rattle.base.specs.Rows.{presence-at, part};
 ghost use Rattle.base.specs.Back.{schema-of, presence-count, presence-shown};
-ghost use Rattle.working.specs.Listed.{Named-row, Named-first};
+ghost use Rattle.working.specs.Listed.{Named-row, Named-in, Named-first};
 
 // The local name in row i.
 fn local_name(base: &[u8], i: usize) -> &[u8]
@@ -51,11 +50,23 @@ fn row_named(base: &[u8], d: usize, name: &[u8]) -> usize
     row
 }
 
+// The type that bears the name in SDS d; as many as there are types where none does.
+pub fn type_in(base: &[u8], d: usize, name: &[u8]) -> usize
+    requires { ⌜ Sound (now base) ⌝ }
+    ensures { λ r. ⌜ Named-in (schema-of (now (base .entry))) d (now (name .entry)) r ⌝ }
+{
+    let rows = base::used::presence_count(base);
+    let row = row_named(base, d, name);
+    if rows <= row {
+        return Limits::TYPES;
+    }
+    base::presence_type(base, row)
+}
+
 // The type that bears the name in the first listed SDS that has it; as many as there are types where none has it.
 pub fn type_named(base: &[u8], schema: &[u8], name: &[u8]) -> usize
     requires { ⌜ Sound (now base) ⌝ }
     requires { ⌜ any (unknown-sds (schema-of (now base))) (now schema) ≡ false ⌝ }
-    requires { ⌜ well-formed (now name) ≡ true ⌝ }
     ensures { λ r. ⌜ Named-first (schema-of (now (base .entry))) (now (schema .entry)) (now (name .entry)) r ⌝ }
 {
     let rows = base::used::presence_count(base);

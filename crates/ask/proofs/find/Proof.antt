@@ -60,7 +60,7 @@ returns-3 : tie.Need-returns-3
 returns-3 c = answered-as (sound-1 (c .before .before .before .before .before)) (stops (left-2 (c .before .before .before)) (ill-named _ (sym (c .before .before .is-well-formed .ensures) ∙ not-true _ (c .before .if3 .taken)))) (c .refused3 .ensures)
 
 type-named-requires : tie.Need-type-named-requires
-type-named-requires c κs = (sound-1 (c .before .before .before .before), (sym (c .before .before .before .has-unknown .ensures) ∙ c .before .before .if2 .left, sym (c .before .is-well-formed .ensures) ∙ not-false _ (c .if3 .left)))
+type-named-requires c κs = (sound-1 (c .before .before .before .before), sym (c .before .before .before .has-unknown .ensures) ∙ c .before .before .if2 .left)
 
 refused-requires-4 : tie.Need-refused-requires-4
 refused-requires-4 c κs = search needs

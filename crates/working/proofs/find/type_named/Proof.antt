@@ -52,7 +52,7 @@ returns c =
     let good = sound-good (x .pre .0) in
     let there : c .before .before .row-named .result < presence-count b
     = omega (arith, c .before .if1 .taken, c .before .before .before .before .before .before .before .presence-count .ensures .is) in
-    named-first good (x .args .schema .now) (x .pre .1 .0) n (l .i) _
+    named-first good (x .args .schema .now) (x .pre .1) n (l .i) _
     (omega (arith, c .before .before .before .before .loop-test .taken, c .before .before .before .before .before .before .span .ensures)) (l .inv .1)
     (ap (λ (e : ℕ). bears (schema-of b) e n) (sym d) ∙ bears-it row there)
     (omega (arith, type-below b good _ there, c .presence-type .ensures .is))
@@ -79,7 +79,7 @@ loop-again c =
 returns-2 : tie.Need-returns-2 Inv-loop μ-loop
 returns-2 c =
     let x = c .before .before .before .before .before .before .before in
-    named-nowhere (sound-good (x .pre .0)) (x .args .schema .now) (x .pre .1 .0) (x .args .name .now)
+    named-nowhere (sound-good (x .pre .0)) (x .args .schema .now) (x .pre .1) (x .args .name .now)
     (λ k h. c .before .loop .inv .1 k (omega (arith, c .loop-test .left, c .before .before .span .ensures)))
 
 pub type-named-spec : {M : Type 1} → statement M

@@ -23,7 +23,8 @@ use Rattle.base.specs.Table.{Rises, Put-in, written, closed}
 use Rattle.base.specs.Stored.{Named, Applied, Ended, Ordered, less-row, Storable, Shows, Stored}
 use Rattle.base.proofs.Back.{long-sdss, long-types, long-presences, long-applications}
 use Rattle.base.proofs.SdsWritten.{field-written}
-use Rattle.base.proofs.OrderedLaws.{Unlike, Rows-of, of-presences, of-applications, of-ends, ordered-put, ordered-less, put-ready, put-opened, take-closed}
+use Rattle.base.proofs.OrderedLaws.{Unlike, Rows-of, of-presences, of-applications, of-ends, ordered-put, ordered-less}
+use Rattle.base.proofs.OrderedLaws.{put-ready, put-opened, take-closed}
 
 -- ---- the three tables
 
@@ -174,10 +175,10 @@ presence-unlike {s} st a u e =
 
 -- ---- applications
 
-pub application-built : (d t a : ℕ) → d < 256 → t < 256 → a < 256
+pub application-built : (d t a : ℕ) → (d < 256) × ((t < 256) × (a < 256))
     → d % 256 ∷ t % 256 ∷ a % 256 ∷ [] ≡ application-row (record { sds = d; to = t; attribute = a })
 unfolding application-row
-application-built d t a f g h =
+application-built d t a h =
     let d-is : d % 256 ≡ d = omega arith in
     let t-is : t % 256 ≡ t = omega arith in
     let a-is : a % 256 ≡ a = omega arith in
@@ -198,13 +199,13 @@ side-of zero h = refl
 side-of (suc zero) h = refl
 side-of (suc (suc k)) h = absurd (omega arith)
 
-pub end-built : (d l k o : ℕ) → d < 256 → l < 256 → k < 2 → o < 256
+pub end-built : (d l k o : ℕ) → (d < 256) × ((l < 256) × ((k < 2) × (o < 256)))
     → d % 256 ∷ l % 256 ∷ k % 256 ∷ o % 256 ∷ [] ≡ end-row (record { sds = d; link = l; side = read-side k; object = o })
 unfolding end-row
-end-built d l k o e f g h =
+end-built d l k o h =
     let d-is : d % 256 ≡ d = omega arith in
     let l-is : l % 256 ≡ l = omega arith in
-    let k-is : k % 256 ≡ side-code (read-side k) = omega (arith, side-of k g) in
+    let k-is : k % 256 ≡ side-code (read-side k) = omega (arith, side-of k (h .1 .1 .0)) in
     let o-is : o % 256 ≡ o = omega arith in
     λ i. d-is i ∷ l-is i ∷ k-is i ∷ o-is i ∷ []
 

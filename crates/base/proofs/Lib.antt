@@ -13,3 +13,4 @@ pub mod OrderLaws
 pub mod StoredLaws
 pub mod OrderedLaws
 pub mod EditLaws
+pub mod TypeWritten

@@ -1,13 +1,14 @@
 -- Bytes that hold a schema, whatever else is true of it: within a call a type has its row before it has its presence.
 use Prim.Native.Nat.{ℕ, suc, _≤_}
 use mathlib.Core.Path.{_≡_}
-use mathlib.Core.List.{List, _++_}
+use mathlib.Core.List.{List, _∷_, _++_}
 use mathlib.Core.Bool.{Bool, true}
-use lib.ListN.{length, take, drop}
+use lib.ListN.{length, take, drop, set}
 use Rattle.rules.specs.01-Lists.{_∈_, rising}
 use Rattle.rules.specs.03-Names.{Name, well-formed}
 use Rattle.rules.specs.04-Schema.{Schema, Kind, Presence, Application, End, presence-before, application-before, end-before}
-use Rattle.rules.specs.07-Picture.{sds-row, type-row, picture}
+use Rattle.rules.specs.07-Picture.{pad, sds-row, type-row, picture}
+use Rattle.rules.specs.10-Changes.{with-types}
 use Rattle.rules.proofs.07-Picture.{strip, read-kind}
 use Rattle.base.specs.Back.{schema-of}
 
@@ -51,3 +52,15 @@ pub record Shows (b : List ℕ) (s : Schema) : Type 0 where
 pub record Stored (b : List ℕ) : Type 0 where
   pub rows : Storable (schema-of b)
   pub shown : b ≡ picture (schema-of b)
+
+-- the row of a type, field by field
+abbrev pub type-fields : ℕ → ℕ → ℕ → List ℕ → List ℕ
+type-fields kind value reverse ps = kind ∷ value ∷ reverse ∷ length ps ∷ pad 4 ps
+
+-- b′ is b with type t of kind k
+abbrev pub Becomes : List ℕ → ℕ → Kind → List ℕ → Type 0
+Becomes b t k b′ = Shows b′ (with-types (schema-of b) (set ((schema-of b) .types) t k))
+
+-- of the kind, that is, which the row shows
+pub record Type-written (b : List ℕ) (t : ℕ) (row b′ : List ℕ) : Type 0 where
+  pub shows : (k : Kind) → type-row k ≡ row → read-kind (type-row k) ≡ k → Becomes b t k b′

@@ -15,7 +15,7 @@ ghost use Rattle.rules.specs.07-Picture.{presence-row};
 ghost use Rattle.rules.specs.10-Changes.{with-presences, with-applications, with-ends};
 ghost use Rattle.rules.proofs.07-Picture.{read-side};
 ghost use Rattle.base.specs.Back.{schema-of, presence-count, application-count, end-count};
-ghost use Rattle.base.specs.Stored.{Stored, Shows, less-row};
+ghost use Rattle.base.specs.Stored.{Stored, Shows, less-row, Type-written, type-fields};
 
 // ---- presences
 
@@ -117,4 +117,36 @@ pub fn take_end(base: &mut [u8], i: usize)
     let at = Base::ENDS_AT + i * Base::END_WIDTH;
     let end = Base::ENDS_AT + n * Base::END_WIDTH;
     table::take_row(base, at, end, Base::END_WIDTH);
+}
+
+// ---- types
+
+// The row of type t: its kind, the value kind or category, the reverse, the parents. What a kind lacks is 0, or no parents.
+pub fn write_type(
+    base: &mut [u8],
+    t: usize,
+    kind: usize,
+    value: usize,
+    reverse: usize,
+    parents: &[u8],
+)
+    requires { ⌜ Stored (now base) ⌝ }
+    requires { ⌜ t < 128 ⌝ }
+    requires { ⌜ (kind < 256) × ((value < 256) × (reverse < 256)) ⌝ }
+    requires { ⌜ length (now parents) ≤ 4 ⌝ }
+    ensures { λ _. ⌜ Type-written (now (base .entry)) t (type-fields kind value reverse (now (parents .entry))) (now (base .exit)) ⌝ }
+{
+    let mut row = [
+        (kind % 256) as u8,
+        (value % 256) as u8,
+        (reverse % 256) as u8,
+        (parents.len() % 256) as u8,
+        0,
+        0,
+        0,
+        0,
+    ];
+    table::write(&mut row, 4, parents);
+    let at = Base::TYPES_AT + t * Base::TYPE_WIDTH;
+    table::write(base, at, &row);
 }

@@ -1,6 +1,6 @@
 -- `base::edit::put_application` meets its contract: the row goes in at its place among the applications. Assumes nothing.
 use borrow.Author.Needs.{needs}
-use mathlib.Core.Path.{_≡_, sym, _∙_}
+use mathlib.Core.Path.{sym, _∙_}
 use Rattle.rules.specs.04-Schema.{Application}
 use Rattle.base.proofs.Shown.{applications-long}
 use Rattle.base.proofs.StoredLaws.{stored-long}
@@ -28,7 +28,7 @@ put-in-requires c κs =
     let x = c .before .before .before .before .before in
     let row : Application = record { sds = x .args .d; to = x .args .t; attribute = x .args .a } in
     let many = c .before .before .application-count .ensures .is ∙ sym (applications-long (x .args .base .now)) in
-    ready the-applications (x .pre .0) row (x .pre .1 .1 .0) many (application-built _ _ _ (x .pre .1 .0 .1 .0) (x .pre .1 .0 .1 .1 .0) (x .pre .1 .0 .1 .1 .1))
+    ready the-applications (x .pre .0) row (x .pre .1 .1 .0) many (application-built _ _ _ (x .pre .1 .0 .1))
 
 same-length : tie.Need-same-length
 same-length c = search needs
@@ -38,7 +38,7 @@ returns c =
     let x = c .before .before .before .before .before .before .before .before in
     let row : Application = record { sds = x .args .d; to = x .args .t; attribute = x .args .a } in
     let many = c .before .before .before .before .before .application-count .ensures .is ∙ sym (applications-long (x .args .base .now)) in
-    row-put the-applications (x .pre .0) row (x .pre .1 .1 .0) many (application-built _ _ _ (x .pre .1 .0 .1 .0) (x .pre .1 .0 .1 .1 .0) (x .pre .1 .0 .1 .1 .1))
+    row-put the-applications (x .pre .0) row (x .pre .1 .1 .0) many (application-built _ _ _ (x .pre .1 .0 .1))
     (x .pre .1 .0 .0) (application-unlike _ row (x .pre .1 .1 .1)) (c .before .before .put-in .ensures)
 
 pub put-application-spec : {M : Type 1} → statement M

@@ -1,6 +1,6 @@
 -- `base::edit::put_end` meets its contract: the row goes in at its place among the ends. Assumes nothing.
 use borrow.Author.Needs.{needs}
-use mathlib.Core.Path.{_≡_, sym, _∙_}
+use mathlib.Core.Path.{sym, _∙_}
 use Rattle.rules.specs.04-Schema.{End}
 use Rattle.rules.proofs.07-Picture.{read-side}
 use Rattle.base.proofs.Shown.{ends-long}
@@ -32,7 +32,7 @@ put-in-requires c κs =
     let x = c .before .before .before .before .before in
     let row : End = record { sds = x .args .d; link = x .args .l; side = read-side (x .args .side); object = x .args .o } in
     let many = c .before .before .end-count .ensures .is ∙ sym (ends-long (x .args .base .now)) in
-    ready the-ends (x .pre .0) row (x .pre .1 .1 .0) many (end-built _ _ _ _ (x .pre .1 .0 .1 .0) (x .pre .1 .0 .1 .1 .0) (x .pre .1 .0 .1 .1 .1 .0) (x .pre .1 .0 .1 .1 .1 .1))
+    ready the-ends (x .pre .0) row (x .pre .1 .1 .0) many (end-built _ _ _ _ (x .pre .1 .0 .1))
 
 same-length : tie.Need-same-length
 same-length c = search needs
@@ -42,7 +42,7 @@ returns c =
     let x = c .before .before .before .before .before .before .before .before in
     let row : End = record { sds = x .args .d; link = x .args .l; side = read-side (x .args .side); object = x .args .o } in
     let many = c .before .before .before .before .before .end-count .ensures .is ∙ sym (ends-long (x .args .base .now)) in
-    row-put the-ends (x .pre .0) row (x .pre .1 .1 .0) many (end-built _ _ _ _ (x .pre .1 .0 .1 .0) (x .pre .1 .0 .1 .1 .0) (x .pre .1 .0 .1 .1 .1 .0) (x .pre .1 .0 .1 .1 .1 .1))
+    row-put the-ends (x .pre .0) row (x .pre .1 .1 .0) many (end-built _ _ _ _ (x .pre .1 .0 .1))
     (x .pre .1 .0 .0) (end-unlike _ row (x .pre .1 .1 .1)) (c .before .before .put-in .ensures)
 
 pub put-end-spec : {M : Type 1} → statement M

@@ -8,17 +8,17 @@ use lib.Dec.{eqb}
 use lib.ListN.{length, set, replicate, length-append}
 use borrow.Author.Tests.{eq-eqb}
 use Rattle.rules.specs.01-Lists.{_∈_, any, put}
-use Rattle.rules.specs.03-Names.{Name, well-formed, same-name}
+use Rattle.rules.specs.03-Names.{same-name}
 use Rattle.rules.specs.04-Schema.{Schema, Presence, Application, End, holds-name, bears, is-application, applied, is-end, has-end, side-code}
 use Rattle.rules.specs.04-Schema.{presence-before, application-before, end-before}
-use Rattle.rules.specs.07-Picture.{pad, presence-row, application-row, end-row, table, sds-table, type-table, presence-table}
+use Rattle.rules.specs.07-Picture.{presence-row, application-row, end-row, table, sds-table, type-table, presence-table}
 use Rattle.rules.specs.07-Picture.{application-table, end-table, picture}
 use Rattle.rules.specs.10-Changes.{with-presences, with-applications, with-ends}
 use Rattle.rules.proofs.Bools.{and-of}
 use Rattle.rules.proofs.01-Lists.{any-at}
 use Rattle.rules.proofs.03-Names.{same-name-refl}
 use Rattle.rules.proofs.07-Picture.{read-presence, read-application, read-side, read-end, presence-back, application-back, end-back}
-use Rattle.base.specs.Back.{schema-of, presence-count, application-count, end-count}
+use Rattle.base.specs.Back.{schema-of}
 use Rattle.base.specs.Table.{Rises, Put-in, written, closed}
 use Rattle.base.specs.Stored.{Named, Applied, Ended, Ordered, less-row, Storable, Shows, Stored}
 use Rattle.base.proofs.Back.{long-sdss, long-types, long-presences, long-applications}
@@ -141,7 +141,8 @@ module _ {A : Type 0} {w : ℕ} {row : A → List ℕ} {Used : A → Type 0} {be
         → Shows b′ (with-rows s (put before a (rows-in s)))
     row-put u unlike p = record {
       rows = t .storable (x .rows) (ordered-put (t .of) (t .kept (x .rows)) a u less unlike);
-      shown = put-opened (t .of) (t .kept (x .rows)) (t .pre s) (t .post s) (t .long s) in-picture a less many is u p ∙ sym (t .other s (put before a (rows-in s)));
+      shown = put-opened (t .of) (t .kept (x .rows)) (t .pre s) (t .post s) (t .long s) in-picture a less many is u p
+          ∙ sym (t .other s (put before a (rows-in s)));
     }
 
   pub row-taken : {count : ℕ} → count ≡ length (rows-in s) → (k : ℕ) → k < count → {b′ : List ℕ}

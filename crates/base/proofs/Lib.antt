@@ -14,3 +14,4 @@ pub mod StoredLaws
 pub mod OrderedLaws
 pub mod EditLaws
 pub mod TypeWritten
+pub mod TakenLaws

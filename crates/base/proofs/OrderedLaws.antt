@@ -4,26 +4,26 @@ use native.Mathlib.Nat.{mul-le-mul-right}
 use native.Mathlib.Omega.{arith}
 use mathlib.Core.Path.{_≡_, refl, sym, ap, _∙_, subst}
 use mathlib.Core.Logic.{_⊎_, inl, inr, ⊎-elim}
-use mathlib.Core.List.{List, [], _∷_, _++_, List·Memᴰ·not-nil, List·Memᴰ·cases-cons}
+use mathlib.Core.List.{List, [], _∷_, _++_, append-nil, List·Memᴰ·cases-cons}
 use mathlib.Core.List.List·Memᴰ.{List·Memᴰ·head, List·Memᴰ·tail}
-use mathlib.Core.Bool.{Bool, true, false, not, cond, _&&_, _||_, true≢false, false≢true, and-false, or-false}
+use mathlib.Core.Bool.{Bool, true, false, not, cond, _&&_, _||_, true≢false, and-false, or-false}
 use lib.Dec.{ltb, eqb}
 use lib.ListN.{length, getD, take, drop, length-append, length-take, length-drop}
 use lib.Seq.{drop-at}
-use borrow.Author.Tests.{ltb-true, ltb-false, lt-ltb, le-ltb, eq-eqb, ne-eqb}
-use Rattle.rules.specs.01-Lists.{_∈_, bytes-before, rising, put}
-use Rattle.rules.specs.04-Schema.{Presence, Application, End, presence-before, application-before, end-before, side-code}
+use borrow.Author.Tests.{ltb-true, ltb-false, eq-eqb, ne-eqb}
+use Rattle.rules.specs.01-Lists.{_∈_, bytes-before, without, rising, put}
+use Rattle.rules.specs.04-Schema.{Presence, Application, End, presence-before, application-before, end-before}
 use Rattle.rules.specs.07-Picture.{pad, presence-row, application-row, end-row, table}
 use Rattle.rules.proofs.Bools.{and-both, and-of}
-use Rattle.rules.proofs.01-Lists.{place-in, before-transitive, before-connected, rising-at}
+use Rattle.rules.proofs.01-Lists.{place-in, before-irreflexive, before-transitive, before-connected, rising-at}
 use Rattle.rules.proofs.03-Names.{pad-before}
 use Rattle.rules.proofs.07-Picture.{length-pad, length-table, wide-presence, wide-application, wide-end}
 use Rattle.base.specs.Rows.{part}
-use Rattle.base.specs.Table.{Rises, Place, Put-in, opened, closed}
+use Rattle.base.specs.Table.{Rises, Put-in, closed}
 use Rattle.base.specs.Stored.{Named, Applied, Ended, Ordered, less-row}
 use Rattle.base.proofs.Scan.{rising-far}
 use Rattle.base.proofs.Back.{row-there}
-use Rattle.base.proofs.TableLaws.{row-fits, put-at, table-opened, table-closed}
+use Rattle.base.proofs.TableLaws.{row-fits, put-at, without-at, table-opened, table-closed}
 
 -- ---- the bytes of two rows stand as the rows do
 
@@ -186,6 +186,9 @@ module _ {A : Type 0} {w : ℕ} {row : A → List ℕ} {Used : A → Type 0} {be
         ∙ before-transitive (row x) (row y) (row z) (t .order x y u (o .used y j) ∙ p) (t .order y z (o .used y j) v ∙ q));
   }
 
+  used-at : (d : A) (i : ℕ) → i < length rs → Used (getD rs i d)
+  used-at d i h = o .used (getD rs i d) (place-in d rs i h)
+
   -- they stand in b from `start` on
   module _ {start : ℕ} {b : List ℕ} (pre post : List ℕ) (long : start ≡ length pre) (whole : b ≡ pre ++ (table w row n rs ++ post)) where
     from-start : drop start b ≡ table w row n rs ++ post
@@ -209,8 +212,7 @@ module _ {A : Type 0} {w : ℕ} {row : A → List ℕ} {Used : A → Type 0} {be
       room = omega (arith, table-fits, mul-le-mul-right w (o .room));
       rise = rising-far b start w w (length rs) (λ i h.
           rw (row-is d i (omega arith), row-is d (suc i) h)
-          (t .order (getD rs i d) (getD rs (suc i) d) (o .used (getD rs i d) (place-in d rs i (omega arith))) (o .used (getD rs (suc i) d) (place-in d rs (suc i) h))
-          ∙ rising-at before d rs (o .rise) i h));
+          (t .order (getD rs i d) (getD rs (suc i) d) (used-at d i (omega arith)) (used-at d (suc i) h) ∙ rising-at before d rs (o .rise) i h));
     }
 
     module _ (a : A) (less : length rs < n) {count : ℕ} {key : List ℕ} (many : count ≡ length rs) (is : key ≡ row a) where
@@ -225,7 +227,7 @@ module _ {A : Type 0} {w : ℕ} {row : A → List ℕ} {Used : A → Type 0} {be
           let k = x .at in
           let p = x .place in
           let there : (i : ℕ) → i < length rs → before (getD rs i a) a ≡ bytes-before (part b (start + i * length (row a)) (length (row a))) (row a)
-          = λ i l. rw (t .wide a, row-is a i l) (sym (t .order (getD rs i a) a (o .used (getD rs i a) (place-in a rs i l)) u)) in
+          = λ i l. rw (t .wide a, row-is a i l) (sym (t .order (getD rs i a) a (used-at a i l) u)) in
           let here : put before a rs ≡ take k rs ++ a ∷ drop k rs
           = put-at before a a rs k (p .most) (λ i l. there i (omega (arith, p .most)) ∙ p .earlier i l) (λ i l m. there i m ∙ p .later i l m) in
           x .is ∙ rw (t .wide a, whole, long, here) (table-opened w row (t .wide) n rs pre post k a (p .most) less)
@@ -233,3 +235,29 @@ module _ {A : Type 0} {w : ℕ} {row : A → List ℕ} {Used : A → Type 0} {be
     pub take-closed : {count : ℕ} → count ≡ length rs → (k : ℕ) → k < count
         → closed b (start + k * w) (start + count * w) w ≡ pre ++ (table w row n (less-row k rs) ++ post)
     take-closed many k h = rw (whole, long, many) (table-closed w row (t .wide) n rs pre post k (omega arith) (o .room))
+
+  -- no element stands twice
+  once : (d : A) (i j : ℕ) → i < length rs → j < length rs → getD rs i d ≡ getD rs j d → i ≡ j
+  once d i j h k e = go (ltb i j) refl (ltb j i) refl
+    where
+      whole : table w row n rs ≡ [] ++ (table w row n rs ++ [])
+      whole = sym (append-nil (table w row n rs))
+
+      never : (i j : ℕ) → j < length rs → i < j → getD rs i d ≡ getD rs j d → ⊥
+      never i j k l e =
+          true≢false (sym (rises [] [] refl whole d .rise i j l k)
+          ∙ rw (row-is [] [] refl whole d i (omega arith), row-is [] [] refl whole d j k, e) (before-irreflexive (row (getD rs j d))))
+
+      go : (x : Bool) → ltb i j ≡ x → (y : Bool) → ltb j i ≡ y → i ≡ j
+      go true p y q = absurd (never i j k (ltb-true i j p) e)
+      go false p true q = absurd (never j i h (ltb-true j i q) (sym e))
+      go false p false q = omega (arith, ltb-false i j p, ltb-false j i q)
+
+  -- taking out row i is taking out what passes a test, where row i does and whatever does is like it
+  pub without-row : (d : A) (q : A → Bool) (i : ℕ) → i < length rs → q (getD rs i d) ≡ true → ((y : A) → y ∈ rs → q y ≡ true → y ≡ getD rs i d)
+      → without q rs ≡ less-row i rs
+  without-row d q i h e alone = without-at q d rs i h e (λ j l ne. go j l ne (q (getD rs j d)) refl)
+    where
+      go : (j : ℕ) → j < length rs → (j ≡ i → ⊥) → (x : Bool) → q (getD rs j d) ≡ x → q (getD rs j d) ≡ false
+      go j l ne true p = absurd (ne (once d j i l h (alone (getD rs j d) (place-in d rs j l) p)))
+      go j l ne false p = p

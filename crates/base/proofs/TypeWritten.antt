@@ -1,7 +1,7 @@
 -- A row over that of a type is that kind in the schema. Assumes nothing.
 use Prim.Native.Nat.{ℕ, zero, suc, _+_, _*_, _%_, _≤_, _<_}
 use native.Mathlib.Omega.{arith}
-use mathlib.Core.Path.{_≡_, refl, sym, ap, _∙_, subst}
+use mathlib.Core.Path.{_≡_, refl, sym, ap, _∙_}
 use mathlib.Core.Logic.{_⊎_, inl, inr, ⊎-elim}
 use mathlib.Core.List.{List, [], _∷_, _++_, append-nil, List·Memᴰ·cases-cons}
 use mathlib.Core.List.List·Memᴰ.{List·Memᴰ·head, List·Memᴰ·tail}
@@ -9,9 +9,9 @@ use lib.ListN.{length, set, length-set}
 use Rattle.rules.specs.01-Lists.{_∈_}
 use Rattle.rules.specs.04-Schema.{Schema, Kind}
 use Rattle.rules.specs.04-Schema.Kind.{unused, object, attribute, designation, paired}
-use Rattle.rules.specs.07-Picture.{pad, type-row, table, sds-table, type-table, presence-table, application-table, end-table, picture}
+use Rattle.rules.specs.07-Picture.{pad, type-row, sds-table, type-table, presence-table, application-table, end-table, picture}
 use Rattle.rules.specs.10-Changes.{with-types}
-use Rattle.rules.proofs.07-Picture.{read-kind, wide-type, length-pad, kind-back}
+use Rattle.rules.proofs.07-Picture.{read-kind, wide-type, kind-back}
 use Rattle.rules.proofs.07-Picture.Fitting.{fits-unused, fits-object, fits-attribute, fits-designation, fits-paired}
 use Rattle.base.specs.Rows.{type-at}
 use Rattle.base.specs.Back.{schema-of}

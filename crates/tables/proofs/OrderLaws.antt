@@ -24,6 +24,7 @@ use Rattle.base.specs.Back.{schema-of, presence-count, application-count, end-c
 use Rattle.base.proofs.Scan.{rising-far, part-cons, length-part}
 use Rattle.base.proofs.Shown.{presences-long, applications-long, ends-long, presence-is, application-is, end-is, presence-in, presence-there}
 use Rattle.base.proofs.Back.{no-application, no-end}
+use Rattle.base.proofs.OrderedLaws.{application-rows, end-rows}
 
 -- neither of two numbers is less
 equal : (i j : ℕ) → (i < j → ⊥) → (j < i → ⊥) → i ≡ j
@@ -137,17 +138,6 @@ module _ (b : List ℕ)
       fronts i (suc i) (omega arith) k ∙ presence-front p q before apart
 
 -- ---- applications and ends: as their bytes stand
-
-last-byte : (x y : ℕ) → ltb x y || (eqb x y && false) ≡ ltb x y
-last-byte x y = rw (and-false (eqb x y)) (or-false (ltb x y))
-
-application-rows : (x y : Application) → bytes-before (application-row x) (application-row y) ≡ application-before x y
-unfolding bytes-before application-row application-before
-application-rows x y = rw (last-byte (x .attribute) (y .attribute))
-
-end-rows : (x y : End) → bytes-before (end-row x) (end-row y) ≡ end-before x y
-unfolding bytes-before end-row end-before
-end-rows x y = rw (last-byte (x .object) (y .object))
 
 module _ (b : List ℕ) where
   application-bytes : (i : ℕ) → application-at i + 3 ≤ length b → part b (application-at i) 3 ≡ application-row (application-shown b i)

@@ -5,15 +5,14 @@ use native.Mathlib.Omega.{arith}
 use mathlib.Core.Path.{_≡_, refl, sym, ap, _∙_, subst}
 use mathlib.Core.Logic.{⊎-elim}
 use mathlib.Core.List.{List, [], _∷_, _++_}
-use mathlib.Core.Bool.{Bool, true, false, not, _&&_, _||_, true≢false, false≢true, and-false, or-false}
+use mathlib.Core.Bool.{Bool, true, false, not, _&&_, _||_, true≢false, false≢true}
 use lib.Dec.{ltb, eqb}
 use lib.ListN.{length, getD, take, drop}
 use lib.Seq.{take-at, take-take}
 use borrow.Author.Tests.{ltb-true, ltb-false, le-ltb, eqb-true, eq-eqb}
 use Rattle.rules.specs.01-Lists.{_∈_, bytes-before, rising}
 use Rattle.rules.specs.03-Names.{Name, well-formed, same-name, name-before}
-use Rattle.rules.specs.04-Schema.{Presence, Application, Side, End, side-code, system-presence, presence-before, application-before, end-before}
-use Rattle.rules.specs.04-Schema.Side.{origin, destination}
+use Rattle.rules.specs.04-Schema.{Presence, system-presence, presence-before, application-before, end-before}
 use Rattle.rules.specs.07-Picture.{pad, presence-row, application-row, end-row}
 use Rattle.rules.proofs.Bools.{or-cases, or-left, or-right, and-both, and-of}
 use Rattle.rules.proofs.01-Lists.{before-irreflexive, before-connected, rising-at, at-rising}

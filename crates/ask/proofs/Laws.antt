@@ -4,9 +4,9 @@ use native.Mathlib.Omega.{arith}
 use mathlib.Core.Path.{_≡_, refl, sym, ap, _∙_}
 use mathlib.Core.List.{List, []}
 use mathlib.Core.Bool.{Bool, true, false, not}
-use lib.Dec.{leb, eqb}
+use lib.Dec.{leb, ltb}
 use lib.ListN.{length, getD, take, drop}
-use borrow.Author.Tests.{leb-true, leb-false, eq-eqb, eqb-true}
+use borrow.Author.Tests.{leb-true, leb-false, lt-ltb, le-ltb}
 use Rattle.rules.specs.declared.Answer.{Answer}
 use Rattle.rules.specs.04-Schema.{Schema, Presence, system-presence, holds-type, present, local-name}
 use Rattle.rules.specs.07-Picture.{Sound, name-start}
@@ -14,15 +14,14 @@ use Rattle.rules.specs.09-Refusals.{Outcome, not-present}
 use Rattle.rules.specs.09-Refusals.Outcome.{done}
 use Rattle.rules.specs.11-Asks.{place, name, name-refusals}
 use Rattle.rules.specs.12-Contracts.{Answered, Handed, stretch}
-use Rattle.rules.proofs.Bools.{and-both, and-of}
-use Rattle.rules.proofs.01-Lists.{any-at, any-none}
 use Rattle.rules.proofs.07-Picture.{strip}
 use Rattle.rules.proofs.09-Refusals.{Left}
 use Rattle.rules.proofs.11-Asks.{place-is, local-at, name-start-is, name-within}
 use Rattle.base.specs.Rows.{presence-at, part}
 use Rattle.base.specs.Back.{schema-of, presence-shown, presence-count}
-use Rattle.base.specs.Found.{Row-of, Presence-row}
-use Rattle.base.proofs.Shown.{presences-long, presence-is, presence-there, presence-in}
+use Rattle.base.specs.Found.{Presence-row, First-row}
+use Rattle.base.proofs.Shown.{presences-long, presence-is}
+use Rattle.base.proofs.Walked.{first-presence, presence-first}
 use Rattle.base.proofs.Kept.{sound-long}
 
 abbrev pub name-effect : ℕ → ℕ → Schema → Outcome (List ℕ)
@@ -34,34 +33,22 @@ unfolding name
 name-left d t s = record { is = refl }
 
 module _ (b : List ℕ) (d t : ℕ) where
-  row-holds : (i : ℕ) → Row-of b i d t → holds-type d t (presence-shown b i) ≡ true
-  row-holds i w = and-of (eqb (getD b (presence-at i) 0) d) (eqb (getD b (presence-at i + 17) 0) t) (eq-eqb _ d (w .0)) (eq-eqb _ t (w .1))
-
-  holds-row : (i : ℕ) → holds-type d t (presence-shown b i) ≡ true → Row-of b i d t
-  holds-row i e =
-      let (x, y) = and-both (eqb (getD b (presence-at i) 0) d) (eqb (getD b (presence-at i + 17) 0) t) e in
-      (eqb-true _ d x, eqb-true _ t y)
-
-  not-row : (i : ℕ) → (Row-of b i d t → ⊥) → holds-type d t (presence-shown b i) ≡ false
-  not-row i n = go (holds-type d t (presence-shown b i)) refl
-    where
-      go : (x : Bool) → holds-type d t (presence-shown b i) ≡ x → holds-type d t (presence-shown b i) ≡ false
-      go true e = absurd (n (holds-row i e))
-      go false e = e
-
   module _ {r : ℕ} (found : Presence-row b (presence-count b) d t r) where
+    first-is : First-row (presence-count b) (λ i. holds-type d t (presence-shown b i)) r
+    first-is = presence-first b d t found
+
+    is-there : ltb r (presence-count b) ≡ present (schema-of b) d t
+    unfolding present
+    is-there = first-presence b (holds-type d t) first-is
+
     -- no row was found
     pub name-nowhere : r ≡ presence-count b → not-present (schema-of b) d t ≡ true
-    unfolding not-present present
-    name-nowhere e =
-        ap not (any-none (holds-type d t) ((schema-of b) .presences) (λ p i.
-        let (k, h, q) = presence-in b p i in
-        ap (holds-type d t) q ∙ not-row k (found .others k (omega arith))))
+    unfolding not-present
+    name-nowhere e = ap not (sym is-there ∙ le-ltb r (presence-count b) (omega arith))
 
     module _ (h : r < presence-count b) where
       here : present (schema-of b) d t ≡ true
-      unfolding present
-      here = any-at (holds-type d t) (presence-there b r h) (row-holds r (found .found h))
+      here = sym is-there ∙ lt-ltb r (presence-count b) h
 
       pub name-there : not-present (schema-of b) d t ≡ false
       unfolding not-present
@@ -70,8 +57,8 @@ module _ (b : List ℕ) (d t : ℕ) where
       row-is : place (holds-type d t) ((schema-of b) .presences) ≡ r
       row-is =
           place-is (holds-type d t) system-presence ((schema-of b) .presences) r (omega (arith, presences-long b))
-          (λ i k. ap (holds-type d t) (presence-is b i system-presence (omega arith)) ∙ not-row i (found .others i k))
-          (ap (holds-type d t) (presence-is b r system-presence h) ∙ row-holds r (found .found h))
+          (λ i k. ap (holds-type d t) (presence-is b i system-presence (omega arith)) ∙ first-is .others i k)
+          (ap (holds-type d t) (presence-is b r system-presence h) ∙ first-is .found h)
 
       pub start-is : presence-at r + 1 ≡ name-start (schema-of b) (place (holds-type d t) ((schema-of b) .presences))
       start-is = sym (name-start-is (schema-of b) (place (holds-type d t) ((schema-of b) .presences)) ∙ ap (λ (k : ℕ). 1280 + k * 18 + 1) row-is)

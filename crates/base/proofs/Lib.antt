@@ -2,6 +2,7 @@ pub mod Rows
 pub mod Scan
 pub mod Back
 pub mod Shown
+pub mod Walked
 pub mod Decides
 pub mod TableLaws
 pub mod FindLaws

@@ -2,7 +2,7 @@
 use Prim.Native.Nat.{ℕ, _+_, _≤_, _<_}
 use mathlib.Core.Path.{_≡_}
 use mathlib.Core.List.{List}
-use mathlib.Core.Bool.{true, false}
+use mathlib.Core.Bool.{Bool, true, false}
 use lib.ListN.{getD}
 use Rattle.rules.specs.04-Schema.{used-sds}
 use Rattle.base.specs.Rows.{presence-at, end-at, End-row}
@@ -23,6 +23,12 @@ pub record Presence-row (b : List ℕ) (n d t r : ℕ) : Type 0 where
   pub fits : r ≤ n
   pub others : (i : ℕ) → i < r → Row-of b i d t → ⊥
   pub found : r < n → Row-of b r d t
+
+-- r is the first of n rows that passes, and n where none does
+pub record First-row (n : ℕ) (passes : ℕ → Bool) (r : ℕ) : Type 0 where
+  pub fits : r ≤ n
+  pub others : (i : ℕ) → i < r → passes i ≡ false
+  pub found : r < n → passes r ≡ true
 
 -- row i is one of the n ends, and has these bytes
 pub record End-at (b : List ℕ) (n i d l side o : ℕ) : Type 0 where

@@ -1,4 +1,6 @@
 // The changing calls. Each tests the refusals of its rule in their order, and writes only where none holds.
+pub mod conditions;
+
 use base::Base;
 use rules::Answer;
 use rules::Limits;

@@ -157,7 +157,7 @@ module _ {b : List ℕ} (parental : Parental b) (set : ℕ → Bool) (t : ℕ) (
 
 -- ---- an end and its mirror
 
-side-same : (x : ℕ) → x ≤ 1 → side-code (read-side x) ≡ x
+pub side-same : (x : ℕ) → x ≤ 1 → side-code (read-side x) ≡ x
 unfolding read-side
 side-same zero h = refl
 side-same (suc zero) h = refl

@@ -1,6 +1,5 @@
 -- `working::find::type_in` meets its contract. Assumes nothing.
 use native.Mathlib.Omega.{arith}
-use mathlib.Core.Path.{_≡_}
 use Rattle.base.proofs.Back.{sound-good}
 use Rattle.base.proofs.Kept.{sound-long}
 use Rattle.working.proofs.FindLaws.{named-here, named-not-here}

@@ -33,6 +33,12 @@ cf_answer cf_new_sds(uint8_t *base, size_t base_len, const uint8_t *name, size_t
  * 1: the base is not sound; 2: no SDS has the number; 3: it is SDS 0; 12: it holds a type. */
 cf_answer cf_remove_sds(uint8_t *base, size_t base_len, size_t sds);
 
+/* Gives a type another local name in an SDS. Its own present name is accepted and changes nothing.
+ * 1: the base is not sound; 2: no SDS has the number; 3: it is SDS 0; 4: a name is malformed; 6: no type bears the name
+ * in that SDS; 11: another type bears the new one there. */
+cf_answer cf_rename(uint8_t *base, size_t base_len, size_t sds, const uint8_t *name, size_t name_len,
+                    const uint8_t *new_name, size_t new_name_len);
+
 /* Where the local name of a type in an SDS stands. one: its start in the base; two: its length. A later change of the
  * base may move it.
  * 1: the base is not sound; 2: no SDS has the number; 6: the type is not in that SDS. */

@@ -29,6 +29,7 @@ struct lent {
     CALL(fresh, BASE) \
     CALL(new_sds, BASE, TEXT(0)) \
     CALL(remove_sds, BASE, NUMBER(0)) \
+    CALL(rename, BASE, NUMBER(0), TEXT(0), TEXT(1)) \
     CALL(name, BASE, NUMBER(0), NUMBER(1)) \
     CALL(scan_object, BASE, TEXT(0), NUMBER(0), NUMBER(1), OUTPUT) \
     CALL(scan_link, BASE, TEXT(0), NUMBER(0), NUMBER(1), OUTPUT) \

@@ -56,10 +56,13 @@ static int is_kept(void)
 }
 
 /* The calls on the base; a name is a string, which holds no byte 0. */
+#define TEXT(text) (const uint8_t *)(text), strlen(text)
 static cf_answer fresh(void) { return cf_fresh(base, LENGTH); }
-static cf_answer new_sds(const char *name) { return cf_new_sds(base, LENGTH, (const uint8_t *)name, strlen(name)); }
+static cf_answer new_sds(const char *name) { return cf_new_sds(base, LENGTH, TEXT(name)); }
 static cf_answer remove_sds(size_t sds) { return cf_remove_sds(base, LENGTH, sds); }
 static cf_answer name(size_t sds, size_t type) { return cf_name(base, LENGTH, sds, type); }
+
+#define RENAME(sds, name, new_name) cf_rename(base, LENGTH, sds, TEXT(name), TEXT(new_name))
 
 /* The asking calls; a working schema is a string of bytes, written as SCHEMA("\1\2"). The output's length is the one
  * that is set before. */
@@ -69,7 +72,7 @@ static size_t output_length;
 #define SCAN_OBJECT(sdss, type, code) cf_scan_object(base, LENGTH, SCHEMA(sdss), type, code, output, output_length)
 #define SCAN_LINK(sdss, type, code) cf_scan_link(base, LENGTH, SCHEMA(sdss), type, code, output, output_length)
 #define PROFILE(sdss, type) cf_profile(base, LENGTH, SCHEMA(sdss), type, output, output_length)
-#define FIND(sdss, name) cf_find(base, LENGTH, SCHEMA(sdss), (const uint8_t *)(name), strlen(name))
+#define FIND(sdss, name) cf_find(base, LENGTH, SCHEMA(sdss), TEXT(name))
 #define DEPTH(sdss, type) cf_depth(base, LENGTH, SCHEMA(sdss), type)
 #define DESCENDANT_SET(sdss, type) cf_descendant_set(base, LENGTH, SCHEMA(sdss), type)
 
@@ -281,6 +284,33 @@ static void name_of_a_type(void)
     EXPECT(is_kept());
 }
 
+static int is_named(size_t sds, size_t type, const char *text)
+{
+    cf_answer found = name(sds, type);
+    return found.no == 0 && found.two == strlen(text) && memcmp(base + found.one, text, found.two) == 0;
+}
+
+static void another_name(void)
+{
+    a_base_with_fifo();
+    ANSWERS(RENAME(16, "fifo", "queue"), 2, 0, 0, 0);
+    ANSWERS(RENAME(0, "object", "object"), 3, 0, 0, 0);
+    ANSWERS(RENAME(1, "fifo", ""), 4, 0, 0, 0);
+    ANSWERS(RENAME(1, "", "queue"), 4, 0, 0, 0);
+    ANSWERS(RENAME(1, "queue", "fifo"), 6, 0, 0, 0);
+    ANSWERS(RENAME(1, "fifo", "radio"), 11, 0, 0, 0);
+    ANSWERS(RENAME(1, "fifo", "fifo"), 0, 0, 0, 0);
+    EXPECT(is_kept());
+    /* The row moves behind the last, and back. */
+    ANSWERS(RENAME(1, "fifo", "zz"), 0, 0, 0, 0);
+    EXPECT(is_named(1, FIFO, "zz") && is_named(1, FIFO2, "fifo2") && is_named(1, UNIT, "unit"));
+    ANSWERS(FIND("\1", "fifo"), 6, 0, 0, 0);
+    ANSWERS(FIND("\1", "zz"), 0, FIFO, 0, 0);
+    ANSWERS(RENAME(1, "zz", "fifo"), 0, 0, 0, 0);
+    EXPECT(is_kept());
+    EXPECT(is_guarded());
+}
+
 static void a_spoiled_base(void)
 {
     fresh();
@@ -288,6 +318,7 @@ static void a_spoiled_base(void)
     keep();
     ANSWERS(new_sds("bus"), 1, 0, 0, 0);
     ANSWERS(remove_sds(16), 1, 0, 0, 0);
+    ANSWERS(RENAME(0, "object", "object"), 1, 0, 0, 0);
     ANSWERS(name(0, 0), 1, 0, 0, 0);
     EXPECT(is_kept());
     ANSWERS(fresh(), 0, 0, 0, 0);
@@ -473,6 +504,7 @@ int main(void)
     sdss_come_and_go();
     numbers_at_full_width();
     name_of_a_type();
+    another_name();
     a_spoiled_base();
     a_fresh_base_asked();
     every_descendant();

@@ -2,7 +2,7 @@
 // says what the host owes.
 use base::Base;
 use rules::Answer;
-ghost use Rattle.rules.specs.10-Changes.{new-sds, remove-sds};
+ghost use Rattle.rules.specs.10-Changes.{new-sds, remove-sds, rename};
 ghost use Rattle.rules.specs.11-Asks.{scan-object, scan-link, profile, find, depth-of, name, descendant-set};
 ghost use Rattle.rules.specs.07-Picture.{base-length};
 ghost use Rattle.rules.specs.12-Contracts.{room, Kept, Listed, Answered, Freshened};
@@ -34,6 +34,13 @@ pub extern "C" fn cf_remove_sds(base: &mut [u8], sds: usize) -> Answer
     ensures { λ r. ⌜ Kept (now (base .entry)) (remove-sds sds) r (now (base .exit)) ⌝ }
 {
     change::remove_sds(base, sds)
+}
+
+#[no_mangle]
+pub extern "C" fn cf_rename(base: &mut [u8], sds: usize, name: &[u8], new: &[u8]) -> Answer
+    ensures { λ r. ⌜ Kept (now (base .entry)) (rename sds (now (name .entry)) (now (new .entry))) r (now (base .exit)) ⌝ }
+{
+    change::rename(base, sds, name, new)
 }
 
 #[no_mangle]

@@ -7,9 +7,9 @@
 --   05 Descent    ancestors, descendants, depth
 --   06 Good       what a sound base keeps, a field for each sentence
 --   07 Picture    a schema in bytes, and when a base is sound
---   08 Refusals   the numbers, each with its condition, and what an outcome is
---   09 Changes    calls 1 to 8
---   10 Working    what a working schema shows
+--   08 Working    what a working schema shows
+--   09 Refusals   the numbers, each with its condition, and what an outcome is
+--   10 Changes    calls 1 to 8
 --   11 Asks       calls 9 to 13
 --   12 Contracts  what each function of the keeper promises
 --   13 History    any sequence of calls, and demand 3

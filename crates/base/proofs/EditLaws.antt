@@ -152,7 +152,7 @@ module _ {A : Type 0} {w : ℕ} {row : A → List ℕ} {Used : A → Type 0} {be
     shown = e ∙ take-closed (t .of) (t .kept (x .rows)) (t .pre s) (t .post s) (t .long s) in-picture many k h ∙ sym (t .other s (less-row k (rows-in s)));
   }
 
--- a row that no test lets pass is like none that it does
+-- where no row passes a test that a does, none has its bytes
 unlike : {A : Type 0} (row : A → List ℕ) (read : List ℕ → A) (q : A → Bool) {a : A} {rs : List A}
     → ((y : A) → y ∈ rs → read (row y) ≡ y) → read (row a) ≡ a → q a ≡ true → any q rs ≡ false → Unlike row a rs
 unlike row read q back own it none y i e =

@@ -80,6 +80,12 @@ of-ends = record { wide = wide-end; order = λ x y f g. end-rows x y }
 
 -- ---- a list with one element more or less
 
+less-in : {A : Type 0} (k : ℕ) (rs : List A) {y : A} → y ∈ less-row k rs → y ∈ rs
+less-in zero [] i = i
+less-in (suc k) [] i = i
+less-in zero (x ∷ rs) i = List·Memᴰ·tail i
+less-in (suc k) (x ∷ rs) i = ⊎-elim (λ h. List·Memᴰ·head h) (λ h. List·Memᴰ·tail (less-in k rs h)) (List·Memᴰ·cases-cons i)
+
 module _ {A : Type 0} (before : A → A → Bool) where
   put-long : (a : A) (rs : List A) → length (put before a rs) ≡ suc (length rs)
   unfolding put
@@ -127,12 +133,6 @@ module _ {A : Type 0} (before : A → A → Bool) where
       go true q ih = put-behind x a rs q r ih
       go false q ih = and-of (before a x) (rising before (x ∷ rs)) (f x (List·Memᴰ·head refl) q) r
 
-  less-in : (k : ℕ) (rs : List A) {y : A} → y ∈ less-row k rs → y ∈ rs
-  less-in zero [] i = i
-  less-in (suc k) [] i = i
-  less-in zero (x ∷ rs) i = List·Memᴰ·tail i
-  less-in (suc k) (x ∷ rs) i = ⊎-elim (λ h. List·Memᴰ·head h) (λ h. List·Memᴰ·tail (less-in k rs h)) (List·Memᴰ·cases-cons i)
-
   less-rising : (k : ℕ) (rs : List A) → rising before rs ≡ true
       → ((x y z : A) → x ∈ rs → y ∈ rs → z ∈ rs → before x y ≡ true → before y z ≡ true → before x z ≡ true) → rising before (less-row k rs) ≡ true
   unfolding rising
@@ -178,7 +178,7 @@ module _ {A : Type 0} {w : ℕ} {row : A → List ℕ} {Used : A → Type 0} {be
   pub ordered-less : (k : ℕ) → Ordered Used before n (less-row k rs)
   ordered-less k = record {
     room = omega (arith, o .room, length-append (take k rs) (drop (suc k) rs), length-take k rs, length-drop (suc k) rs);
-    used = λ x i. o .used x (less-in before k rs i);
+    used = λ x i. o .used x (less-in k rs i);
     rise = less-rising before k rs (o .rise) (λ x y z i j l p q.
         let u = o .used x i in
         let v = o .used z l in

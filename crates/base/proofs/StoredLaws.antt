@@ -21,5 +21,9 @@ shows-stored {b} x =
     let same = sym (shows-schema x) in
     record { rows = subst (λ (s : Schema). Storable s) same (x .rows); shown = x .shown ∙ ap picture same }
 
+-- a second edit, of what a first one made
+pub shows-next : {b b′ : List ℕ} {s : Schema} (edit : Schema → Schema) → Shows b s → Shows b′ (edit (schema-of b)) → Shows b′ (edit s)
+shows-next {b′ = b′} edit x y = subst (λ (s : Schema). Shows b′ (edit s)) (shows-schema x) y
+
 pub stored-long : {b : List ℕ} → Stored b → length b ≡ base-length
 stored-long {b} x = ap length (x .shown) ∙ picture-length (schema-of b)

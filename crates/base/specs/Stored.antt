@@ -12,7 +12,7 @@ use Rattle.rules.specs.10-Changes.{with-types}
 use Rattle.rules.proofs.07-Picture.{strip, read-kind}
 use Rattle.base.specs.Back.{schema-of}
 
--- what tells a used row from an unused one
+-- what tells a used row from an unused one: a presence has a name, an application or an end an SDS other than 0
 abbrev pub Named : Presence → Type 0
 Named p = well-formed (p .name) ≡ true
 

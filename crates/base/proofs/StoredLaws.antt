@@ -16,10 +16,13 @@ sound-stored {b} s = record { rows = good-storable (sound-good s); shown = sym (
 pub shows-schema : {b : List ℕ} {s : Schema} → Shows b s → schema-of b ≡ s
 shows-schema x = ap schema-of (x .shown) ∙ storable-back (x .rows)
 
+-- what holds of the schema holds of what its bytes show
+pub shows-has : {b : List ℕ} {s : Schema} (P : Schema → Type 0) → Shows b s → P s → P (schema-of b)
+shows-has P x h = subst P (sym (shows-schema x)) h
+
 pub shows-stored : {b : List ℕ} {s : Schema} → Shows b s → Stored b
 shows-stored {b} x =
-    let same = sym (shows-schema x) in
-    record { rows = subst (λ (s : Schema). Storable s) same (x .rows); shown = x .shown ∙ ap picture same }
+    record { rows = shows-has (λ s. Storable s) x (x .rows); shown = x .shown ∙ ap picture (sym (shows-schema x)) }
 
 -- a second edit, of what a first one made
 pub shows-next : {b b′ : List ℕ} {s : Schema} (edit : Schema → Schema) → Shows b s → Shows b′ (edit (schema-of b)) → Shows b′ (edit s)

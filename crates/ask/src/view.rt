@@ -1,7 +1,6 @@
 // What the calls that ask about a type test of their inputs, once, in the order of their refusals; and what they then look through.
 use marks::TypeSet;
 ghost use mathlib.Core.Path.{_≡_};
-ghost use Prim.Native.Nat.{_<_};
 ghost use lib.ListN.{length};
 ghost use Rattle.rules.specs.04-Schema.{kind-of};
 ghost use Rattle.rules.specs.07-Picture.{base-length};
@@ -27,13 +26,13 @@ fn refused(no: usize) -> View
 
 // Whether t is a link type, or else an object type.
 fn is_of_kind(base: &[u8], t: usize, link: bool) -> bool
-    requires { ⌜ (length (now base) ≡ base-length) × (t < 128) ⌝ }
+    requires { ⌜ length (now base) ≡ base-length ⌝ }
     ensures { λ r. ⌜ r ≡ of-kind link (kind-of (schema-of (now (base .entry))) t) ⌝ }
 {
     if link {
-        return base::kind(base, t) == 3;
+        return base::find::is_kind(base, t, 3);
     }
-    base::kind(base, t) == 1
+    base::find::is_kind(base, t, 1)
 }
 
 // `known` is whether the call knows the scan code that it was given, if it takes one.

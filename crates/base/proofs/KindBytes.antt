@@ -1,19 +1,21 @@
 -- The bytes of a type's row, and the kind that they show: each says the other. Assumes nothing.
 use Prim.Native.Nat.{ℕ, _+_, _≤_, _<_}
 use native.Mathlib.Omega.{arith}
-use mathlib.Core.Path.{_≡_, refl, ap, _∙_, subst}
+use mathlib.Core.Path.{_≡_, refl, sym, ap, _∙_, subst}
 use mathlib.Core.List.{List, [], _∷_}
-use mathlib.Core.Bool.{Bool, true, false}
+use mathlib.Core.Bool.{Bool, true, false, not}
 use lib.Dec.{ltb, eqb}
 use lib.ListN.{length, getD, take, drop, length-take, length-drop}
 use lib.Seq.{drop-drop, getD-drop}
-use borrow.Author.Tests.{ltb-true, ltb-false, eqb-true, eqb-false}
-use Rattle.rules.specs.04-Schema.{Kind, kind-of}
+use borrow.Author.Tests.{ltb-true, ltb-false, eqb-true, eqb-false, ne-eqb}
+use Rattle.rules.specs.04-Schema.{Kind, kind-of, is-used, is-object, is-attribute, is-link}
 use Rattle.rules.specs.04-Schema.Kind.{unused, object, attribute, designation, paired}
-use Rattle.rules.specs.07-Picture.{base-length}
+use Rattle.rules.specs.07-Picture.{Sound, pad, type-row, base-length}
 use Rattle.rules.proofs.07-Picture.{read-kind}
 use Rattle.base.specs.Rows.{type-at, part}
 use Rattle.base.specs.Back.{schema-of, kind-shown}
+use Rattle.base.specs.Kinds.{kind-code}
+use Rattle.base.proofs.Back.{sound-canonical}
 use Rattle.base.proofs.Rows.{part-byte}
 use Rattle.base.proofs.Shown.{kind-is, kind-none, shows-attribute, shows-designation, shows-paired, shows-unused}
 
@@ -124,3 +126,101 @@ module _ (b : List ℕ) (t : ℕ) where
         let first : getD (drop (type-at t) b) 0 0 ≡ kind-byte b t = byte 0 ∙ ap (λ (n : ℕ). getD b n 0) (omega arith) in
         four-and-four (drop (type-at t) b) (omega (arith, length-drop (type-at t) b))
         ∙ (λ i. first i ∷ byte 1 i ∷ byte 2 i ∷ byte 3 i ∷ take 4 (drop-drop 4 (type-at t) b i))
+
+-- ---- the code tells the kind
+
+pub used-code : (k : Kind) → not (eqb (kind-code k) 0) ≡ is-used k
+used-code unused = refl
+used-code (object ps) = refl
+used-code (attribute v) = refl
+used-code designation = refl
+used-code (paired c r) = refl
+
+object-code : (k : Kind) → eqb (kind-code k) 1 ≡ is-object k
+object-code unused = refl
+object-code (object ps) = refl
+object-code (attribute v) = refl
+object-code designation = refl
+object-code (paired c r) = refl
+
+attribute-code : (k : Kind) → eqb (kind-code k) 2 ≡ is-attribute k
+attribute-code unused = refl
+attribute-code (object ps) = refl
+attribute-code (attribute v) = refl
+attribute-code designation = refl
+attribute-code (paired c r) = refl
+
+link-code : (k : Kind) → eqb (kind-code k) 3 ≡ is-link k
+link-code unused = refl
+link-code (object ps) = refl
+link-code (attribute v) = refl
+link-code designation = refl
+link-code (paired c r) = refl
+
+-- an answer to whether a type has the code, as one to its kind
+module _ (b : List ℕ) (t : ℕ) {r : Bool} where
+  pub told-object : r ≡ eqb (kind-code (kind-of (schema-of b) t)) 1 → is-object (kind-of (schema-of b) t) ≡ r
+  told-object e = sym (e ∙ object-code (kind-of (schema-of b) t))
+
+  pub told-attribute : r ≡ eqb (kind-code (kind-of (schema-of b) t)) 2 → is-attribute (kind-of (schema-of b) t) ≡ r
+  told-attribute e = sym (e ∙ attribute-code (kind-of (schema-of b) t))
+
+  pub told-link : r ≡ eqb (kind-code (kind-of (schema-of b) t)) 3 → is-link (kind-of (schema-of b) t) ≡ r
+  told-link e = sym (e ∙ link-code (kind-of (schema-of b) t))
+
+-- ---- and the byte tells the code, of each kind that is one: other bytes show none
+
+module _ (b : List ℕ) (t code : ℕ) (some : 0 < code) where
+  not-unused : false ≡ eqb 0 code
+  not-unused = sym (ne-eqb 0 code (λ e. omega arith))
+
+  pub code-past : 128 ≤ t → false ≡ eqb (kind-code (kind-of (schema-of b) t)) code
+  code-past h = not-unused ∙ ap (λ (k : Kind). eqb (kind-code k) code) (sym (kind-none b t h))
+
+  pub code-byte : code < 4 → (x : ℕ) → t < 128 → x ≡ kind-byte b t → eqb x code ≡ eqb (kind-code (kind-of (schema-of b) t)) code
+  code-byte last x h e =
+      ap (λ (n : ℕ). eqb n code) e
+      ∙ go (eqb (kind-byte b t) 1) refl (eqb (kind-byte b t) 2) refl (eqb (kind-byte b t) 3) refl (eqb (value-byte b t) 4) refl
+      ∙ ap (λ (k : Kind). eqb (kind-code k) code) (sym (kind-is b t h))
+    where
+      same : (k : Kind) → kind-shown b t ≡ k → kind-byte b t ≡ kind-code k → eqb (kind-byte b t) code ≡ eqb (kind-code (kind-shown b t)) code
+      same k s f = ap (λ (n : ℕ). eqb n code) (f ∙ ap kind-code (sym s))
+
+      go : (o : Bool) → eqb (kind-byte b t) 1 ≡ o → (a : Bool) → eqb (kind-byte b t) 2 ≡ a → (l : Bool) → eqb (kind-byte b t) 3 ≡ l
+          → (d : Bool) → eqb (value-byte b t) 4 ≡ d → eqb (kind-byte b t) code ≡ eqb (kind-code (kind-shown b t)) code
+      go true o a _ l _ d _ = let f = eqb-true (kind-byte b t) 1 o in same (object (listed-parents b t)) (object-shown b t f) f
+      go false o true a l _ d _ = let f = eqb-true (kind-byte b t) 2 a in same (attribute (value-byte b t)) (shows-attribute b t f) f
+      go false o false a true l true d =
+          let f = eqb-true (kind-byte b t) 3 l in
+          same designation (shows-designation b t f (eqb-true (value-byte b t) 4 d)) f
+      go false o false a true l false d =
+          let f = eqb-true (kind-byte b t) 3 l in
+          same (paired (value-byte b t) (reverse-byte b t)) (shows-paired b t f (eqb-false (value-byte b t) 4 d)) f
+      go false o false a false l d _ =
+          let one = eqb-false (kind-byte b t) 1 o in
+          let two = eqb-false (kind-byte b t) 2 a in
+          let three = eqb-false (kind-byte b t) 3 l in
+          ne-eqb (kind-byte b t) code (λ s. omega arith) ∙ not-unused
+          ∙ ap (λ (k : Kind). eqb (kind-code k) code) (sym (shows-unused b t one two three))
+
+module _ (b : List ℕ) (t x : ℕ) (h : t < 128) (e : x ≡ kind-byte b t) where
+  pub object-byte : eqb x 1 ≡ is-object (kind-of (schema-of b) t)
+  object-byte = code-byte b t 1 (omega arith) (omega arith) x h e ∙ object-code (kind-of (schema-of b) t)
+
+  pub link-byte : eqb x 3 ≡ is-link (kind-of (schema-of b) t)
+  link-byte = code-byte b t 3 (omega arith) (omega arith) x h e ∙ link-code (kind-of (schema-of b) t)
+
+-- a row that is as it would be written begins with the code
+written-code : (k : Kind) → getD (type-row k) 0 0 ≡ kind-code k
+unfolding type-row pad
+written-code unused = refl
+written-code (object ps) = refl
+written-code (attribute v) = refl
+written-code designation = refl
+written-code (paired c r) = refl
+
+pub sound-code : {b : List ℕ} → Sound b → (t : ℕ) → t < 128 → kind-byte b t ≡ kind-code (kind-of (schema-of b) t)
+sound-code {b} s t h =
+    ap (λ (n : ℕ). getD b n 0) (omega arith) ∙ sym (part-byte b (type-at t) 8 0 (omega arith))
+    ∙ ap (λ (r : List ℕ). getD r 0 0) (sym (sound-canonical s .type-rows t h)) ∙ written-code (kind-shown b t)
+    ∙ ap kind-code (sym (kind-is b t h))

@@ -5,3 +5,4 @@ pub mod Table
 pub mod Found
 pub mod Order
 pub mod Stored
+pub mod Kinds

@@ -1,18 +1,20 @@
-// What a base holds of an SDS, a presence or an end, and where.
+// What a base holds of an SDS, a type, a presence or an end, and where.
 use super::Base;
 use rules::Limits;
 ghost use mathlib.Core.Path.{_≡_};
 ghost use mathlib.Core.Bool.{true};
 ghost use Prim.Native.Nat.{_+_, _≤_, _<_};
+ghost use lib.Dec.{eqb};
 ghost use lib.ListN.{length};
 ghost use Rattle.rules.specs.03-Names.{well-formed};
-ghost use Rattle.rules.specs.04-Schema.{sds-name, used-sds};
+ghost use Rattle.rules.specs.04-Schema.{sds-name, used-sds, kind-of};
 ghost use Rattle.rules.specs.07-Picture.{base-length};
 ghost use Rattle.rules.specs.09-Refusals.{sds-name-taken, holds-presence};
 ghost use Rattle.rules.proofs.07-Picture.{strip};
 ghost use Rattle.base.specs.Rows.{presence-at, part, Rising, End-row};
 ghost use Rattle.base.specs.Back.{schema-of, presence-count};
 ghost use Rattle.base.specs.Found.{Free-sds, Row-of, Presence-row, End-at, End-found};
+ghost use Rattle.base.specs.Kinds.{kind-code};
 ghost use Rattle.base.specs.Decides.{Decides};
 
 // ---- SDSs
@@ -66,6 +68,19 @@ pub fn free_sds(base: &[u8]) -> usize
         d += 1;
     }
     d
+}
+
+// ---- types
+
+// Whether type t is of the kind with that code: 1 object, 2 attribute, 3 link.
+pub fn is_kind(base: &[u8], t: usize, code: usize) -> bool
+    requires { ⌜ (length (now base) ≡ base-length) × ((0 < code) × (code < 4)) ⌝ }
+    ensures { λ r. ⌜ r ≡ eqb (kind-code (kind-of (schema-of (now (base .entry))) t)) code ⌝ }
+{
+    if Limits::TYPES <= t {
+        return false;
+    }
+    super::kind(base, t) == code
 }
 
 // ---- presences

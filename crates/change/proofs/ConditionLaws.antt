@@ -9,23 +9,22 @@ use lib.Dec.{ltb, eqb}
 use lib.ListN.{length, getD}
 use borrow.Author.Tests.{ltb-true, ltb-false, lt-ltb, le-ltb, eq-eqb, ne-eqb}
 use Rattle.rules.specs.01-Lists.{any, numbers}
-use Rattle.rules.specs.04-Schema.{Kind, Schema, Side, kind-of, is-used, parents, is-parent, holds-type, present}
+use Rattle.rules.specs.04-Schema.{Schema, Side, kind-of, is-used, parents, is-parent, holds-type, present}
 use Rattle.rules.specs.04-Schema.{is-application, applied, side-code, is-end, has-end}
-use Rattle.rules.specs.04-Schema.Kind.{unused, object, attribute, designation, paired}
 use Rattle.rules.specs.05-Descent.{members}
-use Rattle.rules.specs.07-Picture.{Sound, pad, type-row, end-row}
+use Rattle.rules.specs.07-Picture.{Sound, end-row}
 use Rattle.rules.specs.09-Refusals.{not-present, missing-parent, has-child, in-application, in-end, free-types}
 use Rattle.rules.specs.10-Changes.{new-type, second-new-type}
 use Rattle.rules.proofs.Bools.{and-of}
 use Rattle.rules.proofs.01-Lists.{any-at, numbers-first, numbers-none}
 use Rattle.rules.proofs.07-Picture.{read-side}
 use Rattle.base.specs.Rows.{type-at, Rising, Counted, End-row}
-use Rattle.base.specs.Back.{schema-of, presence-count, application-count, end-count, presence-shown, application-shown, end-shown, kind-shown}
+use Rattle.base.specs.Back.{schema-of, presence-count, application-count, end-count, presence-shown, application-shown, end-shown}
 use Rattle.base.specs.Found.{Presence-row, First-row, End-found}
 use Rattle.base.proofs.Back.{sound-good, sound-canonical}
 use Rattle.base.proofs.Kept.{sound-long}
-use Rattle.base.proofs.Rows.{part-byte}
-use Rattle.base.proofs.Shown.{kind-is, end-read, end-there}
+use Rattle.base.proofs.KindBytes.{used-code, sound-code}
+use Rattle.base.proofs.Shown.{end-read, end-there}
 use Rattle.base.proofs.Walked.{some-presence, no-presence, first-presence, some-application, no-application, first-application, some-end, no-end}
 use Rattle.base.proofs.Walked.{presence-first}
 use Rattle.graph.proofs.Rows.{good-parental, parents-count, parents-place}
@@ -55,20 +54,8 @@ last-one d e = ap (λ (n : ℕ). eqb n d) e
 
 -- ---- types
 
--- the first byte of a row that is as it would be written
-first-byte : (k : Kind) → not (eqb (getD (type-row k) 0 0) 0) ≡ is-used k
-unfolding type-row pad
-first-byte unused = refl
-first-byte (object ps) = refl
-first-byte (attribute v) = refl
-first-byte designation = refl
-first-byte (paired c r) = refl
-
 pub used-byte : {b : List ℕ} → Sound b → (t x : ℕ) → t < 128 → x ≡ getD b (type-at t) 0 → not (eqb x 0) ≡ is-used (kind-of (schema-of b) t)
-used-byte {b} s t x h e =
-    ap (λ (n : ℕ). not (eqb n 0)) (e ∙ ap (λ (n : ℕ). getD b n 0) (omega arith) ∙ sym (part-byte b (type-at t) 8 0 (omega arith))
-    ∙ ap (λ (r : List ℕ). getD r 0 0) (sym (sound-canonical s .type-rows t h)))
-    ∙ first-byte (kind-shown b t) ∙ ap is-used (sym (kind-is b t h))
+used-byte {b} s t x h e = ap (λ (n : ℕ). not (eqb n 0)) (e ∙ sound-code s t h) ∙ used-code (kind-of (schema-of b) t)
 
 -- the numbers that no type has
 abbrev free : Schema → ℕ → Bool

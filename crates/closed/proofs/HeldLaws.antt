@@ -19,11 +19,11 @@ use Rattle.base.specs.Rows.{type-at, application-at, end-at, End-row}
 use Rattle.base.specs.Back.{schema-of, application-shown, end-shown}
 use Rattle.base.specs.Found.{End-found}
 use Rattle.base.proofs.FindLaws.{end-row-of}
-use Rattle.base.proofs.Shown.{kind-is, shows-designation, shows-paired, end-in, end-there}
+use Rattle.base.proofs.KindBytes.{object-byte, link-byte}
+use Rattle.base.proofs.Shown.{kind-is, kind-none, shows-designation, shows-paired, end-in, end-there}
 use Rattle.graph.specs.Graph.{Parental}
 use Rattle.graph.proofs.Rows.{parent-at, parent-place}
 use Rattle.closed.specs.Held.{type-in, parent-in, Closed-type, Applied, Ended, Row-where, Ends}
-use Rattle.closed.proofs.KindLaws.{object-byte, link-byte, no-link-past}
 
 -- ---- types gathered row by row
 
@@ -208,7 +208,7 @@ link-below b t e = go (ltb t 128) refl
   where
     go : (x : Bool) → ltb t 128 ≡ x → t < 128
     go true q = ltb-true t 128 q
-    go false q = absurd (true≢false (sym e ∙ sym (no-link-past b t (ltb-false t 128 q))))
+    go false q = absurd (true≢false (sym e ∙ ap is-link (kind-none b t (ltb-false t 128 q))))
 
 -- ---- one of n rows, or none
 

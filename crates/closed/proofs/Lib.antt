@@ -1,4 +1,3 @@
-pub mod KindLaws
 pub mod HeldLaws
 pub mod SdsLaws
 pub mod ClosedLaws

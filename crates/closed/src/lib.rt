@@ -4,7 +4,7 @@ ghost use mathlib.Core.Path.{_≡_};
 ghost use mathlib.Core.Bool.{true};
 ghost use Prim.Native.Nat.{ℕ, _+_, _≤_, _<_};
 ghost use lib.ListN.{length};
-ghost use Rattle.rules.specs.04-Schema.{kind-of, is-used, is-object, is-attribute, is-link, has-end};
+ghost use Rattle.rules.specs.04-Schema.{kind-of, is-used, has-end};
 ghost use Rattle.rules.specs.07-Picture.{base-length};
 ghost use Rattle.rules.proofs.07-Picture.{read-side};
 ghost use Rattle.marks.specs.Set.{has};
@@ -32,36 +32,6 @@ pub struct Checked {
     pub fine: bool,
     pub next: Places,
     pub types: TypeSet,
-}
-
-fn is_object(base: &[u8], t: usize) -> bool
-    requires { ⌜ length (now base) ≡ base-length ⌝ }
-    ensures { λ r. ⌜ r ≡ is-object (kind-of (schema-of (now (base .entry))) t) ⌝ }
-{
-    if 128 <= t {
-        return false;
-    }
-    base::kind(base, t) == 1
-}
-
-fn is_attribute(base: &[u8], t: usize) -> bool
-    requires { ⌜ length (now base) ≡ base-length ⌝ }
-    ensures { λ r. ⌜ r ≡ is-attribute (kind-of (schema-of (now (base .entry))) t) ⌝ }
-{
-    if 128 <= t {
-        return false;
-    }
-    base::kind(base, t) == 2
-}
-
-fn is_link(base: &[u8], t: usize) -> bool
-    requires { ⌜ length (now base) ≡ base-length ⌝ }
-    ensures { λ r. ⌜ r ≡ is-link (kind-of (schema-of (now (base .entry))) t) ⌝ }
-{
-    if 128 <= t {
-        return false;
-    }
-    base::kind(base, t) == 3
 }
 
 // The types of the presences from `from` up to `to`, unless one stands twice.
@@ -137,7 +107,7 @@ fn application_fine(base: &[u8], i: usize, set: TypeSet) -> bool
     ensures { λ r. ⌜ Decides (Applied (now (base .entry)) (has set) i) r ⌝ }
 {
     let attribute = base::application_attribute(base, i);
-    if !is_attribute(base, attribute) {
+    if !base::find::is_kind(base, attribute, 2) {
         return false;
     }
     if !set.holds(attribute) {
@@ -147,10 +117,10 @@ fn application_fine(base: &[u8], i: usize, set: TypeSet) -> bool
     if !set.holds(to) {
         return false;
     }
-    if is_object(base, to) {
+    if base::find::is_kind(base, to, 1) {
         return true;
     }
-    is_link(base, to)
+    base::find::is_kind(base, to, 3)
 }
 
 fn applications_fine(base: &[u8], from: usize, to: usize, set: TypeSet) -> bool
@@ -173,14 +143,14 @@ fn end_fine(base: &[u8], n: usize, near: usize, i: usize, set: TypeSet) -> usize
     ensures { λ r. ⌜ Row-where (Ended (now (base .entry)) (has set) i) n r ⌝ }
 {
     let link = base::end_link(base, i);
-    if !is_link(base, link) {
+    if !base::find::is_kind(base, link, 3) {
         return n;
     }
     if !set.holds(link) {
         return n;
     }
     let object = base::end_object(base, i);
-    if !is_object(base, object) {
+    if !base::find::is_kind(base, object, 1) {
         return n;
     }
     if !set.holds(object) {

@@ -27,7 +27,7 @@ good-parental x =
     let c = sound-canonical x in
     record { long = c .long; type-rows = c .type-rows; parents-objects = (sound-good x) .parents-objects }
 
--- ---- a row as it is read: its first byte tells an object type, and there is room for four parents
+-- ---- a row as it is read: there is room for four parents
 
 module _ (r : List ℕ) where
   -- the kind that is read, by the four tests of its bytes
@@ -37,17 +37,6 @@ module _ (r : List ℕ) where
       (cond two (attribute (getD r 1 0))
       (cond three (cond four designation (paired (getD r 1 0) (getD r 2 0)))
       unused))
-
-  read-object : is-object (read-kind r) ≡ eqb (getD r 0 0) 1
-  unfolding read-kind
-  read-object = go (eqb (getD r 0 0) 1) (eqb (getD r 0 0) 2) (eqb (getD r 0 0) 3) (eqb (getD r 1 0) 4)
-    where
-      go : (one two three four : Bool) → is-object (read-by one two three four) ≡ one
-      go true two three four = refl
-      go false true three four = refl
-      go false false true true = refl
-      go false false true false = refl
-      go false false false four = refl
 
   read-few : length r ≤ 8 → length (parents-in (read-kind r)) ≤ 4
   unfolding read-kind
@@ -81,11 +70,6 @@ written-parents (paired c r) h = refl
 -- ---- the types of a base
 
 module _ (b : List ℕ) where
-  pub object-byte : (t : ℕ) → t < 128 → object-in b t ≡ eqb (getD b (type-at t) 0) 1
-  object-byte t h =
-      ap is-object (kind-is b t h) ∙ read-object (part b (type-at t) 8)
-      ∙ ap (λ (x : ℕ). eqb x 1) (part-byte b (type-at t) 8 0 (omega arith) ∙ ap (λ (n : ℕ). getD b n 0) (omega arith))
-
   pub object-below : (t : ℕ) → object-in b t ≡ true → t < 128
   object-below t e = go (ltb t 128) refl
     where

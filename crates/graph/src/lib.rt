@@ -14,10 +14,10 @@ ghost use Rattle.marks.specs.Set.{has};
 ghost use Rattle.graph.specs.Graph.{object-in, Parental, Ready, Round};
 
 fn is_object(base: &[u8], t: usize) -> bool
-    requires { ⌜ (length (now base) ≡ base-length) × (t < 128) ⌝ }
+    requires { ⌜ length (now base) ≡ base-length ⌝ }
     ensures { λ r. ⌜ r ≡ object-in (now (base .entry)) t ⌝ }
 {
-    base::kind(base, t) == 1
+    base::find::is_kind(base, t, 1)
 }
 
 // How many object types there are.

@@ -1,13 +1,15 @@
 -- `closed::application_fine` meets its contract: the tests are the fields of `Applied`. Assumes nothing.
 use borrow.Author.Needs.{needs}
+use native.Mathlib.Omega.{arith}
 use mathlib.Core.Path.{_≡_, sym, ap, _∙_}
 use mathlib.Core.Bool.{Bool, true, true≢false, _&&_, _||_}
 use borrow.Author.Tests.{not-true, not-false}
-use Rattle.rules.specs.04-Schema.{kind-of, is-object, is-attribute, is-link}
+use Rattle.rules.specs.04-Schema.{kind-of, is-object, is-link}
 use Rattle.rules.proofs.Bools.{and-both, and-of, or-left, or-right, or-cases}
 use Rattle.marks.specs.Set.{has}
 use Rattle.base.specs.Back.{schema-of}
 use Rattle.base.proofs.Decides.{decides-yes, decides-no}
+use Rattle.base.proofs.KindBytes.{told-object, told-attribute, told-link}
 use Rattle.closed.proofs.HeldLaws.{applied-no-attribute, applied-attribute-out, applied-to-out, applied-of, applied-neither}
 use Rattle.closed.proofs.application_fine.Statement.{statement}
 use Rattle.closed.proofs.application_fine.Tie as tie
@@ -15,14 +17,14 @@ use Rattle.closed.proofs.application_fine.Tie as tie
 application-attribute-requires : tie.Need-application-attribute-requires
 application-attribute-requires c κs = search needs
 
-is-attribute-requires : tie.Need-is-attribute-requires
-is-attribute-requires c κs = search needs
+is-kind-requires : tie.Need-is-kind-requires
+is-kind-requires c κs = (c .before .before .pre .0, (omega arith, omega arith))
 
 returns : tie.Need-returns
 returns c =
     let x = c .before .before .before .before .args in
     decides-no (applied-no-attribute (x .base .now) (has (x .set)) (x .i) (c .before .before .application-attribute .result) (c .before .before .application-attribute .ensures .is)
-    (sym (c .before .is-attribute .ensures) ∙ not-true _ (c .if1 .taken)))
+    (told-attribute (x .base .now) (c .before .before .application-attribute .result) (c .before .is-kind .ensures) ∙ not-true _ (c .if1 .taken)))
 
 holds-requires : tie.Need-holds-requires
 holds-requires c κs = search needs
@@ -46,8 +48,8 @@ returns-3 c =
     decides-no (applied-to-out (x .base .now) (has (x .set)) (x .i) (c .before .before .application-to .result) (c .before .before .application-to .ensures .is)
     (sym (c .before .holds2 .ensures) ∙ not-true _ (c .if3 .taken)))
 
-is-object-requires : tie.Need-is-object-requires
-is-object-requires c κs = search needs
+is-kind-requires-2 : tie.Need-is-kind-requires-2
+is-kind-requires-2 c κs = (c .before .before .before .before .before .before .before .before .before .pre .0, (omega arith, omega arith))
 
 returns-4 : tie.Need-returns-4
 returns-4 c =
@@ -58,14 +60,14 @@ returns-4 c =
     (c .before .before .before .before .before .before .before .before .before .application-attribute .result) to
     (c .before .before .before .before .before .before .before .before .before .application-attribute .ensures .is)
     (c .before .before .before .before .application-to .ensures .is)
-    (sym (c .before .before .before .before .before .before .before .before .is-attribute .ensures) ∙ not-false _
+    (told-attribute (x .base .now) (c .before .before .before .before .before .before .before .before .before .application-attribute .result) (c .before .before .before .before .before .before .before .before .is-kind .ensures) ∙ not-false _
     (c .before .before .before .before .before .before .before .if1 .left)) (sym (c .before .before .before .before .before .before .holds .ensures)
     ∙ not-false _ (c .before .before .before .before .before .if2 .left))
     (sym (c .before .before .before .holds2 .ensures) ∙ not-false _ (c .before .before .if3 .left))
-    (or-left (is-object (kind-of (schema-of b) to)) (is-link (kind-of (schema-of b) to)) (sym (c .before .is-object .ensures) ∙ c .if4 .taken)))
+    (or-left (is-object (kind-of (schema-of b) to)) (is-link (kind-of (schema-of b) to)) (told-object b to (c .before .is-kind2 .ensures) ∙ c .if4 .taken)))
 
-is-link-requires : tie.Need-is-link-requires
-is-link-requires c κs = search needs
+is-kind-requires-3 : tie.Need-is-kind-requires-3
+is-kind-requires-3 c κs = (c .before .before .before .before .before .before .before .before .before .before .before .pre .0, (omega arith, omega arith))
 
 returns-5 : tie.Need-returns-5
 returns-5 c =
@@ -76,13 +78,12 @@ returns-5 c =
           (c .before .before .before .before .before .before .before .before .before .before .application-attribute .result) to
           (c .before .before .before .before .before .before .before .before .before .before .application-attribute .ensures .is)
           (c .before .before .before .before .before .application-to .ensures .is)
-          (sym (c .before .before .before .before .before .before .before .before .before .is-attribute .ensures) ∙ not-false _
+          (told-attribute (x .base .now) (c .before .before .before .before .before .before .before .before .before .before .application-attribute .result) (c .before .before .before .before .before .before .before .before .before .is-kind .ensures) ∙ not-false _
           (c .before .before .before .before .before .before .before .before .if1 .left)) (sym
           (c .before .before .before .before .before .before .before .holds .ensures) ∙ not-false _ (c .before .before .before .before .before .before .if2 .left))
           (sym (c .before .before .before .before .holds2 .ensures) ∙ not-false _ (c .before .before .before .if3 .left))
-          (or-right (is-object (kind-of (schema-of b) to)) (is-link (kind-of (schema-of b) to)) (sym (c .is-link .ensures) ∙ e));
-      fails = λ e. applied-neither b (has (x .set)) (x .i) to (c .before .before .before .before .before .application-to .ensures .is) (sym
-          (c .before .before .is-object .ensures) ∙ c .before .if4 .left) (sym (c .is-link .ensures) ∙ e);
+          (or-right (is-object (kind-of (schema-of b) to)) (is-link (kind-of (schema-of b) to)) (told-link b to (c .is-kind3 .ensures) ∙ e));
+      fails = λ e. applied-neither b (has (x .set)) (x .i) to (c .before .before .before .before .before .application-to .ensures .is) (told-object b to (c .before .before .is-kind2 .ensures) ∙ c .before .if4 .left) (told-link b to (c .is-kind3 .ensures) ∙ e);
     }
 
 pub application-fine-spec : {M : Type 1} → statement M
@@ -90,14 +91,14 @@ application-fine-spec =
     tie.close
     (tie.spec
     application-attribute-requires
-    is-attribute-requires
+    is-kind-requires
     returns
     holds-requires
     returns-2
     application-to-requires
     holds-requires-2
     returns-3
-    is-object-requires
+    is-kind-requires-2
     returns-4
-    is-link-requires
+    is-kind-requires-3
     returns-5)

@@ -5,6 +5,7 @@ use native.Mathlib.Omega.{arith}
 use mathlib.Core.Path.{_≡_, sym, _∙_}
 use borrow.Author.Tests.{not-true, not-false}
 use Rattle.marks.specs.Set.{has}
+use Rattle.base.proofs.KindBytes.{told-object, told-link}
 use Rattle.closed.proofs.HeldLaws.{row-no, row-yes, row-found, link-below, ended-no-link, ended-link-out, ended-no-object, ended-object-out, ended-alone, ended-both, ended-mirror}
 use Rattle.closed.proofs.end_fine.Statement.{statement}
 use Rattle.closed.proofs.end_fine.Tie as tie
@@ -14,14 +15,14 @@ end-link-requires c κs =
     let x = c .before in
     (x .pre .0 .long, omega (arith, x .pre .0 .counted .fits, x .pre .1))
 
-is-link-requires : tie.Need-is-link-requires
-is-link-requires c κs = c .before .before .pre .0 .long
+is-kind-requires : tie.Need-is-kind-requires
+is-kind-requires c κs = (c .before .before .pre .0 .long, (omega arith, omega arith))
 
 returns : tie.Need-returns
 returns c =
     let x = c .before .before .before .before in
     let l = c .before .before .end-link in
-    row-no (ended-no-link (x .args .base .now) (has (x .args .set)) (x .args .i) (l .result) (l .ensures .is) (sym (c .before .is-link .ensures) ∙ not-true _ (c .if1 .taken)))
+    row-no (ended-no-link (x .args .base .now) (has (x .args .set)) (x .args .i) (l .result) (l .ensures .is) (told-link (x .args .base .now) (c .before .before .end-link .result) (c .before .is-kind .ensures) ∙ not-true _ (c .if1 .taken)))
 
 holds-requires : tie.Need-holds-requires
 holds-requires c κs = search needs
@@ -37,15 +38,14 @@ end-object-requires c κs =
     let x = c .before .before .before .before .before .before in
     (x .pre .0 .long, omega (arith, x .pre .0 .counted .fits, x .pre .1))
 
-is-object-requires : tie.Need-is-object-requires
-is-object-requires c κs = c .before .before .before .before .before .before .before .pre .0 .long
+is-kind-requires-2 : tie.Need-is-kind-requires-2
+is-kind-requires-2 c κs = (c .before .before .before .before .before .before .before .pre .0 .long, (omega arith, omega arith))
 
 returns-3 : tie.Need-returns-3
 returns-3 c =
     let x = c .before .before .before .before .before .before .before .before .before in
     let o = c .before .before .end-object in
-    row-no (ended-no-object (x .args .base .now) (has (x .args .set)) (x .args .i) (o .result) (o .ensures .is) (sym
-    (c .before .is-object .ensures) ∙ not-true _ (c .if3 .taken)))
+    row-no (ended-no-object (x .args .base .now) (has (x .args .set)) (x .args .i) (o .result) (o .ensures .is) (told-object (x .args .base .now) (c .before .before .end-object .result) (c .before .is-kind2 .ensures) ∙ not-true _ (c .if3 .taken)))
 
 holds-requires-2 : tie.Need-holds-requires-2
 holds-requires-2 c κs = search needs
@@ -62,7 +62,7 @@ value-requires c κs =
     let x = c .before .before .before .before .before .before .before .before .before .before .before in (
       x .pre .0 .long,
       link-below (x .args .base .now) (c .before .before .before .before .before .before .before .before .before .end-link .result)
-          (sym (c .before .before .before .before .before .before .before .before .is-link .ensures) ∙ not-false _
+          (told-link (x .args .base .now) (c .before .before .before .before .before .before .before .before .before .end-link .result) (c .before .before .before .before .before .before .before .before .is-kind .ensures) ∙ not-false _
           (c .before .before .before .before .before .before .before .if1 .left)),
     )
 
@@ -72,10 +72,10 @@ returns-5 c =
     let l = c .before .before .before .before .before .before .before .before .before .before .before .end-link in
     let o = c .before .before .before .before .before .before .end-object in
     row-yes (x .pre .1) (ended-alone (x .args .base .now) (has (x .args .set)) (x .args .i) (l .result) (o .result) (l .ensures .is) (o .ensures .is)
-    (sym (c .before .before .before .before .before .before .before .before .before .before .is-link .ensures) ∙ not-false _
+    (told-link (x .args .base .now) (c .before .before .before .before .before .before .before .before .before .before .before .end-link .result) (c .before .before .before .before .before .before .before .before .before .before .is-kind .ensures) ∙ not-false _
     (c .before .before .before .before .before .before .before .before .before .if1 .left)) (sym
     (c .before .before .before .before .before .before .before .before .holds .ensures) ∙ not-false _ (c .before .before .before .before .before .before .before .if2 .left))
-    (sym (c .before .before .before .before .before .is-object .ensures) ∙ not-false _ (c .before .before .before .before .if3 .left)) (sym
+    (told-object (x .args .base .now) (c .before .before .before .before .before .before .end-object .result) (c .before .before .before .before .before .is-kind2 .ensures) ∙ not-false _ (c .before .before .before .before .if3 .left)) (sym
     (c .before .before .before .holds2 .ensures) ∙ not-false _ (c .before .before .if4 .left))
     (sym (c .before .value .ensures .is) ∙ c .if5 .taken))
 
@@ -94,8 +94,7 @@ reverse-requires c κs =
     let x = c .before .before .before .before .before .before .before .before .before .before .before .before .before .before .before in (
       x .pre .0 .long,
       link-below (x .args .base .now)
-          (c .before .before .before .before .before .before .before .before .before .before .before .before .before .end-link .result) (sym
-          (c .before .before .before .before .before .before .before .before .before .before .before .before .is-link .ensures) ∙ not-false _
+          (c .before .before .before .before .before .before .before .before .before .before .before .before .before .end-link .result) (told-link (x .args .base .now) (c .before .before .before .before .before .before .before .before .before .before .before .before .before .end-link .result) (c .before .before .before .before .before .before .before .before .before .before .before .before .is-kind .ensures) ∙ not-false _
           (c .before .before .before .before .before .before .before .before .before .before .before .if1 .left)),
     )
 
@@ -125,15 +124,14 @@ returns-6 c =
     let x = c .before .before .before .before .before .before .before .before .before .before .before .before .before .before .before .before .before in
     let l = c .before .before .before .before .before .before .before .before .before .before .before .before .before .before .before .end-link in
     let o = c .before .before .before .before .before .before .before .before .before .before .end-object in
-    let kl = sym (c .before .before .before .before .before .before .before .before .before .before .before .before .before .before .is-link .ensures)
+    let kl = told-link (x .args .base .now) (c .before .before .before .before .before .before .before .before .before .before .before .before .before .before .before .end-link .result) (c .before .before .before .before .before .before .before .before .before .before .before .before .before .before .is-kind .ensures)
     ∙ not-false _ (c .before .before .before .before .before .before .before .before .before .before .before .before .before .if1 .left) in
     row-found
     (ended-both (x .args .base .now) (has (x .args .set)) (x .args .i) (l .result) (o .result) (l .ensures .is) (o .ensures .is) kl (x .pre .0) (x .pre .1)
     (c .before .before .end-sds .result) (c .before .reverse .result) (c .before .before .before .end-side .result)
     (c .before .before .end-sds .ensures .is) (c .before .reverse .ensures .is) (c .before .before .before .end-side .ensures .is)
     (sym (c .before .before .before .before .before .before .before .before .before .before .before .before .holds .ensures) ∙ not-false _
-    (c .before .before .before .before .before .before .before .before .before .before .before .if2 .left)) (sym
-    (c .before .before .before .before .before .before .before .before .before .is-object .ensures) ∙ not-false _
+    (c .before .before .before .before .before .before .before .before .before .before .before .if2 .left)) (told-object (x .args .base .now) (c .before .before .before .before .before .before .before .before .before .before .end-object .result) (c .before .before .before .before .before .before .before .before .before .is-kind2 .ensures) ∙ not-false _
     (c .before .before .before .before .before .before .before .before .if3 .left)) (sym
     (c .before .before .before .before .before .before .before .holds2 .ensures) ∙ not-false _ (c .before .before .before .before .before .before .if4 .left)))
     (ended-mirror (x .args .base .now) (has (x .args .set)) (x .args .i) (l .result) (o .result) (l .ensures .is) (o .ensures .is) kl (x .pre .0) (x .pre .1)
@@ -147,12 +145,12 @@ end-fine-spec =
     tie.close
     (tie.spec
     end-link-requires
-    is-link-requires
+    is-kind-requires
     returns
     holds-requires
     returns-2
     end-object-requires
-    is-object-requires
+    is-kind-requires-2
     returns-3
     holds-requires-2
     returns-4

@@ -1,20 +1,17 @@
--- `graph::is_object` meets its contract: the first byte of a type's row is 1 exactly where the row shows an object type.
--- Assumes nothing.
-use borrow.Author.Needs.{needs}
-use Prim.Native.Nat.{ℕ}
-use mathlib.Core.Path.{sym, ap, _∙_}
-use lib.Dec.{eqb}
-use Rattle.graph.proofs.Rows.{object-byte}
+-- `graph::is_object` meets its contract: 1 is the code of the object types. Assumes nothing.
+use native.Mathlib.Omega.{arith}
+use mathlib.Core.Path.{sym}
+use Rattle.base.proofs.KindBytes.{told-object}
 use Rattle.graph.proofs.is_object.Statement.{statement}
 use Rattle.graph.proofs.is_object.Tie as tie
 
-kind-requires : tie.Need-kind-requires
-kind-requires c κs = search needs
+is-kind-requires : tie.Need-is-kind-requires
+is-kind-requires c κs = (c .before .pre, (omega arith, omega arith))
 
 returns : tie.Need-returns
 returns c =
-    let s = c .before .before in
-    ap (λ (x : ℕ). eqb x 1) (c .kind .ensures .is) ∙ sym (object-byte (s .args .base .now) (s .args .t) (s .pre .1))
+    let x = c .before .before .args in
+    sym (told-object (x .base .now) (x .t) (c .is-kind .ensures))
 
 pub is-object-spec : {M : Type 1} → statement M
-is-object-spec = tie.close (tie.spec kind-requires returns)
+is-object-spec = tie.close (tie.spec is-kind-requires returns)

@@ -22,7 +22,7 @@ abbrev μ-loop : tie.MeasureT-loop
 μ-loop base t s n i₀ i = n - i
 
 is-object-requires : tie.Need-is-object-requires Inv-loop μ-loop
-is-object-requires c κs = let start = c .before in (start .pre .0 .long, start .pre .1)
+is-object-requires c κs = c .before .pre .0 .long
 
 returns : tie.Need-returns Inv-loop μ-loop
 returns c = decides-no (λ w. false≢true (sym (not-true _ (c .if1 .taken)) ∙ c .before .is-object .ensures ∙ w .object))

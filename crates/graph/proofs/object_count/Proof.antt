@@ -22,7 +22,7 @@ loop-holds : tie.Need-loop-holds Inv-loop μ-loop
 loop-holds c = (omega arith, omega arith, count-none _)
 
 is-object-requires : tie.Need-is-object-requires Inv-loop μ-loop
-is-object-requires c κs = (c .before .before .before .pre, omega arith)
+is-object-requires c κs = c .before .before .before .pre
 
 add-n : tie.Need-add-n Inv-loop μ-loop
 add-n c = omega arith

@@ -76,7 +76,7 @@ returns-4 : tie.Need-returns-4
 returns-4 c = view-refused (past-2 (c .before .before .before .before .before)) (not-seen _ _ _ (c .before .before .holds .ensures ∙ shown (c .before .before .before) _) (c .before .if4 .taken)) (omega arith) (c .refused4 .ensures)
 
 is-of-kind-requires : tie.Need-is-of-kind-requires
-is-of-kind-requires c κs = (sound-long (past-3 c .sound), below c)
+is-of-kind-requires c κs = sound-long (past-3 c .sound)
 
 refused-requires-5 : tie.Need-refused-requires-5
 refused-requires-5 c κs = search needs

@@ -31,7 +31,11 @@ returns c =
     record {
       fits = omega arith;
       used = λ t h u. l .inv .1 t u h;
-      free = λ h. (l .inv .0, sym (used-byte (c .before .before .before .before .before .pre) (l .t) (k .result) h (k .ensures .is)) ∙ ap not (eq-eqb (k .result) 0 (c .if1 .taken)));
+      free = λ h. (
+        l .inv .0,
+        sym (used-byte (c .before .before .before .before .before .pre) (l .t) (k .result) h (k .ensures .is)) ∙ ap not
+            (eq-eqb (k .result) 0 (c .if1 .taken)),
+      );
     }
 
 add-t : tie.Need-add-t Inv-loop μ-loop
@@ -43,8 +47,12 @@ loop-less c = omega arith
 loop-again : tie.Need-loop-again Inv-loop μ-loop
 loop-again c =
     let l = c .before .before .before .loop in
-    let k = c .before .kind in
-    (omega arith, below-more _ _ (l .inv .1) (λ h. sym (used-byte (c .before .before .before .before .before .pre) (l .t) (k .result) (omega arith) (k .ensures .is)) ∙ ap not (ne-eqb (k .result) 0 (c .if1 .left))))
+    let k = c .before .kind in (
+      omega arith,
+      below-more _ _ (l .inv .1)
+          (λ h. sym (used-byte (c .before .before .before .before .before .pre) (l .t) (k .result) (omega arith) (k .ensures .is)) ∙ ap not
+          (ne-eqb (k .result) 0 (c .if1 .left))),
+    )
 
 returns-2 : tie.Need-returns-2 Inv-loop μ-loop
 returns-2 c =

@@ -29,7 +29,8 @@ is-child-requires c κs = (c .before .before .before .before .pre, omega (arith,
 returns : tie.Need-returns Inv-loop μ-loop
 returns c =
     let x = c .before .before .before .before .before .before .args in
-    child-here (x .base .now) (x .d) (x .t) (c .before .before .before .loop .i) (omega (arith, c .before .before .loop-test .taken, c .before .before .before .before .presence-count .ensures .is))
+    child-here (x .base .now) (x .d) (x .t) (c .before .before .before .loop .i)
+    (omega (arith, c .before .before .loop-test .taken, c .before .before .before .before .presence-count .ensures .is))
     (sym (c .before .is-child .ensures) ∙ c .if1 .taken)
 
 add-i : tie.Need-add-i Inv-loop μ-loop

@@ -24,12 +24,14 @@ loop-holds : tie.Need-loop-holds Inv-loop μ-loop
 loop-holds c = (omega arith, below-none _)
 
 is-application-with-requires : tie.Need-is-application-with-requires Inv-loop μ-loop
-is-application-with-requires c κs = (c .before .before .before .before .pre, omega (arith, c .before .before .application-count .ensures .fits, c .loop-test .taken))
+is-application-with-requires c κs =
+    (c .before .before .before .before .pre, omega (arith, c .before .before .application-count .ensures .fits, c .loop-test .taken))
 
 returns : tie.Need-returns Inv-loop μ-loop
 returns c =
     let x = c .before .before .before .before .before .before .args in
-    application-here (x .base .now) (x .d) (x .t) (c .before .before .before .loop .i) (omega (arith, c .before .before .loop-test .taken, c .before .before .before .before .application-count .ensures .is))
+    application-here (x .base .now) (x .d) (x .t) (c .before .before .before .loop .i)
+    (omega (arith, c .before .before .loop-test .taken, c .before .before .before .before .application-count .ensures .is))
     (sym (c .before .is-application-with .ensures) ∙ c .if1 .taken)
 
 add-i : tie.Need-add-i Inv-loop μ-loop

@@ -14,7 +14,9 @@ application-to-requires : tie.Need-application-to-requires
 application-to-requires c κs = search needs
 
 returns-2 : tie.Need-returns-2
-returns-2 c = agrees _ (c .before .before .before .application-sds .ensures .is) (c .before .before .if1 .left) (the-one _ _ (c .before .application-to .ensures .is) (c .if2 .taken))
+returns-2 c =
+    agrees _ (c .before .before .before .application-sds .ensures .is) (c .before .before .if1 .left)
+    (the-one _ _ (c .before .application-to .ensures .is) (c .if2 .taken))
 
 application-attribute-requires : tie.Need-application-attribute-requires
 application-attribute-requires c κs = search needs

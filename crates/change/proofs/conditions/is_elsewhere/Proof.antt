@@ -30,7 +30,8 @@ presence-type-requires c κs = (c .before .before .before .before .pre, omega (a
 returns : tie.Need-returns Inv-loop μ-loop
 returns c =
     let x = c .before .before .before .before .before .before .args in
-    some-presence (x .base .now) (λ p. eqb (p .type) (x .t)) (c .before .before .before .loop .i) (omega (arith, c .before .before .loop-test .taken, c .before .before .before .before .presence-count .ensures .is))
+    some-presence (x .base .now) (λ p. eqb (p .type) (x .t)) (c .before .before .before .loop .i)
+    (omega (arith, c .before .before .loop-test .taken, c .before .before .before .before .presence-count .ensures .is))
     (eq-eqb _ (x .t) (sym (c .before .presence-type .ensures .is) ∙ c .if1 .taken))
 
 add-i : tie.Need-add-i Inv-loop μ-loop
@@ -40,8 +41,11 @@ loop-less : tie.Need-loop-less Inv-loop μ-loop
 loop-less c = search needs
 
 loop-again : tie.Need-loop-again Inv-loop μ-loop
-loop-again c =
-    (omega arith, below-more _ _ (c .before .before .before .loop .inv .1) (ne-eqb _ (c .before .before .before .before .before .before .args .t) (λ e. c .if1 .left (c .before .presence-type .ensures .is ∙ e))))
+loop-again c = (
+  omega arith,
+  below-more _ _ (c .before .before .before .loop .inv .1)
+      (ne-eqb _ (c .before .before .before .before .before .before .args .t) (λ e. c .if1 .left (c .before .presence-type .ensures .is ∙ e))),
+)
 
 returns-2 : tie.Need-returns-2 Inv-loop μ-loop
 returns-2 c =

@@ -14,7 +14,9 @@ end-link-requires : tie.Need-end-link-requires
 end-link-requires c κs = search needs
 
 returns-2 : tie.Need-returns-2
-returns-2 c = agrees _ (c .before .before .before .end-sds .ensures .is) (c .before .before .if1 .left) (the-one _ _ (c .before .end-link .ensures .is) (c .if2 .taken))
+returns-2 c =
+    agrees _ (c .before .before .before .end-sds .ensures .is) (c .before .before .if1 .left)
+    (the-one _ _ (c .before .end-link .ensures .is) (c .if2 .taken))
 
 end-object-requires : tie.Need-end-object-requires
 end-object-requires c κs = search needs

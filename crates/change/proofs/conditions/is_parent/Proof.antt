@@ -31,7 +31,8 @@ parent-requires c κs = (sound-long (c .before .before .before .before .pre .0),
 returns : tie.Need-returns Inv-loop μ-loop
 returns c =
     let x = c .before .before .before .before .before .before in
-    parent-here (x .pre .0) (x .pre .1) (c .before .before .before .before .parent-count .ensures .is) (x .args .a) (c .before .before .before .loop .i) _ (c .before .before .loop-test .taken)
+    parent-here (x .pre .0) (x .pre .1) (c .before .before .before .before .parent-count .ensures .is) (x .args .a)
+    (c .before .before .before .loop .i) _ (c .before .before .loop-test .taken)
     (c .before .parent .ensures .is) (c .if1 .taken)
 
 add-i : tie.Need-add-i Inv-loop μ-loop

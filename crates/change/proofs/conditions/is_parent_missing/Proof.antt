@@ -40,7 +40,8 @@ returns : tie.Need-returns Inv-loop μ-loop
 returns c =
     let x = c .before .before .before .before .before .before .before in
     let in-target = present (schema-of (x .args .base .now)) (x .args .target) in
-    missing-here (x .pre .0) (x .pre .1) (c .before .before .before .before .before .parent-count .ensures .is) (x .args .target) (c .before .before .before .before .loop .i) (c .before .before .before .loop-test .taken)
+    missing-here (x .pre .0) (x .pre .1) (c .before .before .before .before .before .parent-count .ensures .is) (x .args .target)
+    (c .before .before .before .before .loop .i) (c .before .before .before .loop-test .taken)
     (ap in-target (sym (c .before .before .parent .ensures .is)) ∙ sym (c .before .is-present .ensures) ∙ not-true _ (c .if1 .taken))
 
 add-i : tie.Need-add-i Inv-loop μ-loop

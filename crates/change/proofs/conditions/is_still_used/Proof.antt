@@ -18,14 +18,17 @@ in-application-requires c κs = sound-long (c .before .before .before .pre)
 
 returns-2 : tie.Need-returns-2
 unfolding still-used
-returns-2 c = or-next (c .before .before .before .has-child .ensures) (c .before .before .if1 .left) (or-first _ (c .before .in-application .ensures) (c .if2 .taken))
+returns-2 c =
+    or-next (c .before .before .before .has-child .ensures) (c .before .before .if1 .left) (or-first _ (c .before .in-application .ensures) (c .if2 .taken))
 
 in-end-requires : tie.Need-in-end-requires
 in-end-requires c κs = sound-long (c .before .before .before .before .before .pre)
 
 returns-3 : tie.Need-returns-3
 unfolding still-used
-returns-3 c = or-next (c .before .before .before .before .has-child .ensures) (c .before .before .before .if1 .left) (or-next (c .before .before .in-application .ensures) (c .before .if2 .left) (c .in-end .ensures))
+returns-3 c =
+    or-next (c .before .before .before .before .has-child .ensures) (c .before .before .before .if1 .left)
+    (or-next (c .before .before .in-application .ensures) (c .before .if2 .left) (c .in-end .ensures))
 
 pub is-still-used-spec : {M : Type 1} → statement M
 is-still-used-spec =

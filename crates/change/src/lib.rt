@@ -1,4 +1,5 @@
 // The changing calls. Each tests the refusals of its rule in their order, and writes only where none holds.
+pub mod apply;
 pub mod conditions;
 
 use base::Base;

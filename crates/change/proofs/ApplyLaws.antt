@@ -14,7 +14,7 @@ use Rattle.rules.specs.04-Schema.{Schema, Application, type-named, applied, is-
 use Rattle.rules.specs.07-Picture.{Sound, picture}
 use Rattle.rules.specs.09-Refusals.{Outcome, Refusals, no-such-name, no-object, no-attribute, no-link, applications-full, refusal}
 use Rattle.rules.specs.09-Refusals.Outcome.{refused, done}
-use Rattle.rules.specs.10-Changes.{with-applications, application-refusals, apply, apply-refusals, unapply, unapply-refusals}
+use Rattle.rules.specs.10-Changes.{with-applications, application-refusals, apply, unapply}
 use Rattle.rules.specs.12-Contracts.{Kept}
 use Rattle.rules.proofs.Bools.{or-left, or-right, and-both}
 use Rattle.rules.proofs.09-Refusals.{Left, told, told-stops, told-passes}
@@ -28,7 +28,7 @@ use Rattle.base.proofs.StoredLaws.{sound-stored}
 use Rattle.base.proofs.TakenLaws.{application-without}
 use Rattle.closed.proofs.KindLaws.{object-byte, attribute-byte, link-byte}
 use Rattle.change.specs.declared.apply.Asked.{Asked}
-use Rattle.change.specs.Applying.{Both, Tested}
+use Rattle.change.specs.Applying.{wrong-kind, Both, Tested}
 use Rattle.change.proofs.ConditionLaws.{applied-row}
 
 -- ---- the tests that both calls make, one after the other
@@ -96,10 +96,7 @@ module _ (b : List ℕ) (t : ℕ) (h : t < 128) {x : ℕ} (e : Reads b (type-at 
   link-told = ap not (link-byte b t x h (e .is))
 
 module _ (b : List ℕ) {a t x : ℕ} (h : a < 128) (l : t < 128) (e : Reads b (type-at a) x) where
-  abbrev pub Wrong : Bool
-  Wrong = no-attribute (schema-of b) a || (no-object (schema-of b) t && no-link (schema-of b) t)
-
-  pub wrong-attribute : (x ≡ 2 → ⊥) → true ≡ Wrong
+  pub wrong-attribute : (x ≡ 2 → ⊥) → true ≡ wrong-kind (schema-of b) a t
   wrong-attribute q =
       sym (or-left (no-attribute (schema-of b) a) (no-object (schema-of b) t && no-link (schema-of b) t)
       (sym (attribute-told b a h e) ∙ ap not (ne-eqb x 2 q)))
@@ -108,17 +105,15 @@ module _ (b : List ℕ) {a t x : ℕ} (h : a < 128) (l : t < 128) (e : Reads b (
     is-one : no-attribute (schema-of b) a ≡ false
     is-one = sym (attribute-told b a h e) ∙ ap not (eq-eqb x 2 q)
 
-    pub right-object : y ≡ 1 → false ≡ Wrong
+    pub right-object : y ≡ 1 → false ≡ wrong-kind (schema-of b) a t
     right-object p = rw (is-one, sym (object-told b t l f) ∙ ap not (eq-eqb y 1 p))
 
-    pub link-or-wrong : (y ≡ 1 → ⊥) → {z : ℕ} → Reads b (type-at t) z → not (eqb z 3) ≡ Wrong
+    pub link-or-wrong : (y ≡ 1 → ⊥) → {z : ℕ} → Reads b (type-at t) z → not (eqb z 3) ≡ wrong-kind (schema-of b) a t
     link-or-wrong p g = rw (is-one, sym (object-told b t l f) ∙ ap not (ne-eqb y 1 p)) (link-told b t l g)
 
 -- of the types that were found, and so of those that are named
-pub wrong-named : (s : Schema) {a a′ t t′ : ℕ} → a ≡ a′ → t ≡ t′ → {r : Bool} → r ≡ no-attribute s a || (no-object s t && no-link s t)
-    → r ≡ no-attribute s a′ || (no-object s t′ && no-link s t′)
-wrong-named s {a′ = a′} {t = t} e f q =
-    q ∙ ap (λ (x : ℕ). no-attribute s x || (no-object s t && no-link s t)) e ∙ ap (λ (x : ℕ). no-attribute s a′ || (no-object s x && no-link s x)) f
+pub wrong-named : (s : Schema) {a a′ t t′ : ℕ} → a ≡ a′ → t ≡ t′ → {r : Bool} → r ≡ wrong-kind s a t → r ≡ wrong-kind s a′ t′
+wrong-named s {a′ = a′} {t = t} e f q = q ∙ ap (λ (x : ℕ). wrong-kind s x t) e ∙ ap (wrong-kind s a′) f
 
 -- ---- the verdict of a call whose refusals begin with these
 
@@ -156,11 +151,13 @@ abbrev pub unapply-rest : ℕ → Name → Name → Schema → Refusals
 unapply-rest d a n s = (13, not (applied s d (type-named s d n) (type-named s d a))) ∷ []
 
 module _ (d : ℕ) (a n : Name) (s : Schema) where
-  pub apply-left : Left (apply d a n s) (application-refusals d a n s ++ apply-rest d a n s) (done 0 0 0 (with-application d (type-named s d n) (type-named s d a) s))
+  pub apply-left : Left (apply d a n s) (application-refusals d a n s ++ apply-rest d a n s)
+      (done 0 0 0 (with-application d (type-named s d n) (type-named s d a) s))
   unfolding apply
   apply-left = record { is = refl }
 
-  pub unapply-left : Left (unapply d a n s) (application-refusals d a n s ++ unapply-rest d a n s) (done 0 0 0 (less-application d (type-named s d n) (type-named s d a) s))
+  pub unapply-left : Left (unapply d a n s) (application-refusals d a n s ++ unapply-rest d a n s)
+      (done 0 0 0 (less-application d (type-named s d n) (type-named s d a) s))
   unfolding unapply
   unapply-left = record { is = refl }
 
@@ -179,7 +176,8 @@ module _ {b : List ℕ} {d : ℕ} {a n : Name} {v : Asked} (x : Both b d a n v) 
 
   module _ {r : ℕ} (found : First-row (application-count b) (λ i. is-application d (v .to) (v .attribute) (application-shown b i)) r) where
     -- whether there is a row, by their count
-    row-told : {k : ℕ} → Counted (application-count b) 256 k → ltb r k ≡ applied (schema-of b) d (type-named (schema-of b) d n) (type-named (schema-of b) d a)
+    row-told : {k : ℕ} → Counted (application-count b) 256 k
+        → ltb r k ≡ applied (schema-of b) d (type-named (schema-of b) d n) (type-named (schema-of b) d a)
     row-told c = same-applied (applied-row b d (v .to) (v .attribute) (c .is) found)
 
     pub row-none : {k : ℕ} → Counted (application-count b) 256 k → k ≤ r
@@ -190,7 +188,8 @@ module _ {b : List ℕ} {d : ℕ} {a n : Name} {v : Asked} (x : Both b d a n v) 
         → not (applied (schema-of b) d (type-named (schema-of b) d n) (type-named (schema-of b) d a)) ≡ false
     row-some {k} c h = ap not (sym (row-told c) ∙ lt-ltb r k h)
 
-    row-gone : r < application-count b → without (is-application d (v .to) (v .attribute)) ((schema-of b) .applications) ≡ less-row r ((schema-of b) .applications)
+    row-gone : r < application-count b
+        → without (is-application d (v .to) (v .attribute)) ((schema-of b) .applications) ≡ less-row r ((schema-of b) .applications)
     row-gone h =
         let y = application-shown b r in
         let (e, more) = and-both (eqb (y .sds) d) (eqb (y .to) (v .to) && eqb (y .attribute) (v .attribute)) (found .found h) in

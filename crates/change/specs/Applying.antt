@@ -2,13 +2,19 @@
 use Prim.Native.Nat.{ℕ, _<_}
 use mathlib.Core.Path.{_≡_}
 use mathlib.Core.List.{List}
+use mathlib.Core.Bool.{Bool, _&&_, _||_}
 use Rattle.rules.specs.03-Names.{Name}
-use Rattle.rules.specs.04-Schema.{type-named}
+use Rattle.rules.specs.04-Schema.{Schema, type-named}
 use Rattle.rules.specs.07-Picture.{Sound}
+use Rattle.rules.specs.09-Refusals.{no-object, no-attribute, no-link}
 use Rattle.rules.specs.10-Changes.{application-refusals}
 use Rattle.rules.proofs.09-Refusals.{told}
 use Rattle.base.specs.Back.{schema-of}
 use Rattle.change.specs.declared.apply.Asked.{Asked}
+
+-- a is no attribute type, or t is neither an object nor a link type
+abbrev pub wrong-kind : Schema → ℕ → ℕ → Bool
+wrong-kind s a t = no-attribute s a || (no-object s t && no-link s t)
 
 -- where none of them refuses, the two types are those named
 pub record Both (b : List ℕ) (d : ℕ) (a n : Name) (v : Asked) : Type 0 where

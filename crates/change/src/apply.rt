@@ -3,15 +3,13 @@ use super::conditions;
 use rules::Answer;
 use rules::Limits;
 ghost use mathlib.Core.Path.{_≡_};
-ghost use mathlib.Core.Bool.{_&&_, _||_};
 ghost use Prim.Native.Nat.{_<_};
 ghost use lib.ListN.{length};
 ghost use Rattle.rules.specs.07-Picture.{base-length};
-ghost use Rattle.rules.specs.09-Refusals.{no-object, no-attribute, no-link};
 ghost use Rattle.rules.specs.10-Changes.{apply, unapply};
 ghost use Rattle.rules.specs.12-Contracts.{Kept};
 ghost use Rattle.base.specs.Back.{schema-of};
-ghost use Rattle.change.specs.Applying.{Tested};
+ghost use Rattle.change.specs.Applying.{wrong-kind, Tested};
 
 // The number of the refusal, 0 where there is none; then the attribute type, and the type that it is to be applied to.
 pub struct Asked {
@@ -33,7 +31,7 @@ fn refused(no: usize) -> Asked
 // Whether a is no attribute type, or t is neither an object nor a link type.
 fn is_wrong_kind(base: &[u8], a: usize, t: usize) -> bool
     requires { ⌜ (length (now base) ≡ base-length) × ((a < 128) × (t < 128)) ⌝ }
-    ensures { λ r. ⌜ (let s = schema-of (now (base .entry)) in r ≡ no-attribute s a || (no-object s t && no-link s t)) ⌝ }
+    ensures { λ r. ⌜ r ≡ wrong-kind (schema-of (now (base .entry))) a t ⌝ }
 {
     if base::kind(base, a) != 2 {
         return true;

@@ -2,14 +2,14 @@ use borrow.Author.Needs.{needs}
 use Prim.Native.Nat.{_<_}
 use native.Mathlib.Omega.{arith}
 use mathlib.Core.Path.{_≡_, refl, sym, _∙_}
-use mathlib.Core.Bool.{true, _&&_, _||_}
+use mathlib.Core.Bool.{true}
 use borrow.Author.Tests.{not-true, not-false}
 use Rattle.rules.specs.03-Names.{well-formed}
 use Rattle.rules.specs.04-Schema.{used-sds, bears, type-named}
-use Rattle.rules.specs.09-Refusals.{no-object, no-attribute, no-link}
 use Rattle.base.specs.Back.{schema-of}
 use Rattle.base.proofs.SdsShown.{used-below, known, unknown}
 use Rattle.base.proofs.Kept.{sound-long}
+use Rattle.change.specs.Applying.{wrong-kind}
 use Rattle.change.proofs.Laws.{formed-passes, malformed-stops, system-stops, system-passes}
 use Rattle.change.proofs.RenameLaws.{one-malformed, other-malformed, none-malformed, name-there, name-missing, borne, not-borne}
 use Rattle.change.proofs.ApplyLaws.{Past, come-first, come-next, asked-spoiled, asked-refused, asked-both, one-missing, other-missing, none-missing, wrong-named}
@@ -53,7 +53,7 @@ past-4 : (c : tie.Else7) → let x = c .before .before .before .before .before .
 past-4 c = come-next (past-3 (c .before .before .before .before)) (none-missing _ _ _ _ (name-there _ _ _ (bears-6 (c .before .before))) (name-there _ _ _ (bears-7 c)))
 
 -- the kinds were tested of the types that are named
-kinds-8 : (c : tie.After-is-wrong-kind) → let x = c .before .before .before .before .before .before .before .before .before .before .before .before .before .before .before .before .before .args in let s = (schema-of (x .base .now)) in let t = type-named s (x .sds) (x .to .now) in c .is-wrong-kind .result ≡ no-attribute s (type-named s (x .sds) (x .attribute .now)) || (no-object s t && no-link s t)
+kinds-8 : (c : tie.After-is-wrong-kind) → let x = c .before .before .before .before .before .before .before .before .before .before .before .before .before .before .before .before .before .args in let s = (schema-of (x .base .now)) in c .is-wrong-kind .result ≡ wrong-kind s (type-named s (x .sds) (x .attribute .now)) (type-named s (x .sds) (x .to .now))
 kinds-8 c = wrong-named _ (type-6 (c .before .before .before) .1) (type-7 (c .before) .1) (c .is-wrong-kind .ensures)
 
 is-sound-requires : tie.Need-is-sound-requires

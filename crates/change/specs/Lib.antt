@@ -1,2 +1,3 @@
 pub mod Conditions
 pub mod Applying
+pub mod Create

@@ -1,6 +1,7 @@
 // The changing calls. Each tests the refusals of its rule in their order, and writes only where none holds.
 pub mod apply;
 pub mod conditions;
+pub mod create;
 
 use base::Base;
 use rules::Answer;

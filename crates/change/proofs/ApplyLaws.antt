@@ -10,7 +10,7 @@ use borrow.Author.Tests.{eq-eqb, ne-eqb, eqb-true, lt-ltb, le-ltb}
 use Rattle.rules.specs.declared.Answer.{Answer}
 use Rattle.rules.specs.01-Lists.{all, without, put}
 use Rattle.rules.specs.03-Names.{Name}
-use Rattle.rules.specs.04-Schema.{Schema, Application, type-named, applied, is-application, application-before}
+use Rattle.rules.specs.04-Schema.{Schema, Application, kind-of, is-attribute, type-named, applied, is-application, application-before}
 use Rattle.rules.specs.07-Picture.{Sound, picture}
 use Rattle.rules.specs.09-Refusals.{Outcome, Refusals, no-such-name, no-object, no-attribute, no-link, applications-full, refusal}
 use Rattle.rules.specs.09-Refusals.Outcome.{refused, done}
@@ -18,7 +18,7 @@ use Rattle.rules.specs.10-Changes.{with-applications, application-refusals, app
 use Rattle.rules.specs.12-Contracts.{Kept}
 use Rattle.rules.proofs.Bools.{or-left, or-right, and-both}
 use Rattle.rules.proofs.09-Refusals.{Left, told, told-stops, told-passes}
-use Rattle.base.specs.Rows.{Counted, Reads, type-at}
+use Rattle.base.specs.Rows.{Counted}
 use Rattle.base.specs.Back.{schema-of, application-count, application-shown}
 use Rattle.base.specs.Found.{First-row}
 use Rattle.base.specs.Stored.{less-row, Shows}
@@ -26,7 +26,8 @@ use Rattle.base.proofs.Kept.{kept-refused}
 use Rattle.base.proofs.Shown.{applications-long}
 use Rattle.base.proofs.StoredLaws.{sound-stored}
 use Rattle.base.proofs.TakenLaws.{application-without}
-use Rattle.closed.proofs.KindLaws.{object-byte, attribute-byte, link-byte}
+use Rattle.base.specs.Kinds.{kind-code}
+use Rattle.base.proofs.KindBytes.{told-object, told-attribute, told-link}
 use Rattle.change.specs.declared.apply.Asked.{Asked}
 use Rattle.change.specs.Applying.{wrong-kind, Both, Tested}
 use Rattle.change.proofs.ConditionLaws.{applied-row}
@@ -80,36 +81,23 @@ module _ (s : Schema) (d : ℕ) (a n : Name) where
   pub none-missing : no-such-name s d a ≡ false → no-such-name s d n ≡ false → no-such-name s d a || no-such-name s d n ≡ false
   none-missing e f = rw (e, f)
 
--- ---- the kinds, by their bytes
+-- ---- the kinds, by their codes
 
-module _ (b : List ℕ) (t : ℕ) (h : t < 128) {x : ℕ} (e : Reads b (type-at t) x) where
-  attribute-told : not (eqb x 2) ≡ no-attribute (schema-of b) t
+module _ (b : List ℕ) (a t : ℕ) {x : Bool} (e : x ≡ eqb (kind-code (kind-of (schema-of b) a)) 2) where
+  pub wrong-attribute : not x ≡ true → true ≡ wrong-kind (schema-of b) a t
   unfolding no-attribute
-  attribute-told = ap not (attribute-byte b t x h (e .is))
-
-  object-told : not (eqb x 1) ≡ no-object (schema-of b) t
-  unfolding no-object
-  object-told = ap not (object-byte b t x h (e .is))
-
-  link-told : not (eqb x 3) ≡ no-link (schema-of b) t
-  unfolding no-link
-  link-told = ap not (link-byte b t x h (e .is))
-
-module _ (b : List ℕ) {a t x : ℕ} (h : a < 128) (l : t < 128) (e : Reads b (type-at a) x) where
-  pub wrong-attribute : (x ≡ 2 → ⊥) → true ≡ wrong-kind (schema-of b) a t
   wrong-attribute q =
-      sym (or-left (no-attribute (schema-of b) a) (no-object (schema-of b) t && no-link (schema-of b) t)
-      (sym (attribute-told b a h e) ∙ ap not (ne-eqb x 2 q)))
+      sym (or-left (not (is-attribute (kind-of (schema-of b) a))) (no-object (schema-of b) t && no-link (schema-of b) t)
+      (ap not (told-attribute b a e) ∙ q))
 
-  module _ (q : x ≡ 2) {y : ℕ} (f : Reads b (type-at t) y) where
-    is-one : no-attribute (schema-of b) a ≡ false
-    is-one = sym (attribute-told b a h e) ∙ ap not (eq-eqb x 2 q)
+  module _ (q : not x ≡ false) {y : Bool} (f : y ≡ eqb (kind-code (kind-of (schema-of b) t)) 1) where
+    pub right-object : y ≡ true → false ≡ wrong-kind (schema-of b) a t
+    unfolding no-attribute no-object
+    right-object p = rw (ap not (told-attribute b a e) ∙ q, told-object b t f ∙ p)
 
-    pub right-object : y ≡ 1 → false ≡ wrong-kind (schema-of b) a t
-    right-object p = rw (is-one, sym (object-told b t l f) ∙ ap not (eq-eqb y 1 p))
-
-    pub link-or-wrong : (y ≡ 1 → ⊥) → {z : ℕ} → Reads b (type-at t) z → not (eqb z 3) ≡ wrong-kind (schema-of b) a t
-    link-or-wrong p g = rw (is-one, sym (object-told b t l f) ∙ ap not (ne-eqb y 1 p)) (link-told b t l g)
+    pub link-or-wrong : y ≡ false → {z : Bool} → z ≡ eqb (kind-code (kind-of (schema-of b) t)) 3 → not z ≡ wrong-kind (schema-of b) a t
+    unfolding no-attribute no-object no-link
+    link-or-wrong p g = rw (ap not (told-attribute b a e) ∙ q, told-object b t f ∙ p) (ap not (sym (told-link b t g)))
 
 -- of the types that were found, and so of those that are named
 pub wrong-named : (s : Schema) {a a′ t t′ : ℕ} → a ≡ a′ → t ≡ t′ → {r : Bool} → r ≡ wrong-kind s a t → r ≡ wrong-kind s a′ t′

@@ -30,16 +30,16 @@ fn refused(no: usize) -> Asked
 
 // Whether a is no attribute type, or t is neither an object nor a link type.
 fn is_wrong_kind(base: &[u8], a: usize, t: usize) -> bool
-    requires { ⌜ (length (now base) ≡ base-length) × ((a < 128) × (t < 128)) ⌝ }
+    requires { ⌜ length (now base) ≡ base-length ⌝ }
     ensures { λ r. ⌜ r ≡ wrong-kind (schema-of (now (base .entry))) a t ⌝ }
 {
-    if base::kind(base, a) != 2 {
+    if !base::find::is_kind(base, a, 2) {
         return true;
     }
-    if base::kind(base, t) == 1 {
+    if base::find::is_kind(base, t, 1) {
         return false;
     }
-    base::kind(base, t) != 3
+    !base::find::is_kind(base, t, 3)
 }
 
 // What both calls test, once, in the order of their refusals.

@@ -123,7 +123,7 @@ returns-7 : tie.Need-returns-7
 returns-7 c = asked-refused (past-3 (c .before .before .before .before .before)) (other-missing _ _ _ _ (name-missing _ _ _ (not-borne (c .before .before .type-in2 .ensures) (c .before .if7 .taken)))) (omega arith) (c .refused7 .ensures)
 
 is-wrong-kind-requires : tie.Need-is-wrong-kind-requires
-is-wrong-kind-requires c κs = (sound-long (past-4 c .sound), (type-6 (c .before .before) .0, type-7 c .0))
+is-wrong-kind-requires c κs = sound-long (past-4 c .sound)
 
 refused-requires-8 : tie.Need-refused-requires-8
 refused-requires-8 c κs = search needs

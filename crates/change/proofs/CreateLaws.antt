@@ -61,7 +61,8 @@ whole-left : {o effect : Outcome Schema} {cs : Refusals} → Left o cs effect �
 whole-left {o} {effect} {cs} l = l .is ∙ ap (λ (x : Refusals). verdict x effect) (sym (append-nil cs))
 
 module _ {b : List ℕ} {cs : Refusals} {no : ℕ} {effect : Outcome Schema} where
-  pub tested-stops : {rule : Schema → Outcome Schema} {a : Answer} → Tested b cs no → (no ≡ 0 → ⊥) → Left (rule (schema-of b)) cs effect → a ≡ refusal no → Kept b rule a b
+  pub tested-stops : {rule : Schema → Outcome Schema} {a : Answer} → Tested b cs no → (no ≡ 0 → ⊥) → Left (rule (schema-of b)) cs effect
+      → a ≡ refusal no → Kept b rule a b
   tested-stops (spoiled n e) z l q = kept-spoiled n (q ∙ ap refusal e)
   tested-stops (tested s e) z l q = kept-refused s (told-stops effect cs [] (whole-left l) (λ w. z (e ∙ w))) (q ∙ ap refusal e)
 
@@ -96,7 +97,9 @@ module _ (b : List ℕ) (more : ℕ) where
 
   pub presences-short : 512 < presence-count b + more → types-full (schema-of b) more ≡ true
   unfolding types-full presences-full
-  presences-short h = or-right (ltb (length (free-types (schema-of b))) more) _ (lt-ltb 512 (length ((schema-of b) .presences) + more) (omega (arith, presences-long b)))
+  presences-short h =
+      or-right (ltb (length (free-types (schema-of b))) more) _
+      (lt-ltb 512 (length ((schema-of b) .presences) + more) (omega (arith, presences-long b)))
 
   pub both-fit : ltb (length (free-types (schema-of b))) more ≡ false → presence-count b + more ≤ 512 → types-full (schema-of b) more ≡ false
   unfolding types-full presences-full
@@ -115,9 +118,11 @@ module _ (b : List ℕ) (t : ℕ) (k : Kind) {b₁ : List ℕ} (w : Becomes b t 
   unfolding bears
   free-typed e = ap (λ (x : Schema). bears x d n) typed ∙ e
 
-  pub type-put : {b₂ : List ℕ} → Shows b₂ (with-presences (schema-of b₁) (put presence-before (record { sds = d; name = n; type = t }) ((schema-of b₁) .presences)))
+  pub type-put : {b₂ : List ℕ}
+      → Shows b₂ (with-presences (schema-of b₁) (put presence-before (record { sds = d; name = n; type = t }) ((schema-of b₁) .presences)))
       → Shows b₂ (with-type t k d n (schema-of b))
-  type-put {b₂} p = subst (λ (x : Schema). Shows b₂ (with-presences x (put presence-before (record { sds = d; name = n; type = t }) (x .presences)))) typed p
+  type-put {b₂} p =
+      subst (λ (x : Schema). Shows b₂ (with-presences x (put presence-before (record { sds = d; name = n; type = t }) (x .presences)))) typed p
 
 -- the kinds by their rows
 module _ {b : List ℕ} {t : ℕ} {b₁ : List ℕ} where
@@ -150,7 +155,9 @@ module _ {b : List ℕ} {d : ℕ} {n : Name} {t : ℕ} (r : Ready b d n t) (k : 
   -- what its presence needs once it has its row
   pub presence-ready : Stored b₁ × (((d < 256) × (t < 256))
       × ((well-formed n ≡ true) × ((length ((schema-of b₁) .presences) < 512) × (bears (schema-of b₁) d n ≡ false))))
-  presence-ready = (shows-stored w, ((omega (arith, r .small), omega (arith, r .below)), (r .formed, (room-typed b t k w d n (r .room), free-typed b t k w d n (r .free)))))
+  presence-ready =
+      let small : (d < 256) × (t < 256) = (omega (arith, r .small), omega (arith, r .below)) in
+      (shows-stored w, (small, (r .formed, (room-typed b t k w d n (r .room), free-typed b t k w d n (r .free)))))
 
   pub made-kept : {rule : Schema → Outcome Schema} {a : Answer} {b₂ : List ℕ} → rule (schema-of b) ≡ made d n k (schema-of b) → a ≡ success t 0 0
       → Shows b₂ (with-presences (schema-of b₁) (put presence-before (record { sds = d; name = n; type = t }) ((schema-of b₁) .presences)))

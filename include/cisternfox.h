@@ -33,6 +33,29 @@ cf_answer cf_new_sds(uint8_t *base, size_t base_len, const uint8_t *name, size_t
  * 1: the base is not sound; 2: no SDS has the number; 3: it is SDS 0; 12: it holds a type. */
 cf_answer cf_remove_sds(uint8_t *base, size_t base_len, size_t sds);
 
+/* Makes an attribute type in an SDS. Its value kind is 0 boolean, 1 integer, 2 natural, 3 float, 4 time or 5 string.
+ * one: its number, the lowest unused.
+ * 1: the base is not sound; 2: no SDS has the number; 3: it is SDS 0; 4: the name is malformed; 5: the value kind is
+ * unknown; 11: a type bears the name in that SDS; 14: there is no room for a type or a presence. */
+cf_answer cf_new_attribute(uint8_t *base, size_t base_len, size_t sds, const uint8_t *name, size_t name_len,
+                           size_t value_kind);
+
+/* Makes a designation link type in an SDS. one: its number, the lowest unused.
+ * 1: the base is not sound; 2: no SDS has the number; 3: it is SDS 0; 4: the name is malformed; 11: a type bears the
+ * name in that SDS; 14: there is no room for a type or a presence. */
+cf_answer cf_new_designation(uint8_t *base, size_t base_len, size_t sds, const uint8_t *name, size_t name_len);
+
+/* Applies an attribute type to an object or link type within an SDS, by their local names there.
+ * 1: the base is not sound; 2: no SDS has the number; 3: it is SDS 0; 4: a name is malformed; 6: no type bears a name
+ * there; 7: the first is no attribute type, or the second an attribute type; 9: it is applied; 14: there is no room for
+ * an application. */
+cf_answer cf_apply(uint8_t *base, size_t base_len, size_t sds, const uint8_t *attribute, size_t attribute_len,
+                   const uint8_t *to, size_t to_len);
+
+/* Takes that away. 1, 2, 3, 4, 6, 7: as above; 13: it is not applied. */
+cf_answer cf_unapply(uint8_t *base, size_t base_len, size_t sds, const uint8_t *attribute, size_t attribute_len,
+                     const uint8_t *to, size_t to_len);
+
 /* Gives a type another local name in an SDS. Its own present name is accepted and changes nothing.
  * 1: the base is not sound; 2: no SDS has the number; 3: it is SDS 0; 4: a name is malformed; 6: no type bears the name
  * in that SDS; 11: another type bears the new one there. */

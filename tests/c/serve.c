@@ -29,6 +29,10 @@ struct lent {
     CALL(fresh, BASE) \
     CALL(new_sds, BASE, TEXT(0)) \
     CALL(remove_sds, BASE, NUMBER(0)) \
+    CALL(new_attribute, BASE, NUMBER(0), TEXT(0), NUMBER(1)) \
+    CALL(new_designation, BASE, NUMBER(0), TEXT(0)) \
+    CALL(apply, BASE, NUMBER(0), TEXT(0), TEXT(1)) \
+    CALL(unapply, BASE, NUMBER(0), TEXT(0), TEXT(1)) \
     CALL(rename, BASE, NUMBER(0), TEXT(0), TEXT(1)) \
     CALL(name, BASE, NUMBER(0), NUMBER(1)) \
     CALL(scan_object, BASE, TEXT(0), NUMBER(0), NUMBER(1), OUTPUT) \

@@ -62,6 +62,10 @@ static cf_answer new_sds(const char *name) { return cf_new_sds(base, LENGTH, TEX
 static cf_answer remove_sds(size_t sds) { return cf_remove_sds(base, LENGTH, sds); }
 static cf_answer name(size_t sds, size_t type) { return cf_name(base, LENGTH, sds, type); }
 
+#define NEW_ATTRIBUTE(sds, name, kind) cf_new_attribute(base, LENGTH, sds, TEXT(name), kind)
+#define NEW_DESIGNATION(sds, name) cf_new_designation(base, LENGTH, sds, TEXT(name))
+#define APPLY(sds, attribute, to) cf_apply(base, LENGTH, sds, TEXT(attribute), TEXT(to))
+#define UNAPPLY(sds, attribute, to) cf_unapply(base, LENGTH, sds, TEXT(attribute), TEXT(to))
 #define RENAME(sds, name, new_name) cf_rename(base, LENGTH, sds, TEXT(name), TEXT(new_name))
 
 /* The asking calls; a working schema is a string of bytes, written as SCHEMA("\1\2"). The output's length is the one
@@ -311,6 +315,38 @@ static void another_name(void)
     EXPECT(is_guarded());
 }
 
+static void new_types(void)
+{
+    a_base_with_adc();
+    ANSWERS(NEW_ATTRIBUTE(16, "state", 5), 2, 0, 0, 0);
+    ANSWERS(NEW_ATTRIBUTE(0, "state", 5), 3, 0, 0, 0);
+    ANSWERS(NEW_ATTRIBUTE(1, "9state", 5), 4, 0, 0, 0);
+    ANSWERS(NEW_ATTRIBUTE(1, "state", 6), 5, 0, 0, 0);
+    ANSWERS(NEW_ATTRIBUTE(1, "radio", 5), 11, 0, 0, 0);
+    ANSWERS(NEW_DESIGNATION(1, "radio"), 11, 0, 0, 0);
+    EXPECT(is_kept());
+    ANSWERS(NEW_ATTRIBUTE(1, "state", 5), 0, 6, 0, 0);
+    ANSWERS(NEW_DESIGNATION(1, "points"), 0, 7, 0, 0);
+    EXPECT(is_named(1, 6, "state") && is_named(1, 7, "points") && is_named(1, ADC, "adc"));
+    keep();
+    ANSWERS(APPLY(1, "radio", "state"), 7, 0, 0, 0);
+    ANSWERS(APPLY(1, "state", "state"), 7, 0, 0, 0);
+    ANSWERS(APPLY(1, "state", "none"), 6, 0, 0, 0);
+    ANSWERS(UNAPPLY(1, "state", "radio"), 13, 0, 0, 0);
+    EXPECT(is_kept());
+    ANSWERS(APPLY(1, "state", "radio"), 0, 0, 0, 0);
+    ANSWERS(APPLY(1, "state", "points"), 0, 0, 0, 0);
+    ANSWERS(APPLY(1, "state", "radio"), 9, 0, 0, 0);
+    output_length = OUTPUT;
+    ANSWERS(SCAN_OBJECT("\1", ADC, 5), 0, 1, 0, 0);
+    ANSWERS(SCAN_LINK("\1", 7, 4), 0, 1, 0, 0);
+    memset(output_area, 0xa5, sizeof output_area);
+    ANSWERS(UNAPPLY(1, "state", "points"), 0, 0, 0, 0);
+    ANSWERS(UNAPPLY(1, "state", "radio"), 0, 0, 0, 0);
+    EXPECT(is_kept());
+    EXPECT(is_guarded());
+}
+
 static void a_spoiled_base(void)
 {
     fresh();
@@ -505,6 +541,7 @@ int main(void)
     numbers_at_full_width();
     name_of_a_type();
     another_name();
+    new_types();
     a_spoiled_base();
     a_fresh_base_asked();
     every_descendant();

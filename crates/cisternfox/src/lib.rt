@@ -2,7 +2,7 @@
 // says what the host owes.
 use base::Base;
 use rules::Answer;
-ghost use Rattle.rules.specs.10-Changes.{new-sds, remove-sds, rename};
+ghost use Rattle.rules.specs.10-Changes.{new-sds, remove-sds, new-attribute, new-designation, apply, unapply, rename};
 ghost use Rattle.rules.specs.11-Asks.{scan-object, scan-link, profile, find, depth-of, name, descendant-set};
 ghost use Rattle.rules.specs.07-Picture.{base-length};
 ghost use Rattle.rules.specs.12-Contracts.{room, Kept, Listed, Answered, Freshened};
@@ -37,10 +37,38 @@ pub extern "C" fn cf_remove_sds(base: &mut [u8], sds: usize) -> Answer
 }
 
 #[no_mangle]
+pub extern "C" fn cf_new_attribute(base: &mut [u8], sds: usize, name: &[u8], value: usize) -> Answer
+    ensures { λ r. ⌜ Kept (now (base .entry)) (new-attribute sds (now (name .entry)) value) r (now (base .exit)) ⌝ }
+{
+    change::create::new_attribute(base, sds, name, value)
+}
+
+#[no_mangle]
+pub extern "C" fn cf_new_designation(base: &mut [u8], sds: usize, name: &[u8]) -> Answer
+    ensures { λ r. ⌜ Kept (now (base .entry)) (new-designation sds (now (name .entry))) r (now (base .exit)) ⌝ }
+{
+    change::create::new_designation(base, sds, name)
+}
+
+#[no_mangle]
+pub extern "C" fn cf_apply(base: &mut [u8], sds: usize, attribute: &[u8], to: &[u8]) -> Answer
+    ensures { λ r. ⌜ Kept (now (base .entry)) (apply sds (now (attribute .entry)) (now (to .entry))) r (now (base .exit)) ⌝ }
+{
+    change::apply::apply(base, sds, attribute, to)
+}
+
+#[no_mangle]
+pub extern "C" fn cf_unapply(base: &mut [u8], sds: usize, attribute: &[u8], to: &[u8]) -> Answer
+    ensures { λ r. ⌜ Kept (now (base .entry)) (unapply sds (now (attribute .entry)) (now (to .entry))) r (now (base .exit)) ⌝ }
+{
+    change::apply::unapply(base, sds, attribute, to)
+}
+
+#[no_mangle]
 pub extern "C" fn cf_rename(base: &mut [u8], sds: usize, name: &[u8], new: &[u8]) -> Answer
     ensures { λ r. ⌜ Kept (now (base .entry)) (rename sds (now (name .entry)) (now (new .entry))) r (now (base .exit)) ⌝ }
 {
-    change::rename(base, sds, name, new)
+    change::rename::rename(base, sds, name, new)
 }
 
 #[no_mangle]

@@ -1,7 +1,7 @@
 use borrow.Author.Needs.{needs}
 use Rattle.change.proofs.RenameLaws.{another-none, another-some}
-use Rattle.change.proofs.is_borne_by_another.Statement.{statement}
-use Rattle.change.proofs.is_borne_by_another.Tie as tie
+use Rattle.change.proofs.rename.is_borne_by_another.Statement.{statement}
+use Rattle.change.proofs.rename.is_borne_by_another.Tie as tie
 
 type-in-requires : tie.Need-type-in-requires
 type-in-requires c κs = c .before .before .pre .0

@@ -18,8 +18,8 @@ use Rattle.base.proofs.Kept.{sound-long, kept-spoiled, kept-refused, kept-done}
 use Rattle.base.proofs.StoredLaws.{sound-stored, shows-stored}
 use Rattle.change.proofs.Laws.{formed-passes, malformed-stops, system-stops, system-passes}
 use Rattle.change.proofs.RenameLaws.{renamed, rename-effect, rename-left, one-malformed, other-malformed, none-malformed, name-there, name-missing, borne, not-borne, row-there, room-then, name-free, put-again}
-use Rattle.change.proofs.rename.Statement.{statement}
-use Rattle.change.proofs.rename.Tie as tie
+use Rattle.change.proofs.rename.rename.Statement.{statement}
+use Rattle.change.proofs.rename.rename.Tie as tie
 
 -- what k of the rule's tests leave
 abbrev Ways : List ℕ → ℕ → Name → Name → ℕ → Type 0

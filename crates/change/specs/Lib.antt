@@ -1,3 +1,4 @@
 pub mod Conditions
 pub mod Applying
 pub mod Create
+pub mod Ends

@@ -3,6 +3,7 @@ pub mod apply;
 pub mod conditions;
 pub mod create;
 pub mod rename;
+pub mod ends;
 
 use base::Base;
 use rules::Answer;

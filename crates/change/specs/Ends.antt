@@ -1,10 +1,12 @@
 -- What the calls on the ends of link types have tested of their inputs.
-use Prim.Native.Nat.{ℕ, _<_}
+use Prim.Native.Nat.{ℕ, _≤_, _<_}
 use mathlib.Core.Path.{_≡_}
-use mathlib.Core.List.{List}
-use mathlib.Core.Bool.{true}
+use mathlib.Core.List.{List, [], _∷_}
+use mathlib.Core.Bool.{true, cond}
+use lib.Dec.{ltb}
 use Rattle.rules.specs.03-Names.{Name}
-use Rattle.rules.specs.04-Schema.{used-sds, kind-of, is-object, is-link, type-named}
+use Rattle.rules.specs.04-Schema.{Schema, used-sds, kind-of, is-link, reverse, type-named}
+use Rattle.rules.specs.04-Schema.Kind.{paired}
 use Rattle.rules.specs.07-Picture.{Sound}
 use Rattle.rules.specs.10-Changes.{end-refusals}
 use Rattle.rules.proofs.09-Refusals.{told}
@@ -26,3 +28,13 @@ pub record Aimed (b : List ℕ) (d : ℕ) (n m : Name) (v : Aim) : Type 0 where
   pub spoiled : (Sound b → ⊥) → v .no ≡ 1
   pub told : Sound b → v .no ≡ told (end-refusals d n m (schema-of b))
   pub through : v .no ≡ 0 → Through b d n m v
+
+-- the type of that number, or none
+abbrev pub one-or-none : ℕ → List ℕ
+one-or-none r = cond (ltb r 128) (r ∷ []) []
+
+-- r is the reverse of l, 128 where l has none
+pub record Reverse-of (s : Schema) (l r : ℕ) : Type 0 where
+  pub fits : r ≤ 128
+  pub is : reverse s l ≡ one-or-none r
+  pub pair : r < 128 → (c : ℕ) × (kind-of s l ≡ paired c r)

@@ -243,7 +243,8 @@ mirror-free {s} good d l c r o side k e = go (has-end s d r (other-side side) o)
         let (p3, p4) = and-both (eqb (side-code (x .side)) (side-code (other-side side))) (eqb (x .object) o) q2 in
         let (c′, back) = good .reverse-in-turn l c r k in
         let m = good .mirrored x i c′ l (ap (kind-of s) (eqb-true (x .link) r p2) ∙ back) in
-        (λ j. has-end s (sym (eqb-true (x .sds) d p1) j) l (sym (turned (x .side) side (eqb-true (side-code (x .side)) (side-code (other-side side)) p3)) j) (sym (eqb-true (x .object) o p4) j)) ∙ m
+        let same : other-side (x .side) ≡ side = turned (x .side) side (eqb-true (side-code (x .side)) (side-code (other-side side)) p3) in
+        (λ j. has-end s (sym (eqb-true (x .sds) d p1) j) l (sym same j) (sym (eqb-true (x .object) o p4) j)) ∙ m
 
     go : (t : Bool) → has-end s d r (other-side side) o ≡ t → t ≡ false
     go true f = absurd (true≢false (sym (found f) ∙ e))
@@ -265,7 +266,8 @@ add-left side d n m s = record { is = refl }
 
 -- the tests that are left, of the types that were found
 pub add-tests : {b : List ℕ} {d : ℕ} {n m : Name} {v : Aim} → Aimed b d n m v → v .no ≡ 0 → (side : Side)
-    → Left (add-end side d n m (schema-of b)) (add-rest side d (v .link) (v .object) (schema-of b)) (done 0 0 0 (added side d (v .link) (v .object) (schema-of b)))
+    → Left (add-end side d n m (schema-of b)) (add-rest side d (v .link) (v .object) (schema-of b))
+    (done 0 0 0 (added side d (v .link) (v .object) (schema-of b)))
 add-tests {b} {d} {n} {m} {v} aimed z side =
     let th = aimed .through z in
     let s = schema-of b in
@@ -295,7 +297,8 @@ module _ (b : List ℕ) {l r : ℕ} (rev : Reverse-of (schema-of b) l r) (room :
 
     module _ (k : r < 128) where
       pub room-second : length ((schema-of b₁) .ends) < 512
-      room-second = omega (arith, ap (λ (s : Schema). length (s .ends)) (shows-schema out), longer end-before (end-of d l side o) ((schema-of b) .ends), room-both k)
+      room-second =
+          omega (arith, ap (λ (s : Schema). length (s .ends)) (shows-schema out), longer end-before (end-of d l side o) ((schema-of b) .ends), room-both k)
 
       second-none : Sound b → has-end (schema-of b) d l side o ≡ false → has-end (schema-of b₁) d r (other-side side) o ≡ false
       unfolding has-end
@@ -325,4 +328,5 @@ module _ (b : List ℕ) {l r : ℕ} (rev : Reverse-of (schema-of b) l r) (room :
     pub added-both : {b₂ : List ℕ} → Shows b₂ (with-ends (schema-of b₁) (put end-before (end-of d r (read-side (1 - x)) o) ((schema-of b₁) .ends)))
         → b₂ ≡ picture (added (read-side x) d l o (schema-of b))
     added-both {b₂} out₂ =
-        added-two d o (read-side x) out k (subst (λ (z : Side). Shows b₂ (with-ends (schema-of b₁) (put end-before (end-of d r z o) ((schema-of b₁) .ends)))) (other-is x small) out₂)
+        added-two d o (read-side x) out k
+        (subst (λ (z : Side). Shows b₂ (with-ends (schema-of b₁) (put end-before (end-of d r z o) ((schema-of b₁) .ends)))) (other-is x small) out₂)

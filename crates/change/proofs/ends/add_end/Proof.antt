@@ -38,8 +38,8 @@ returns c = aimed-refused (c .before .before .before .aimed-at .ensures) (c .bef
 
 is-end-requires : tie.Need-is-end-requires
 is-end-requires c κs =
-  let th = through-1 (c .before) in
-  (th .sound, (omega (arith, sds-1 (c .before)), (omega (arith, th .link-below), (c .before .before .before .before .before .before .before .before .pre, omega (arith, th .object-below)))))
+    let th = through-1 (c .before) in
+    (th .sound, (omega (arith, sds-1 (c .before)), (omega (arith, th .link-below), (c .before .before .before .before .before .before .before .before .pre, omega (arith, th .object-below)))))
 
 refused-requires-2 : tie.Need-refused-requires-2
 refused-requires-2 c κs = search needs
@@ -64,14 +64,18 @@ same-length-3 c = search needs
 
 returns-3 : tie.Need-returns-3
 returns-3 c =
-  kept-refused (through-1 (c .before .before .before .before .before .before .before .before .before) .sound) (stops (passes (add-tests (c .before .before .before .before .before .before .before .before .before .before .before .aimed-at .ensures) (c .before .before .before .before .before .before .before .before .before .if1 .left) _) (free-2 (c .before .before .before .before .before .before)))
-  (sym (full-is (c .before .before .before .before .reverse-of .ensures)) ∙ sym (c .before .before .is-full .ensures) ∙ c .before .if3 .taken)) (c .refused3 .ensures)
+    kept-refused (through-1 (c .before .before .before .before .before .before .before .before .before) .sound) (stops (passes (add-tests (c .before .before .before .before .before .before .before .before .before .before .before .aimed-at .ensures) (c .before .before .before .before .before .before .before .before .before .if1 .left) _) (free-2 (c .before .before .before .before .before .before)))
+    (sym (full-is (c .before .before .before .before .reverse-of .ensures)) ∙ sym (c .before .before .is-full .ensures) ∙ c .before .if3 .taken)) (c .refused3 .ensures)
 
 put-end-requires : tie.Need-put-end-requires
 put-end-requires c κs =
-  let th = through-1 (c .before .before .before .before .before .before .before .before .before) in
-  (sound-stored (th .sound), ((th .outside, (omega (arith, sds-1 (c .before .before .before .before .before .before .before .before .before)), (omega (arith, th .link-below), (c .before .before .before .before .before .before .before .before .before .before .before .before .before .before .before .before .pre, omega (arith, th .object-below))))),
-  (room-first _ (c .before .before .before .before .reverse-of .ensures) (sym (c .before .before .is-full .ensures) ∙ c .before .if3 .left), free-2 (c .before .before .before .before .before .before))))
+    let th = through-1 (c .before .before .before .before .before .before .before .before .before) in (
+      sound-stored (th .sound),
+      (
+        (th .outside, (omega (arith, sds-1 (c .before .before .before .before .before .before .before .before .before)), (omega (arith, th .link-below), (c .before .before .before .before .before .before .before .before .before .before .before .before .before .before .before .before .pre, omega (arith, th .object-below))))),
+        (room-first _ (c .before .before .before .before .reverse-of .ensures) (sym (c .before .before .is-full .ensures) ∙ c .before .if3 .left), free-2 (c .before .before .before .before .before .before)),
+      ),
+    )
 
 done-requires : tie.Need-done-requires
 done-requires c κs = search needs
@@ -81,23 +85,27 @@ same-length-4 c = search needs
 
 returns-4 : tie.Need-returns-4
 returns-4 c =
-  let rev = c .before .before .before .before .before .before .before .before .before .reverse-of .ensures in
-  let room = sym (c .before .before .before .before .before .before .before .is-full .ensures) ∙ c .before .before .before .before .before .before .if3 .left in
-  kept-done (through-1 (c .before .before .before .before .before .before .before .before .before .before .before .before .before .before) .sound) (ends (passes (passes (add-tests (c .before .before .before .before .before .before .before .before .before .before .before .before .before .before .before .before .aimed-at .ensures) (c .before .before .before .before .before .before .before .before .before .before .before .before .before .before .if1 .left) _) (free-2 (c .before .before .before .before .before .before .before .before .before .before .before))) (sym (full-is rev) ∙ room)))
-  (c .done .ensures) (added-one _ rev room _ _ _ (c .before .before .before .before .put-end .ensures) (c .before .if4 .taken))
+    let rev = c .before .before .before .before .before .before .before .before .before .reverse-of .ensures in
+    let room = sym (c .before .before .before .before .before .before .before .is-full .ensures) ∙ c .before .before .before .before .before .before .if3 .left in
+    kept-done (through-1 (c .before .before .before .before .before .before .before .before .before .before .before .before .before .before) .sound) (ends (passes (passes (add-tests (c .before .before .before .before .before .before .before .before .before .before .before .before .before .before .before .before .aimed-at .ensures) (c .before .before .before .before .before .before .before .before .before .before .before .before .before .before .if1 .left) _) (free-2 (c .before .before .before .before .before .before .before .before .before .before .before))) (sym (full-is rev) ∙ room)))
+    (c .done .ensures) (added-one _ rev room _ _ _ (c .before .before .before .before .put-end .ensures) (c .before .if4 .taken))
 
 sub-put-end : tie.Need-sub-put-end
 sub-put-end c = search needs
 
 put-end-requires-2 : tie.Need-put-end-requires-2
 put-end-requires-2 c κs =
-  let th = through-1 (c .before .before .before .before .before .before .before .before .before .before .before .before .before .before) in
-  let rev = c .before .before .before .before .before .before .before .before .before .reverse-of .ensures in
-  let room = sym (c .before .before .before .before .before .before .before .is-full .ensures) ∙ c .before .before .before .before .before .before .if3 .left in
-  let out = c .before .before .before .before .put-end .ensures in
-  let below : c .before .before .before .before .before .before .before .before .before .reverse-of .result < 128 = omega (arith, rev .fits, c .before .if4 .left) in
-  (shows-stored out, ((th .outside, (omega (arith, sds-1 (c .before .before .before .before .before .before .before .before .before .before .before .before .before .before)), (omega (arith, below), (omega arith, omega (arith, th .object-below))))),
-  (room-second _ rev room _ _ _ out below, second-free _ rev room _ _ _ (c .before .before .before .before .before .before .before .before .before .before .before .before .before .before .before .before .before .before .before .before .before .pre) out below (th .sound) (free-2 (c .before .before .before .before .before .before .before .before .before .before .before)))))
+    let th = through-1 (c .before .before .before .before .before .before .before .before .before .before .before .before .before .before) in
+    let rev = c .before .before .before .before .before .before .before .before .before .reverse-of .ensures in
+    let room = sym (c .before .before .before .before .before .before .before .is-full .ensures) ∙ c .before .before .before .before .before .before .if3 .left in
+    let out = c .before .before .before .before .put-end .ensures in
+    let below : c .before .before .before .before .before .before .before .before .before .reverse-of .result < 128 = omega (arith, rev .fits, c .before .if4 .left) in (
+      shows-stored out,
+      (
+        (th .outside, (omega (arith, sds-1 (c .before .before .before .before .before .before .before .before .before .before .before .before .before .before)), (omega (arith, below), (omega arith, omega (arith, th .object-below))))),
+        (room-second _ rev room _ _ _ out below, second-free _ rev room _ _ _ (c .before .before .before .before .before .before .before .before .before .before .before .before .before .before .before .before .before .before .before .before .before .pre) out below (th .sound) (free-2 (c .before .before .before .before .before .before .before .before .before .before .before))),
+      ),
+    )
 
 done-requires-2 : tie.Need-done-requires-2
 done-requires-2 c κs = search needs
@@ -107,10 +115,10 @@ same-length-5 c = search needs
 
 returns-5 : tie.Need-returns-5
 returns-5 c =
-  let rev = c .before .before .before .before .before .before .before .before .before .before .before .before .before .reverse-of .ensures in
-  let room = sym (c .before .before .before .before .before .before .before .before .before .before .before .is-full .ensures) ∙ c .before .before .before .before .before .before .before .before .before .before .if3 .left in
-  kept-done (through-1 (c .before .before .before .before .before .before .before .before .before .before .before .before .before .before .before .before .before .before) .sound) (ends (passes (passes (add-tests (c .before .before .before .before .before .before .before .before .before .before .before .before .before .before .before .before .before .before .before .before .aimed-at .ensures) (c .before .before .before .before .before .before .before .before .before .before .before .before .before .before .before .before .before .before .if1 .left) _) (free-2 (c .before .before .before .before .before .before .before .before .before .before .before .before .before .before .before))) (sym (full-is rev) ∙ room)))
-  (c .done2 .ensures) (added-both _ rev room _ _ _ (c .before .before .before .before .before .before .before .before .before .before .before .before .before .before .before .before .before .before .before .before .before .before .before .before .before .pre) (c .before .before .before .before .before .before .before .before .put-end .ensures) (omega (arith, rev .fits, c .before .before .before .before .before .if4 .left)) (c .before .before .before .put-end2 .ensures))
+    let rev = c .before .before .before .before .before .before .before .before .before .before .before .before .before .reverse-of .ensures in
+    let room = sym (c .before .before .before .before .before .before .before .before .before .before .before .is-full .ensures) ∙ c .before .before .before .before .before .before .before .before .before .before .if3 .left in
+    kept-done (through-1 (c .before .before .before .before .before .before .before .before .before .before .before .before .before .before .before .before .before .before) .sound) (ends (passes (passes (add-tests (c .before .before .before .before .before .before .before .before .before .before .before .before .before .before .before .before .before .before .before .before .aimed-at .ensures) (c .before .before .before .before .before .before .before .before .before .before .before .before .before .before .before .before .before .before .if1 .left) _) (free-2 (c .before .before .before .before .before .before .before .before .before .before .before .before .before .before .before))) (sym (full-is rev) ∙ room)))
+    (c .done2 .ensures) (added-both _ rev room _ _ _ (c .before .before .before .before .before .before .before .before .before .before .before .before .before .before .before .before .before .before .before .before .before .before .before .before .before .pre) (c .before .before .before .before .before .before .before .before .put-end .ensures) (omega (arith, rev .fits, c .before .before .before .before .before .if4 .left)) (c .before .before .before .put-end2 .ensures))
 
 pub add-end-spec : {M : Type 1} → statement M
 add-end-spec =

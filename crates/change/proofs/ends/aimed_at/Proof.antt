@@ -120,8 +120,8 @@ refused-requires-8 c κs = search needs
 
 returns-8 : tie.Need-returns-8
 returns-8 c =
-  let (h, e) = type-6 (c .before .before .before .before .before) in
-  aim-refused (past-4 (c .before .before .before)) (no-link-there _ _ _ _ h e (c .before .before .kind .ensures) (c .before .if8 .taken)) (omega arith) (c .refused8 .ensures)
+    let (h, e) = type-6 (c .before .before .before .before .before) in
+    aim-refused (past-4 (c .before .before .before)) (no-link-there _ _ _ _ h e (c .before .before .kind .ensures) (c .before .if8 .taken)) (omega arith) (c .refused8 .ensures)
 
 kind-requires-2 : tie.Need-kind-requires-2
 kind-requires-2 c κs = (sound-long (past-4 (c .before .before) .sound), type-7 (c .before .before) .0)
@@ -131,24 +131,24 @@ refused-requires-9 c κs = search needs
 
 returns-9 : tie.Need-returns-9
 returns-9 c =
-  let (h, e) = type-7 (c .before .before .before .before .before) in
-  aim-refused (past-4 (c .before .before .before .before .before)) (no-object-there _ _ _ _ h e (c .before .before .kind2 .ensures) (c .before .if9 .taken)) (omega arith) (c .refused9 .ensures)
+    let (h, e) = type-7 (c .before .before .before .before .before) in
+    aim-refused (past-4 (c .before .before .before .before .before)) (no-object-there _ _ _ _ h e (c .before .before .kind2 .ensures) (c .before .if9 .taken)) (omega arith) (c .refused9 .ensures)
 
 returns-10 : tie.Need-returns-10
 returns-10 c =
-  let l = type-6 (c .before .before .before .before .before .before) in
-  let o = type-7 (c .before .before .before .before) in
-  let past = past-4 (c .before .before .before .before) in
-  aim-through (come-next past (both-kinds _ _ _ _ l o (c .before .before .before .kind .ensures) (c .before .before .if8 .left) (c .before .kind2 .ensures) (c .if9 .left))) refl (record {
-    sound = past .sound;
-    used = used-2 (c .before .before .before .before .before .before .before .before .before .before .before .before .before);
-    outside = c .before .before .before .before .before .before .before .before .before .before .before .before .if3 .left;
-    link-below = l .0;
-    link-named = l .1;
-    link-kind = link-is (l .0) (c .before .before .before .kind .ensures) (c .before .before .if8 .left);
-    object-below = o .0;
-    object-named = o .1;
-  })
+    let l = type-6 (c .before .before .before .before .before .before) in
+    let o = type-7 (c .before .before .before .before) in
+    let past = past-4 (c .before .before .before .before) in
+    aim-through (come-next past (both-kinds _ _ _ _ l o (c .before .before .before .kind .ensures) (c .before .before .if8 .left) (c .before .kind2 .ensures) (c .if9 .left))) refl (record {
+      sound = past .sound;
+      used = used-2 (c .before .before .before .before .before .before .before .before .before .before .before .before .before);
+      outside = c .before .before .before .before .before .before .before .before .before .before .before .before .if3 .left;
+      link-below = l .0;
+      link-named = l .1;
+      link-kind = link-is (l .0) (c .before .before .before .kind .ensures) (c .before .before .if8 .left);
+      object-below = o .0;
+      object-named = o .1;
+    })
 
 pub aimed-at-spec : {M : Type 1} → statement M
 aimed-at-spec =

@@ -56,6 +56,18 @@ cf_answer cf_apply(uint8_t *base, size_t base_len, size_t sds, const uint8_t *at
 cf_answer cf_unapply(uint8_t *base, size_t base_len, size_t sds, const uint8_t *attribute, size_t attribute_len,
                      const uint8_t *to, size_t to_len);
 
+/* Applies a link type within an SDS, by their local names there: the object type becomes an origin of the link type and
+ * a destination of its reverse, if it has one.
+ * 1: the base is not sound; 2: no SDS has the number; 3: it is SDS 0; 4: a name is malformed; 6: no type bears a name
+ * there; 7: the first is no link type, or the second no object type; 9: it is that end; 14: there is no room for the
+ * ends. */
+cf_answer cf_apply_link(uint8_t *base, size_t base_len, size_t sds, const uint8_t *link, size_t link_len,
+                        const uint8_t *object, size_t object_len);
+
+/* The converse: the object type becomes a destination of the link type and an origin of its reverse. */
+cf_answer cf_add_destination(uint8_t *base, size_t base_len, size_t sds, const uint8_t *link, size_t link_len,
+                             const uint8_t *object, size_t object_len);
+
 /* Gives a type another local name in an SDS. Its own present name is accepted and changes nothing.
  * 1: the base is not sound; 2: no SDS has the number; 3: it is SDS 0; 4: a name is malformed; 6: no type bears the name
  * in that SDS; 11: another type bears the new one there. */

@@ -33,6 +33,8 @@ struct lent {
     CALL(new_designation, BASE, NUMBER(0), TEXT(0)) \
     CALL(apply, BASE, NUMBER(0), TEXT(0), TEXT(1)) \
     CALL(unapply, BASE, NUMBER(0), TEXT(0), TEXT(1)) \
+    CALL(apply_link, BASE, NUMBER(0), TEXT(0), TEXT(1)) \
+    CALL(add_destination, BASE, NUMBER(0), TEXT(0), TEXT(1)) \
     CALL(rename, BASE, NUMBER(0), TEXT(0), TEXT(1)) \
     CALL(name, BASE, NUMBER(0), NUMBER(1)) \
     CALL(scan_object, BASE, TEXT(0), NUMBER(0), NUMBER(1), OUTPUT) \

@@ -66,6 +66,8 @@ static cf_answer name(size_t sds, size_t type) { return cf_name(base, LENGTH, sd
 #define NEW_DESIGNATION(sds, name) cf_new_designation(base, LENGTH, sds, TEXT(name))
 #define APPLY(sds, attribute, to) cf_apply(base, LENGTH, sds, TEXT(attribute), TEXT(to))
 #define UNAPPLY(sds, attribute, to) cf_unapply(base, LENGTH, sds, TEXT(attribute), TEXT(to))
+#define APPLY_LINK(sds, link, object) cf_apply_link(base, LENGTH, sds, TEXT(link), TEXT(object))
+#define ADD_DESTINATION(sds, link, object) cf_add_destination(base, LENGTH, sds, TEXT(link), TEXT(object))
 #define RENAME(sds, name, new_name) cf_rename(base, LENGTH, sds, TEXT(name), TEXT(new_name))
 
 /* The asking calls; a working schema is a string of bytes, written as SCHEMA("\1\2"). The output's length is the one
@@ -347,6 +349,23 @@ static void new_types(void)
     EXPECT(is_guarded());
 }
 
+static void both_ends(void)
+{
+    a_base_with_links();
+    ANSWERS(APPLY_LINK(1, "seven", "left"), 9, 0, 0, 0);
+    ANSWERS(ADD_DESTINATION(1, "eight", "left"), 9, 0, 0, 0);
+    ANSWERS(APPLY_LINK(1, "left", "left"), 7, 0, 0, 0);
+    ANSWERS(APPLY_LINK(1, "seven", "none"), 6, 0, 0, 0);
+    EXPECT(is_kept());
+    ANSWERS(APPLY_LINK(1, "seven", "top"), 0, 0, 0, 0);
+    ANSWERS(ADD_DESTINATION(1, "nine", "left"), 0, 0, 0, 0);
+    keep();
+    LISTS(SCAN_LINK("\1", SEVEN, 0), "\1\2", 2, 0, 0);
+    LISTS(SCAN_LINK("\1", EIGHT, 2), "\1\2", 2, 0, 0);
+    LISTS(SCAN_LINK("\1", NINE, 2), "\1\2", 2, 0, 0);
+    EXPECT(is_guarded());
+}
+
 static void a_spoiled_base(void)
 {
     fresh();
@@ -542,6 +561,7 @@ int main(void)
     name_of_a_type();
     another_name();
     new_types();
+    both_ends();
     a_spoiled_base();
     a_fresh_base_asked();
     every_descendant();

@@ -31,7 +31,7 @@ use Rattle.base.proofs.Back.{sound-good}
 use Rattle.base.proofs.Kept.{kept-refused}
 use Rattle.base.proofs.Shown.{kind-is, shows-designation, ends-long}
 use Rattle.base.proofs.StoredLaws.{shows-schema}
-use Rattle.closed.proofs.KindLaws.{object-byte, link-byte}
+use Rattle.base.proofs.KindBytes.{object-byte, link-byte}
 use Rattle.closed.proofs.HeldLaws.{link-paired, link-below}
 use Rattle.change.specs.declared.ends.Aim.{Aim}
 use Rattle.change.specs.Ends.{Through, Aimed, one-or-none, Reverse-of}

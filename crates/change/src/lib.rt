@@ -2,8 +2,8 @@
 pub mod apply;
 pub mod conditions;
 pub mod create;
-pub mod rename;
 pub mod ends;
+pub mod rename;
 
 use base::Base;
 use rules::Answer;

@@ -2,7 +2,7 @@
 // says what the host owes.
 use base::Base;
 use rules::Answer;
-ghost use Rattle.rules.specs.10-Changes.{new-sds, remove-sds, new-attribute, new-designation, apply, unapply, rename};
+ghost use Rattle.rules.specs.10-Changes.{new-sds, remove-sds, new-attribute, new-designation, apply, unapply, apply-link, add-destination, rename};
 ghost use Rattle.rules.specs.11-Asks.{scan-object, scan-link, profile, find, depth-of, name, descendant-set};
 ghost use Rattle.rules.specs.07-Picture.{base-length};
 ghost use Rattle.rules.specs.12-Contracts.{room, Kept, Listed, Answered, Freshened};
@@ -62,6 +62,25 @@ pub extern "C" fn cf_unapply(base: &mut [u8], sds: usize, attribute: &[u8], to: 
     ensures { λ r. ⌜ Kept (now (base .entry)) (unapply sds (now (attribute .entry)) (now (to .entry))) r (now (base .exit)) ⌝ }
 {
     change::apply::unapply(base, sds, attribute, to)
+}
+
+#[no_mangle]
+pub extern "C" fn cf_apply_link(base: &mut [u8], sds: usize, link: &[u8], object: &[u8]) -> Answer
+    ensures { λ r. ⌜ Kept (now (base .entry)) (apply-link sds (now (link .entry)) (now (object .entry))) r (now (base .exit)) ⌝ }
+{
+    change::ends::apply_link(base, sds, link, object)
+}
+
+#[no_mangle]
+pub extern "C" fn cf_add_destination(
+    base: &mut [u8],
+    sds: usize,
+    link: &[u8],
+    object: &[u8],
+) -> Answer
+    ensures { λ r. ⌜ Kept (now (base .entry)) (add-destination sds (now (link .entry)) (now (object .entry))) r (now (base .exit)) ⌝ }
+{
+    change::ends::add_destination(base, sds, link, object)
 }
 
 #[no_mangle]

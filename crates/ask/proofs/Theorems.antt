@@ -72,7 +72,8 @@ module _ (b w : List ℕ) (t : ℕ) (s : Schema) (good : Good s) (shown : b ≡ 
     set-as-long c answers done′ =
         let e = answers .kept s good shown in
         let r = done-passed _ (object-refusals w t s) refl (sym (ap (λ (x : Answer). x .no) e) ∙ done′) .1 in
-        ap (λ (x : Answer). x .three) (e ∙ ap answer-of r) ∙ ap length (set-counts-list w t s) ∙ sym (ap (λ (x : Answer). x .one) (keeps .kept s good shown .0 ∙ ap answer-of scan-is))
+        ap (λ (x : Answer). x .three) (e ∙ ap answer-of r) ∙ ap length (set-counts-list w t s) ∙ sym
+        (ap (λ (x : Answer). x .one) (keeps .kept s good shown .0 ∙ ap answer-of scan-is))
 
   -- ---- depth
 

@@ -130,7 +130,8 @@ module _ {b : List ℕ} (s : Sound b) (d t : ℕ) {r : ℕ} (found : Presence-ro
         let (x, y) = found .found h in
         sym (without-at (holds-type d t) system-presence ((schema-of b) .presences) r (omega (arith, presences-long b))
         (ap (holds-type d t) (presence-is b r system-presence h) ∙ and-of (eqb (getD b (presence-at r) 0) d) (eqb (getD b (presence-at r + 17) 0) t) (eq-eqb _ d x) (eq-eqb _ t y))
-        (λ i l n. ap (holds-type d t) (presence-is b i system-presence (omega (arith, presences-long b))) ∙ other i (omega (arith, presences-long b)) n (holds-type d t (presence-shown b i)) refl))
+        (λ i l n. ap (holds-type d t) (presence-is b i system-presence (omega (arith, presences-long b))) ∙ other i (omega (arith, presences-long b))
+        n (holds-type d t (presence-shown b i)) refl))
       where
         other : (i : ℕ) → i < presence-count b → (i ≡ r → ⊥) → (x : Bool) → holds-type d t (presence-shown b i) ≡ x → x ≡ false
         other i l n false e = refl
@@ -201,12 +202,20 @@ module _ {b b₁ : List ℕ} (s : Sound b) {d t r : ℕ} (found : Presence-row b
   -- there is room for it, and its name is free
   pub room-then : length ((schema-of b₁) .presences) < 512
   room-then =
-      omega (arith, ap (λ (x : Schema). length (x .presences)) (shows-schema out), less-long r ((schema-of b) .presences) (omega (arith, presences-long b)), presences-long b, sound-good s .presence-room)
+      omega (
+        arith,
+        ap (λ (x : Schema). length (x .presences)) (shows-schema out),
+        less-long r ((schema-of b) .presences)
+            (omega (arith, presences-long b)),
+        presences-long b,
+        sound-good s .presence-room,
+      )
 
   pub name-free : (new : Name) → borne-by-another (schema-of b) d t new ≡ false → bears (schema-of b₁) d new ≡ false
   name-free new e = ap (λ (x : Schema). bears x d new) is-now ∙ free-then (sound-good s) d new t e
 
-  pub put-again : (new : Name) {b₂ : List ℕ} → Shows b₂ (with-presences (schema-of b₁) (put presence-before (record { sds = d; name = new; type = t }) ((schema-of b₁) .presences)))
+  pub put-again : (new : Name) {b₂ : List ℕ} → Shows b₂ (with-presences (schema-of b₁)
+      (put presence-before (record { sds = d; name = new; type = t }) ((schema-of b₁) .presences)))
       → b₂ ≡ picture (renamed d t new (schema-of b))
   put-again new in′ =
       in′ .shown ∙ ap (λ (x : Schema). picture (with-presences x (put presence-before (record { sds = d; name = new; type = t }) (x .presences)))) is-now

@@ -62,7 +62,8 @@ module _ (b : List ℕ) (s u : ℕ → Bool) (alike : (t : ℕ) → s t ≡ u t)
 
 -- ---- the set that was gathered
 
-module _ {b : List ℕ} {n d p e : ℕ} (count : Counted (presence-count b) 512 n) (s : Split b 1280 18 n d p) (z : Split b 1280 18 n (d + 1) e) {h : Held} (g : Gathered b p e h) where
+module _ {b : List ℕ} {n d p e : ℕ} (count : Counted (presence-count b) 512 n) (s : Split b 1280 18 n d p) (z : Split b 1280 18 n (d + 1) e)
+    {h : Held} (g : Gathered b p e h) where
   pub gathered-shows : h .once ≡ true → Shows b d (h .types)
   unfolding present
   gathered-shows o t = same-test (has (h .types) t) (present (schema-of b) d t) there back

@@ -22,7 +22,8 @@ refused-requires : tie.Need-refused-requires
 refused-requires c κs = search needs
 
 returns : tie.Need-returns
-returns c = let x = c .before .before .before .before .before .before .args in answered-refused (c .before .before .before .of .ensures) (c .before .if1 .taken) _ (depth-left (x .schema .now) (x .t) (schema-of (x .base .now))) (c .refused .ensures)
+returns c = let x = c .before .before .before .before .before .before .args in answered-refused (c .before .before .before .of .ensures)
+    (c .before .if1 .taken) _ (depth-left (x .schema .now) (x .t) (schema-of (x .base .now))) (c .refused .ensures)
 
 depth-requires : tie.Need-depth-requires
 depth-requires c κs = let th = c .before .before .of .ensures .through (c .if1 .left) in (th .sound, th .kind)

@@ -23,7 +23,8 @@ refused-requires : tie.Need-refused-requires
 refused-requires c κs = search needs
 
 returns : tie.Need-returns
-returns c = let x = c .before .before .before .before .before .before .args in answered-refused (c .before .before .before .of .ensures) (c .before .if1 .taken) _ (descendant-left (x .schema .now) (x .t) (schema-of (x .base .now))) (c .refused .ensures)
+returns c = let x = c .before .before .before .before .before .before .args in answered-refused (c .before .before .before .of .ensures)
+    (c .before .if1 .taken) _ (descendant-left (x .schema .now) (x .t) (schema-of (x .base .now))) (c .refused .ensures)
 
 of-object-requires : tie.Need-of-object-requires
 of-object-requires c κs = let th = c .before .before .of .ensures .through (c .if1 .left) in (th .sound, (th .below, omega arith))

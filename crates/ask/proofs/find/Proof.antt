@@ -19,17 +19,27 @@ use Rattle.ask.proofs.find.Tie as tie
 sound-1 : (c : tie.Else1) → Sound (c .before .before .before .before .before .args .base .now)
 sound-1 c = c .before .is-sound .ensures .holds (not-false _ (c .if1 .left))
 
-left-2 : (c : tie.Else2) → let x = c .before .before .before .before .before .before .before .args in Left (find (x .schema .now) (x .name .now) (schema-of (x .base .now))) (drop 1 (find-refusals (x .schema .now) (x .name .now) (schema-of (x .base .now)))) (find-effect (x .schema .now) (x .name .now) (schema-of (x .base .now)))
+left-2 : (c : tie.Else2) → let x = c .before .before .before .before .before .before .before .args in Left
+    (find (x .schema .now) (x .name .now) (schema-of (x .base .now)))
+    (drop 1 (find-refusals (x .schema .now) (x .name .now) (schema-of (x .base .now))))
+    (find-effect (x .schema .now) (x .name .now) (schema-of (x .base .now)))
 left-2 c = passes (find-left _ _ _) (sym (c .before .has-unknown .ensures) ∙ c .if2 .left)
 
-left-3 : (c : tie.Else3) → let x = c .before .before .before .before .before .before .before .before .before .args in Left (find (x .schema .now) (x .name .now) (schema-of (x .base .now))) (drop 2 (find-refusals (x .schema .now) (x .name .now) (schema-of (x .base .now)))) (find-effect (x .schema .now) (x .name .now) (schema-of (x .base .now)))
+left-3 : (c : tie.Else3) → let x = c .before .before .before .before .before .before .before .before .before .args in Left
+    (find (x .schema .now) (x .name .now) (schema-of (x .base .now)))
+    (drop 2 (find-refusals (x .schema .now) (x .name .now) (schema-of (x .base .now))))
+    (find-effect (x .schema .now) (x .name .now) (schema-of (x .base .now)))
 left-3 c = passes (left-2 (c .before .before)) (well-named _ (sym (c .before .is-well-formed .ensures) ∙ not-false _ (c .if3 .left)))
 
 -- a type was found
-some : (c : tie.Else4) → let x = c .before .before .before .before .before .before .before .before .before .before .before .args in no-name-listed (schema-of (x .base .now)) (x .schema .now) (x .name .now) ≡ false
+some : (c : tie.Else4) → let x = c .before .before .before .before .before .before .before .before .before .before .before .args in no-name-listed
+    (schema-of (x .base .now)) (x .schema .now) (x .name .now) ≡ false
 some c = named (c .before .type-named .ensures) (c .if4 .left)
 
-left-4 : (c : tie.Else4) → let x = c .before .before .before .before .before .before .before .before .before .before .before .args in Left (find (x .schema .now) (x .name .now) (schema-of (x .base .now))) (drop 3 (find-refusals (x .schema .now) (x .name .now) (schema-of (x .base .now)))) (find-effect (x .schema .now) (x .name .now) (schema-of (x .base .now)))
+left-4 : (c : tie.Else4) → let x = c .before .before .before .before .before .before .before .before .before .before .before .args in Left
+    (find (x .schema .now) (x .name .now) (schema-of (x .base .now)))
+    (drop 3 (find-refusals (x .schema .now) (x .name .now) (schema-of (x .base .now))))
+    (find-effect (x .schema .now) (x .name .now) (schema-of (x .base .now)))
 left-4 c = passes (left-3 (c .before .before)) (some c)
 
 is-sound-requires : tie.Need-is-sound-requires
@@ -48,7 +58,8 @@ refused-requires-2 : tie.Need-refused-requires-2
 refused-requires-2 c κs = search needs
 
 returns-2 : tie.Need-returns-2
-returns-2 c = answered-as (sound-1 (c .before .before .before)) (stops (find-left _ _ _) (sym (c .before .before .has-unknown .ensures) ∙ c .before .if2 .taken)) (c .refused2 .ensures)
+returns-2 c = answered-as (sound-1 (c .before .before .before))
+    (stops (find-left _ _ _) (sym (c .before .before .has-unknown .ensures) ∙ c .before .if2 .taken)) (c .refused2 .ensures)
 
 is-well-formed-requires : tie.Need-is-well-formed-requires
 is-well-formed-requires c κs = search needs
@@ -57,7 +68,9 @@ refused-requires-3 : tie.Need-refused-requires-3
 refused-requires-3 c κs = search needs
 
 returns-3 : tie.Need-returns-3
-returns-3 c = answered-as (sound-1 (c .before .before .before .before .before)) (stops (left-2 (c .before .before .before)) (ill-named _ (sym (c .before .before .is-well-formed .ensures) ∙ not-true _ (c .before .if3 .taken)))) (c .refused3 .ensures)
+returns-3 c = answered-as (sound-1 (c .before .before .before .before .before))
+    (stops (left-2 (c .before .before .before)) (ill-named _ (sym (c .before .before .is-well-formed .ensures) ∙ not-true _ (c .before .if3 .taken))))
+    (c .refused3 .ensures)
 
 type-named-requires : tie.Need-type-named-requires
 type-named-requires c κs = (sound-1 (c .before .before .before .before), sym (c .before .before .before .has-unknown .ensures) ∙ c .before .before .if2 .left)
@@ -66,23 +79,27 @@ refused-requires-4 : tie.Need-refused-requires-4
 refused-requires-4 c κs = search needs
 
 returns-4 : tie.Need-returns-4
-returns-4 c = answered-as (sound-1 (c .before .before .before .before .before .before .before)) (stops (left-3 (c .before .before .before)) (nameless (c .before .before .type-named .ensures) (c .before .if4 .taken))) (c .refused4 .ensures)
+returns-4 c = answered-as (sound-1 (c .before .before .before .before .before .before .before))
+    (stops (left-3 (c .before .before .before)) (nameless (c .before .before .type-named .ensures) (c .before .if4 .taken))) (c .refused4 .ensures)
 
 has-repeated-requires : tie.Need-has-repeated-requires
-has-repeated-requires c κs = listed-small (sound-1 (c .before .before .before .before .before .before)) _ (sym (c .before .before .before .before .before .has-unknown .ensures) ∙ c .before .before .before .before .if2 .left)
+has-repeated-requires c κs = listed-small (sound-1 (c .before .before .before .before .before .before)) _
+    (sym (c .before .before .before .before .before .has-unknown .ensures) ∙ c .before .before .before .before .if2 .left)
 
 refused-requires-5 : tie.Need-refused-requires-5
 refused-requires-5 c κs = search needs
 
 returns-5 : tie.Need-returns-5
-returns-5 c = answered-as (sound-1 (c .before .before .before .before .before .before .before .before .before)) (stops (left-4 (c .before .before .before)) (sym (c .before .before .has-repeated .ensures) ∙ c .before .if5 .taken)) (c .refused5 .ensures)
+returns-5 c = answered-as (sound-1 (c .before .before .before .before .before .before .before .before .before))
+    (stops (left-4 (c .before .before .before)) (sym (c .before .before .has-repeated .ensures) ∙ c .before .if5 .taken)) (c .refused5 .ensures)
 
 done-requires : tie.Need-done-requires
 done-requires c κs = search needs
 
 returns-6 : tie.Need-returns-6
 returns-6 c =
-    answered-as (sound-1 (c .before .before .before .before .before .before .before .before .before)) (ends (passes (left-4 (c .before .before .before)) (sym (c .before .before .has-repeated .ensures) ∙ c .before .if5 .left)))
+    answered-as (sound-1 (c .before .before .before .before .before .before .before .before .before))
+    (ends (passes (left-4 (c .before .before .before)) (sym (c .before .before .has-repeated .ensures) ∙ c .before .if5 .left)))
     (c .done .ensures ∙ ap (λ (n : ℕ). success n 0 0) (c .before .before .before .before .type-named .ensures .found (some (c .before .before .before)) .1))
 
 pub find-spec : {M : Type 1} → statement M

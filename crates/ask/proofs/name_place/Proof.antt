@@ -84,7 +84,8 @@ returns-4 : tie.Need-returns-4
 returns-4 c =
     let found = c .before .before .before .before .before .presence-row .ensures in
     let row = row-3 (c .before .before .before) in
-    answered-as (sound-1 (c .before .before .before .before .before .before .before .before)) (ends (passes (left-2 (c .before .before .before .before .before .before)) (name-there _ _ _ found row)))
+    answered-as (sound-1 (c .before .before .before .before .before .before .before .before))
+    (ends (passes (left-2 (c .before .before .before .before .before .before)) (name-there _ _ _ found row)))
     (c .done .ensures ∙ (λ i. success ((c .before .before .name-at .ensures ∙ start-is _ _ _ found row) i) ((c .before .name-length .ensures ∙ length-is _ _ _ found row) i) 0))
 
 pub name-place-spec : {M : Type 1} → statement M

@@ -25,7 +25,8 @@ refused-requires c κs = search needs
 returns : tie.Need-returns
 returns c =
     let x = c .before .before .before .before .before .before .before .args in
-    listed-refused (c .before .before .before .of .ensures) (c .before .if1 .taken) _ (profile-left (x .schema .now) (x .t) (room (x .out .now)) (schema-of (x .base .now))) (c .refused .ensures)
+    listed-refused (c .before .before .before .of .ensures) (c .before .if1 .taken) _
+    (profile-left (x .schema .now) (x .t) (room (x .out .now)) (schema-of (x .base .now))) (c .refused .ensures)
 
 of-object-requires : tie.Need-of-object-requires
 of-object-requires c κs = let th = c .before .before .of .ensures .through (c .if1 .left) in (th .sound, (th .below, omega arith))
@@ -58,8 +59,12 @@ returns-2 c =
     let v = c .before .before .before .before .before .before .before .before .before .before .before .before .of .ensures in
     let z = c .before .before .before .before .before .before .before .before .before .before .if1 .left in
     let th = v .through z in
-    listed-three (th .sound) (object-list th _ _ (c .before .before .before .before .before .before .meet .ensures) 3 (c .before .before .before .before .before .before .before .before .before .of-object .ensures)) (object-list th _ _ (c .before .before .before .before .before .meet2 .ensures) 5 (c .before .before .before .before .before .before .before .before .of-object2 .ensures))
-    (object-list th _ _ (c .before .before .before .before .meet3 .ensures) 7 (c .before .before .before .before .before .before .before .of-object3 .ensures)) (c .before .before .put-three .ensures)
+    listed-three (th .sound) (object-list th _ _ (c .before .before .before .before .before .before .meet .ensures) 3
+    (c .before .before .before .before .before .before .before .before .before .of-object .ensures))
+    (object-list th _ _ (c .before .before .before .before .before .meet2 .ensures) 5
+    (c .before .before .before .before .before .before .before .before .of-object2 .ensures))
+    (object-list th _ _ (c .before .before .before .before .meet3 .ensures) 7
+    (c .before .before .before .before .before .before .before .of-object3 .ensures)) (c .before .before .put-three .ensures)
     (viewed-passes v (room-test (room (x .out .now)) (profile-list (x .schema .now) (x .t) (schema-of (x .base .now))))
     (profile-left (x .schema .now) (x .t) (room (x .out .now)) (schema-of (x .base .now))) z)
 

@@ -25,7 +25,8 @@ sound-1 : (c : tie.Else1) → Sound (c .before .before .before .before .args .ba
 sound-1 c = c .before .is-sound .ensures .holds (not-false _ (c .if1 .left))
 
 used-2 : (c : tie.Else2)
-    → used-sds (schema-of (c .before .before .before .before .before .before .before .args .base .now)) (c .before .before .before .before .before .before .before .args .sds) ≡ true
+    → used-sds (schema-of (c .before .before .before .before .before .before .before .args .base .now))
+    (c .before .before .before .before .before .before .before .args .sds) ≡ true
 used-2 c = sym (c .before .is-sds .ensures) ∙ not-false _ (c .if2 .left)
 
 left-2 : (c : tie.Else2) → Ways (c .before .before .before .before .before .before .before .args .base .now)

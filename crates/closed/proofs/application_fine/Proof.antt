@@ -23,7 +23,8 @@ is-kind-requires c κs = (c .before .before .pre .0, (omega arith, omega arith))
 returns : tie.Need-returns
 returns c =
     let x = c .before .before .before .before .args in
-    decides-no (applied-no-attribute (x .base .now) (has (x .set)) (x .i) (c .before .before .application-attribute .result) (c .before .before .application-attribute .ensures .is)
+    decides-no (applied-no-attribute (x .base .now) (has (x .set)) (x .i) (c .before .before .application-attribute .result)
+    (c .before .before .application-attribute .ensures .is)
     (told-attribute (x .base .now) (c .before .before .application-attribute .result) (c .before .is-kind .ensures) ∙ not-true _ (c .if1 .taken)))
 
 holds-requires : tie.Need-holds-requires
@@ -60,7 +61,8 @@ returns-4 c =
     (c .before .before .before .before .before .before .before .before .before .application-attribute .result) to
     (c .before .before .before .before .before .before .before .before .before .application-attribute .ensures .is)
     (c .before .before .before .before .application-to .ensures .is)
-    (told-attribute (x .base .now) (c .before .before .before .before .before .before .before .before .before .application-attribute .result) (c .before .before .before .before .before .before .before .before .is-kind .ensures) ∙ not-false _
+    (told-attribute (x .base .now) (c .before .before .before .before .before .before .before .before .before .application-attribute .result)
+    (c .before .before .before .before .before .before .before .before .is-kind .ensures) ∙ not-false _
     (c .before .before .before .before .before .before .before .if1 .left)) (sym (c .before .before .before .before .before .before .holds .ensures)
     ∙ not-false _ (c .before .before .before .before .before .if2 .left))
     (sym (c .before .before .before .holds2 .ensures) ∙ not-false _ (c .before .before .if3 .left))
@@ -78,12 +80,15 @@ returns-5 c =
           (c .before .before .before .before .before .before .before .before .before .before .application-attribute .result) to
           (c .before .before .before .before .before .before .before .before .before .before .application-attribute .ensures .is)
           (c .before .before .before .before .before .application-to .ensures .is)
-          (told-attribute (x .base .now) (c .before .before .before .before .before .before .before .before .before .before .application-attribute .result) (c .before .before .before .before .before .before .before .before .before .is-kind .ensures) ∙ not-false _
+          (told-attribute (x .base .now)
+          (c .before .before .before .before .before .before .before .before .before .before .application-attribute .result)
+          (c .before .before .before .before .before .before .before .before .before .is-kind .ensures) ∙ not-false _
           (c .before .before .before .before .before .before .before .before .if1 .left)) (sym
           (c .before .before .before .before .before .before .before .holds .ensures) ∙ not-false _ (c .before .before .before .before .before .before .if2 .left))
           (sym (c .before .before .before .before .holds2 .ensures) ∙ not-false _ (c .before .before .before .if3 .left))
           (or-right (is-object (kind-of (schema-of b) to)) (is-link (kind-of (schema-of b) to)) (told-link b to (c .is-kind3 .ensures) ∙ e));
-      fails = λ e. applied-neither b (has (x .set)) (x .i) to (c .before .before .before .before .before .application-to .ensures .is) (told-object b to (c .before .before .is-kind2 .ensures) ∙ c .before .if4 .left) (told-link b to (c .is-kind3 .ensures) ∙ e);
+      fails = λ e. applied-neither b (has (x .set)) (x .i) to (c .before .before .before .before .before .application-to .ensures .is)
+          (told-object b to (c .before .before .is-kind2 .ensures) ∙ c .before .if4 .left) (told-link b to (c .is-kind3 .ensures) ∙ e);
     }
 
 pub application-fine-spec : {M : Type 1} → statement M

@@ -22,7 +22,8 @@ returns : tie.Need-returns
 returns c =
     let x = c .before .before .before .before in
     let l = c .before .before .end-link in
-    row-no (ended-no-link (x .args .base .now) (has (x .args .set)) (x .args .i) (l .result) (l .ensures .is) (told-link (x .args .base .now) (c .before .before .end-link .result) (c .before .is-kind .ensures) ∙ not-true _ (c .if1 .taken)))
+    row-no (ended-no-link (x .args .base .now) (has (x .args .set)) (x .args .i) (l .result) (l .ensures .is)
+    (told-link (x .args .base .now) (c .before .before .end-link .result) (c .before .is-kind .ensures) ∙ not-true _ (c .if1 .taken)))
 
 holds-requires : tie.Need-holds-requires
 holds-requires c κs = search needs
@@ -45,7 +46,8 @@ returns-3 : tie.Need-returns-3
 returns-3 c =
     let x = c .before .before .before .before .before .before .before .before .before in
     let o = c .before .before .end-object in
-    row-no (ended-no-object (x .args .base .now) (has (x .args .set)) (x .args .i) (o .result) (o .ensures .is) (told-object (x .args .base .now) (c .before .before .end-object .result) (c .before .is-kind2 .ensures) ∙ not-true _ (c .if3 .taken)))
+    row-no (ended-no-object (x .args .base .now) (has (x .args .set)) (x .args .i) (o .result) (o .ensures .is)
+    (told-object (x .args .base .now) (c .before .before .end-object .result) (c .before .is-kind2 .ensures) ∙ not-true _ (c .if3 .taken)))
 
 holds-requires-2 : tie.Need-holds-requires-2
 holds-requires-2 c κs = search needs
@@ -62,7 +64,8 @@ value-requires c κs =
     let x = c .before .before .before .before .before .before .before .before .before .before .before in (
       x .pre .0 .long,
       link-below (x .args .base .now) (c .before .before .before .before .before .before .before .before .before .end-link .result)
-          (told-link (x .args .base .now) (c .before .before .before .before .before .before .before .before .before .end-link .result) (c .before .before .before .before .before .before .before .before .is-kind .ensures) ∙ not-false _
+          (told-link (x .args .base .now) (c .before .before .before .before .before .before .before .before .before .end-link .result)
+          (c .before .before .before .before .before .before .before .before .is-kind .ensures) ∙ not-false _
           (c .before .before .before .before .before .before .before .if1 .left)),
     )
 
@@ -72,10 +75,12 @@ returns-5 c =
     let l = c .before .before .before .before .before .before .before .before .before .before .before .end-link in
     let o = c .before .before .before .before .before .before .end-object in
     row-yes (x .pre .1) (ended-alone (x .args .base .now) (has (x .args .set)) (x .args .i) (l .result) (o .result) (l .ensures .is) (o .ensures .is)
-    (told-link (x .args .base .now) (c .before .before .before .before .before .before .before .before .before .before .before .end-link .result) (c .before .before .before .before .before .before .before .before .before .before .is-kind .ensures) ∙ not-false _
+    (told-link (x .args .base .now) (c .before .before .before .before .before .before .before .before .before .before .before .end-link .result)
+    (c .before .before .before .before .before .before .before .before .before .before .is-kind .ensures) ∙ not-false _
     (c .before .before .before .before .before .before .before .before .before .if1 .left)) (sym
     (c .before .before .before .before .before .before .before .before .holds .ensures) ∙ not-false _ (c .before .before .before .before .before .before .before .if2 .left))
-    (told-object (x .args .base .now) (c .before .before .before .before .before .before .end-object .result) (c .before .before .before .before .before .is-kind2 .ensures) ∙ not-false _ (c .before .before .before .before .if3 .left)) (sym
+    (told-object (x .args .base .now) (c .before .before .before .before .before .before .end-object .result)
+    (c .before .before .before .before .before .is-kind2 .ensures) ∙ not-false _ (c .before .before .before .before .if3 .left)) (sym
     (c .before .before .before .holds2 .ensures) ∙ not-false _ (c .before .before .if4 .left))
     (sym (c .before .value .ensures .is) ∙ c .if5 .taken))
 
@@ -94,7 +99,10 @@ reverse-requires c κs =
     let x = c .before .before .before .before .before .before .before .before .before .before .before .before .before .before .before in (
       x .pre .0 .long,
       link-below (x .args .base .now)
-          (c .before .before .before .before .before .before .before .before .before .before .before .before .before .end-link .result) (told-link (x .args .base .now) (c .before .before .before .before .before .before .before .before .before .before .before .before .before .end-link .result) (c .before .before .before .before .before .before .before .before .before .before .before .before .is-kind .ensures) ∙ not-false _
+          (c .before .before .before .before .before .before .before .before .before .before .before .before .before .end-link .result)
+          (told-link (x .args .base .now)
+          (c .before .before .before .before .before .before .before .before .before .before .before .before .before .end-link .result)
+          (c .before .before .before .before .before .before .before .before .before .before .before .before .is-kind .ensures) ∙ not-false _
           (c .before .before .before .before .before .before .before .before .before .before .before .if1 .left)),
     )
 
@@ -124,14 +132,18 @@ returns-6 c =
     let x = c .before .before .before .before .before .before .before .before .before .before .before .before .before .before .before .before .before in
     let l = c .before .before .before .before .before .before .before .before .before .before .before .before .before .before .before .end-link in
     let o = c .before .before .before .before .before .before .before .before .before .before .end-object in
-    let kl = told-link (x .args .base .now) (c .before .before .before .before .before .before .before .before .before .before .before .before .before .before .before .end-link .result) (c .before .before .before .before .before .before .before .before .before .before .before .before .before .before .is-kind .ensures)
+    let kl = told-link (x .args .base .now)
+    (c .before .before .before .before .before .before .before .before .before .before .before .before .before .before .before .end-link .result)
+    (c .before .before .before .before .before .before .before .before .before .before .before .before .before .before .is-kind .ensures)
     ∙ not-false _ (c .before .before .before .before .before .before .before .before .before .before .before .before .before .if1 .left) in
     row-found
     (ended-both (x .args .base .now) (has (x .args .set)) (x .args .i) (l .result) (o .result) (l .ensures .is) (o .ensures .is) kl (x .pre .0) (x .pre .1)
     (c .before .before .end-sds .result) (c .before .reverse .result) (c .before .before .before .end-side .result)
     (c .before .before .end-sds .ensures .is) (c .before .reverse .ensures .is) (c .before .before .before .end-side .ensures .is)
     (sym (c .before .before .before .before .before .before .before .before .before .before .before .before .holds .ensures) ∙ not-false _
-    (c .before .before .before .before .before .before .before .before .before .before .before .if2 .left)) (told-object (x .args .base .now) (c .before .before .before .before .before .before .before .before .before .before .end-object .result) (c .before .before .before .before .before .before .before .before .before .is-kind2 .ensures) ∙ not-false _
+    (c .before .before .before .before .before .before .before .before .before .before .before .if2 .left))
+    (told-object (x .args .base .now) (c .before .before .before .before .before .before .before .before .before .before .end-object .result)
+    (c .before .before .before .before .before .before .before .before .before .is-kind2 .ensures) ∙ not-false _
     (c .before .before .before .before .before .before .before .before .if3 .left)) (sym
     (c .before .before .before .before .before .before .before .holds2 .ensures) ∙ not-false _ (c .before .before .before .before .before .before .if4 .left)))
     (ended-mirror (x .args .base .now) (has (x .args .set)) (x .args .i) (l .result) (o .result) (l .ensures .is) (o .ensures .is) kl (x .pre .0) (x .pre .1)

@@ -30,7 +30,13 @@ same-length c = search needs
 
 returns-2 : tie.Need-returns-2
 returns-2 c =
-    list-put _ _ (omega (arith, c .before .before .before .before .before .if1 .left, c .before .before .before .before .before .before .count .ensures)) (c .done .ensures ∙ ap (λ (n : ℕ). success n 0 0) (c .before .before .before .before .before .before .count .ensures)) (c .before .before .before .put-down .ensures)
+    list-put _ _ (omega (
+      arith,
+      c .before .before .before .before .before .if1 .left,
+      c .before .before .before .before .before .before .count .ensures,
+    ))
+    (c .done .ensures ∙ ap (λ (n : ℕ). success n 0 0) (c .before .before .before .before .before .before .count .ensures))
+    (c .before .before .before .put-down .ensures)
 
 pub put-spec : {M : Type 1} → statement M
 put-spec =

@@ -23,7 +23,13 @@ count-requires-3 c κs = search needs
 
 add-if1 : tie.Need-add-if1
 add-if1 c =
-    omega (arith, c .before .before .count .ensures, c .before .count2 .ensures, members-most (has (c .before .before .before .before .args .first)), members-most (has (c .before .before .before .before .args .second)))
+    omega (
+      arith,
+      c .before .before .count .ensures,
+      c .before .count2 .ensures,
+      members-most (has (c .before .before .before .before .args .first)),
+      members-most (has (c .before .before .before .before .args .second)),
+    )
 
 add-if1-2 : tie.Need-add-if1-2
 add-if1-2 c =
@@ -42,7 +48,13 @@ refused-requires c κs = search needs
 
 returns : tie.Need-returns
 returns c =
-    three-short _ _ _ _ (omega (arith, c .before .if1 .taken, c .before .before .count3 .ensures, c .before .before .before .count2 .ensures, c .before .before .before .before .count .ensures)) (c .refused .ensures)
+    three-short _ _ _ _ (omega (
+      arith,
+      c .before .if1 .taken,
+      c .before .before .count3 .ensures,
+      c .before .before .before .count2 .ensures,
+      c .before .before .before .before .count .ensures,
+    )) (c .refused .ensures)
 
 put-down-requires : tie.Need-put-down-requires
 put-down-requires c κs = search needs
@@ -92,9 +104,13 @@ returns-2 c =
     let m = c .before .before .before .before .before .before .before .before .before .before .before .before .before .before .before .count2 .ensures in
     let n = c .before .before .before .before .before .before .before .before .before .before .before .before .before .before .count3 .ensures in
     let args = c .before .before .before .before .before .before .before .before .before .before .before .before .before .before .before .before .before .before .args in
-    three-put _ _ _ _ (omega (arith, c .before .before .before .before .before .before .before .before .before .before .before .before .before .if1 .left, l, m, n)) (c .done .ensures ∙ (λ i. success (l i) (m i) (n i)))
+    three-put _ _ _ _ (omega
+    (arith, c .before .before .before .before .before .before .before .before .before .before .before .before .before .if1 .left, l, m, n))
+    (c .done .ensures ∙ (λ i. success (l i) (m i) (n i)))
     (put-after _ _ _ _ _ _ (omega (arith, l, m, length-append (members (has (args .first))) (members (has (args .second)))))
-    (put-after _ _ _ _ _ _ (omega (arith, l)) (c .before .before .before .before .before .before .before .before .before .before .before .put-down .ensures) (c .before .before .before .before .before .before .before .put-down2 .ensures)) (c .before .before .before .put-down3 .ensures))
+    (put-after _ _ _ _ _ _ (omega (arith, l))
+    (c .before .before .before .before .before .before .before .before .before .before .before .put-down .ensures)
+    (c .before .before .before .before .before .before .before .put-down2 .ensures)) (c .before .before .before .put-down3 .ensures))
 
 pub put-three-spec : {M : Type 1} → statement M
 put-three-spec =

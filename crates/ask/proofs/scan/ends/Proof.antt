@@ -25,7 +25,8 @@ join-requires c κs = search needs
 
 returns-2 : tie.Need-returns-2
 returns-2 c =
-    end-all-scans _ _ _ _ (c .before .before .before .before .before .pre .1) _ (c .before .before .before .objects .ensures) (c .before .before .if1 .left) (has (c .before .descendants-of .result)) _ (c .before .descendants-of .ensures) (c .join .ensures)
+    end-all-scans _ _ _ _ (c .before .before .before .before .before .pre .1) _ (c .before .before .before .objects .ensures)
+    (c .before .before .if1 .left) (has (c .before .descendants-of .result)) _ (c .before .descendants-of .ensures) (c .join .ensures)
 
 pub ends-spec : {M : Type 1} → statement M
 ends-spec =

@@ -30,7 +30,8 @@ links-requires-2 : tie.Need-links-requires-2
 links-requires-2 c κs = c .before .before .before .before .pre .0
 
 returns-3 : tie.Need-returns-3
-returns-3 c = destination-scans _ _ _ _ _ (c .before .before .before .sources .ensures) _ (omega (arith, c .before .if2 .left)) (c .before .before .before .before .before .pre .1 .1 .1) (c .links2 .ensures)
+returns-3 c = destination-scans _ _ _ _ _ (c .before .before .before .sources .ensures) _ (omega (arith, c .before .if2 .left))
+    (c .before .before .before .before .before .pre .1 .1 .1) (c .links2 .ensures)
 
 pub had-spec : {M : Type 1} → statement M
 had-spec =

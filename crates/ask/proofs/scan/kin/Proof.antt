@@ -24,21 +24,30 @@ descendants-of-requires : tie.Need-descendants-of-requires
 descendants-of-requires c κs = c .before .before .before .before .pre .0
 
 returns-2 : tie.Need-returns-2
-returns-2 c = λ w k. c .descendants-of .ensures k ∙ descendant-scan _ _ (c .before .before .before .before .before .pre .1 .0) (c .before .before .before .one .ensures) _ w _ (c .before .if2 .taken) k
+returns-2 c = λ w k. c .descendants-of .ensures k ∙ descendant-scan _ _ (c .before .before .before .before .before .pre .1 .0)
+    (c .before .before .before .one .ensures) _ w _ (c .before .if2 .taken) k
 
 parents-of-requires : tie.Need-parents-of-requires
 parents-of-requires c κs = good-parental (c .before .before .before .before .before .pre .0)
 
 returns-3 : tie.Need-returns-3
-returns-3 c = λ w k. c .parents-of .ensures k ∙ parent-scan _ _ (c .before .before .before .before .before .before .pre .1 .0) (c .before .before .before .before .one .ensures) _ w _ (c .before .if3 .taken) k
+returns-3 c = λ w k. c .parents-of .ensures k ∙ parent-scan _ _ (c .before .before .before .before .before .before .pre .1 .0)
+    (c .before .before .before .before .one .ensures) _ w _ (c .before .if3 .taken) k
 
 ancestors-of-requires : tie.Need-ancestors-of-requires
 ancestors-of-requires c κs = c .before .before .before .before .before .pre .0
 
 returns-4 : tie.Need-returns-4
 returns-4 c =
-    let last : c .before .before .before .before .before .before .args .code ≡ 3 = omega (arith, c .before .before .before .before .before .before .pre .1 .1, c .before .if3 .left, c .before .before .if2 .left, c .before .before .before .if1 .left) in
-    λ w k. c .ancestors-of .ensures k ∙ ancestor-scan _ _ (c .before .before .before .before .before .before .pre .1 .0) (c .before .before .before .before .one .ensures) _ w _ last k
+    let last : c .before .before .before .before .before .before .args .code ≡ 3 = omega (
+      arith,
+      c .before .before .before .before .before .before .pre .1 .1,
+      c .before .if3 .left,
+      c .before .before .if2 .left,
+      c .before .before .before .if1 .left,
+    ) in
+    λ w k. c .ancestors-of .ensures k ∙ ancestor-scan _ _ (c .before .before .before .before .before .before .pre .1 .0)
+    (c .before .before .before .before .one .ensures) _ w _ last k
 
 pub kin-spec : {M : Type 1} → statement M
 kin-spec =

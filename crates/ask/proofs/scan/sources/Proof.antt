@@ -16,7 +16,8 @@ one-requires : tie.Need-one-requires
 one-requires c κs = c .before .pre .1
 
 returns : tie.Need-returns
-returns c = source-alone _ _ (c .before .before .before .pre .1) (c .before .one .ensures) (schema-of (c .before .before .before .args .base .now)) (c .before .before .before .args .all) (c .if1 .taken)
+returns c = source-alone _ _ (c .before .before .before .pre .1) (c .before .one .ensures) (schema-of (c .before .before .before .args .base .now))
+    (c .before .before .before .args .all) (c .if1 .taken)
 
 ancestors-of-requires : tie.Need-ancestors-of-requires
 ancestors-of-requires c κs = c .before .before .before .pre .0
@@ -26,7 +27,9 @@ join-requires c κs = search needs
 
 returns-2 : tie.Need-returns-2
 returns-2 c =
-    source-all _ _ (c .before .before .before .before .before .pre .1) (c .before .before .before .one .ensures) _ (c .before .before .before .before .before .args .all) (c .before .before .if1 .left) (has (c .before .ancestors-of .result)) _ (c .before .ancestors-of .ensures)
+    source-all _ _ (c .before .before .before .before .before .pre .1) (c .before .before .before .one .ensures) _
+    (c .before .before .before .before .before .args .all) (c .before .before .if1 .left) (has (c .before .ancestors-of .result)) _
+    (c .before .ancestors-of .ensures)
     (has-past (c .before .ancestors-of .result)) (c .join .ensures)
 
 pub sources-spec : {M : Type 1} → statement M

@@ -17,23 +17,28 @@ use Rattle.ask.proofs.view.of.Tie as tie
 past-0 : (c : tie.Else1) → let x = c .before .before .before .before in Past (x .args .base .now) (x .args .schema .now) (x .args .t) (x .args .link) (x .args .known) 0
 past-0 c = come-first _ _ _ _ _ (c .before .is-sound .ensures .holds (not-false _ (c .if1 .left)))
 
-past-1 : (c : tie.Else2) → let x = c .before .before .before .before .before .before in Past (x .args .base .now) (x .args .schema .now) (x .args .t) (x .args .link) (x .args .known) 1
+past-1 : (c : tie.Else2) → let x = c .before .before .before .before .before .before in Past (x .args .base .now) (x .args .schema .now) (x .args .t)
+    (x .args .link) (x .args .known) 1
 past-1 c = come-next (past-0 (c .before .before)) (sym (c .before .has-unknown .ensures) ∙ c .if2 .left)
 
-past-2 : (c : tie.Else3) → let x = c .before .before .before .before .before .before .before in Past (x .args .base .now) (x .args .schema .now) (x .args .t) (x .args .link) (x .args .known) 2
+past-2 : (c : tie.Else3) → let x = c .before .before .before .before .before .before .before in Past (x .args .base .now) (x .args .schema .now)
+    (x .args .t) (x .args .link) (x .args .known) 2
 past-2 c = come-next (past-1 (c .before)) (c .if3 .left)
 
 -- the set that was gathered is what is visible
-shown : (c : tie.After-visible) → let x = c .before .before .before .before .before .before .before .before .before in (k : ℕ) → has (c .visible .result) k ≡ visible (schema-of (x .args .base .now)) (x .args .schema .now) k
+shown : (c : tie.After-visible) → let x = c .before .before .before .before .before .before .before .before .before in (k : ℕ) → has
+    (c .visible .result) k ≡ visible (schema-of (x .args .base .now)) (x .args .schema .now) k
 shown c k = c .visible .ensures k ∙ visible-are _ _ _ (c .before .listed .ensures) k
 
-past-3 : (c : tie.Else4) → let x = c .before .before .before .before .before .before .before .before .before .before .before in Past (x .args .base .now) (x .args .schema .now) (x .args .t) (x .args .link) (x .args .known) 3
+past-3 : (c : tie.Else4) → let x = c .before .before .before .before .before .before .before .before .before .before .before in Past
+    (x .args .base .now) (x .args .schema .now) (x .args .t) (x .args .link) (x .args .known) 3
 past-3 c = come-next (past-2 (c .before .before .before .before)) (seen _ _ _ (c .before .holds .ensures ∙ shown (c .before .before) _) (c .if4 .left))
 
 below : (c : tie.Else4) → c .before .before .before .before .before .before .before .before .before .before .before .args .t < 128
 below c = visible-below (past-3 c .sound) _ _ (sym (c .before .holds .ensures ∙ shown (c .before .before) _) ∙ not-false _ (c .if4 .left))
 
-past-4 : (c : tie.Else5) → let x = c .before .before .before .before .before .before .before .before .before .before .before .before .before in Past (x .args .base .now) (x .args .schema .now) (x .args .t) (x .args .link) (x .args .known) 4
+past-4 : (c : tie.Else5) → let x = c .before .before .before .before .before .before .before .before .before .before .before .before .before in Past
+    (x .args .base .now) (x .args .schema .now) (x .args .t) (x .args .link) (x .args .known) 4
 past-4 c = come-next (past-3 (c .before .before)) (ap not (sym (c .before .is-of-kind .ensures)) ∙ c .if5 .left)
 
 is-sound-requires : tie.Need-is-sound-requires
@@ -73,7 +78,9 @@ refused-requires-4 : tie.Need-refused-requires-4
 refused-requires-4 c κs = search needs
 
 returns-4 : tie.Need-returns-4
-returns-4 c = view-refused (past-2 (c .before .before .before .before .before)) (not-seen _ _ _ (c .before .before .holds .ensures ∙ shown (c .before .before .before) _) (c .before .if4 .taken)) (omega arith) (c .refused4 .ensures)
+returns-4 c = view-refused (past-2 (c .before .before .before .before .before))
+    (not-seen _ _ _ (c .before .before .holds .ensures ∙ shown (c .before .before .before) _) (c .before .if4 .taken)) (omega arith)
+    (c .refused4 .ensures)
 
 is-of-kind-requires : tie.Need-is-of-kind-requires
 is-of-kind-requires c κs = sound-long (past-3 c .sound)
@@ -82,10 +89,13 @@ refused-requires-5 : tie.Need-refused-requires-5
 refused-requires-5 c κs = search needs
 
 returns-5 : tie.Need-returns-5
-returns-5 c = view-refused (past-3 (c .before .before .before)) (ap not (sym (c .before .before .is-of-kind .ensures)) ∙ c .before .if5 .taken) (omega arith) (c .refused5 .ensures)
+returns-5 c = view-refused (past-3 (c .before .before .before)) (ap not (sym (c .before .before .is-of-kind .ensures)) ∙ c .before .if5 .taken)
+    (omega arith) (c .refused5 .ensures)
 
 has-repeated-requires : tie.Need-has-repeated-requires
-has-repeated-requires c κs = listed-small (past-4 c .sound) _ (sym (c .before .before .before .before .before .before .before .before .has-unknown .ensures) ∙ c .before .before .before .before .before .before .before .if2 .left)
+has-repeated-requires c κs = listed-small (past-4 c .sound) _
+    (sym (c .before .before .before .before .before .before .before .before .has-unknown .ensures) ∙
+    c .before .before .before .before .before .before .before .if2 .left)
 
 refused-requires-6 : tie.Need-refused-requires-6
 refused-requires-6 c κs = search needs
@@ -95,7 +105,8 @@ returns-6 c = view-refused (past-4 (c .before .before .before)) (sym (c .before 
 
 returns-7 : tie.Need-returns-7
 returns-7 c =
-    view-through (come-next (past-4 (c .before .before)) (sym (c .before .has-repeated .ensures) ∙ c .if6 .left)) (not-false _ (c .before .before .before .before .before .before .before .before .if3 .left)) refl (record {
+    view-through (come-next (past-4 (c .before .before)) (sym (c .before .has-repeated .ensures) ∙ c .if6 .left))
+    (not-false _ (c .before .before .before .before .before .before .before .before .if3 .left)) refl (record {
       sound = past-4 (c .before .before) .sound;
       below = below (c .before .before .before .before);
       kind = sym (c .before .before .before .is-of-kind .ensures) ∙ not-false _ (c .before .before .if5 .left);

@@ -21,16 +21,19 @@ use Rattle.change.proofs.apply.apply.Tie as tie
 abbrev Ways : List ℕ → ℕ → Name → Name → ℕ → Type 0
 Ways b d a n k = let s = schema-of b in Left (apply d a n s) (drop k (apply-rest d a n s)) (done 0 0 0 (with-application d (type-named s d n) (type-named s d a) s))
 
-both-1 : (c : tie.Else1) → let x = c .before .before .before .before .before .before .before .args in Both (x .base .now) (x .sds) (x .attribute .now) (x .to .now) (c .before .before .tested .result)
+both-1 : (c : tie.Else1) → let x = c .before .before .before .before .before .before .before .args in Both (x .base .now) (x .sds) (x .attribute .now)
+    (x .to .now) (c .before .before .tested .result)
 both-1 c = c .before .before .tested .ensures .both (c .if1 .left)
 
 left-1 : (c : tie.Else1) → let x = c .before .before .before .before .before .before .before .args in Ways (x .base .now) (x .sds) (x .attribute .now) (x .to .now) 0
 left-1 c = tested-passes (c .before .before .tested .ensures) _ (apply-left _ _ _ _) (c .if1 .left)
 
-left-2 : (c : tie.Else2) → let x = c .before .before .before .before .before .before .before .before .before .before .args in Ways (x .base .now) (x .sds) (x .attribute .now) (x .to .now) 1
+left-2 : (c : tie.Else2) → let x = c .before .before .before .before .before .before .before .before .before .before .args in Ways (x .base .now)
+    (x .sds) (x .attribute .now) (x .to .now) 1
 left-2 c = passes (left-1 (c .before .before .before)) (sym (same-applied (both-1 (c .before .before .before)) (c .before .is-applied .ensures)) ∙ c .if2 .left)
 
-left-3 : (c : tie.Else3) → let x = c .before .before .before .before .before .before .before .before .before .before .before .before .before .args in Ways (x .base .now) (x .sds) (x .attribute .now) (x .to .now) 2
+left-3 : (c : tie.Else3) → let x = c .before .before .before .before .before .before .before .before .before .before .before .before .before .args in
+    Ways (x .base .now) (x .sds) (x .attribute .now) (x .to .now) 2
 left-3 c = passes (left-2 (c .before .before .before)) (room _ (c .before .application-count .ensures) (c .if3 .left))
 
 tested-requires : tie.Need-tested-requires
@@ -57,7 +60,8 @@ same-length-2 c = search needs
 returns-2 : tie.Need-returns-2
 returns-2 c =
     let y = both-1 (c .before .before .before .before) in
-    kept-refused (y .sound) (stops (left-1 (c .before .before .before .before)) (sym (same-applied y (c .before .before .is-applied .ensures)) ∙ c .before .if2 .taken)) (c .refused2 .ensures)
+    kept-refused (y .sound) (stops (left-1 (c .before .before .before .before))
+    (sym (same-applied y (c .before .before .is-applied .ensures)) ∙ c .before .if2 .taken)) (c .refused2 .ensures)
 
 application-count-requires : tie.Need-application-count-requires
 application-count-requires c κs = sound-long (both-1 (c .before .before .before .before) .sound)
@@ -69,7 +73,9 @@ same-length-3 : tie.Need-same-length-3
 same-length-3 c = search needs
 
 returns-3 : tie.Need-returns-3
-returns-3 c = kept-refused (both-1 (c .before .before .before .before .before .before .before) .sound) (stops (left-2 (c .before .before .before .before)) (full _ (c .before .before .application-count .ensures) (c .before .if3 .taken))) (c .refused3 .ensures)
+returns-3 c = kept-refused (both-1 (c .before .before .before .before .before .before .before) .sound)
+    (stops (left-2 (c .before .before .before .before)) (full _ (c .before .before .application-count .ensures) (c .before .if3 .taken)))
+    (c .refused3 .ensures)
 
 put-application-requires : tie.Need-put-application-requires
 put-application-requires c κs =
@@ -77,7 +83,11 @@ put-application-requires c κs =
       sound-stored (y .sound),
       (
         (y .aimed, (omega (arith, y .below), (omega (arith, y .to .0), omega (arith, y .attribute .0)))),
-        (room-left _ (c .before .before .application-count .ensures) (c .before .if3 .left), sym (c .before .before .before .before .before .is-applied .ensures) ∙ c .before .before .before .before .if2 .left),
+        (
+          room-left _ (c .before .before .application-count .ensures) (c .before .if3 .left),
+          sym
+              (c .before .before .before .before .before .is-applied .ensures) ∙ c .before .before .before .before .if2 .left,
+        ),
       ),
     )
 

@@ -14,7 +14,8 @@ is-kind-requires-2 : tie.Need-is-kind-requires-2
 is-kind-requires-2 c κs = (c .before .before .before .pre, (omega arith, omega arith))
 
 returns-2 : tie.Need-returns-2
-returns-2 c = let x = c .before .before .before .before .before .args in right-object (x .base .now) (x .a) (x .t) (c .before .before .before .is-kind .ensures) (c .before .before .if1 .left) (c .before .is-kind2 .ensures) (c .if2 .taken)
+returns-2 c = let x = c .before .before .before .before .before .args in right-object (x .base .now) (x .a) (x .t)
+    (c .before .before .before .is-kind .ensures) (c .before .before .if1 .left) (c .before .is-kind2 .ensures) (c .if2 .taken)
 
 is-kind-requires-3 : tie.Need-is-kind-requires-3
 is-kind-requires-3 c κs = (c .before .before .before .before .before .pre, (omega arith, omega arith))
@@ -22,7 +23,8 @@ is-kind-requires-3 c κs = (c .before .before .before .before .before .pre, (ome
 returns-3 : tie.Need-returns-3
 returns-3 c =
     let x = c .before .before .before .before .before .before .args in
-    link-or-wrong (x .base .now) (x .a) (x .t) (c .before .before .before .before .is-kind .ensures) (c .before .before .before .if1 .left) (c .before .before .is-kind2 .ensures) (c .before .if2 .left) (c .is-kind3 .ensures)
+    link-or-wrong (x .base .now) (x .a) (x .t) (c .before .before .before .before .is-kind .ensures) (c .before .before .before .if1 .left)
+    (c .before .before .is-kind2 .ensures) (c .before .if2 .left) (c .is-kind3 .ensures)
 
 pub is-wrong-kind-spec : {M : Type 1} → statement M
 is-wrong-kind-spec =

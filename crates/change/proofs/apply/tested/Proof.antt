@@ -34,26 +34,40 @@ formed-4 c = sym (c .before .is-well-formed .ensures) ∙ not-false _ (c .if4 .l
 formed-5 : (c : tie.Else5) → well-formed (c .before .before .before .before .before .before .before .before .before .before .before .before .args .to .now) ≡ true
 formed-5 c = sym (c .before .is-well-formed2 .ensures) ∙ not-false _ (c .if5 .left)
 
-past-3 : (c : tie.Else5) → let x = c .before .before .before .before .before .before .before .before .before .before .before .before .args in Past (x .base .now) (x .sds) (x .attribute .now) (x .to .now) 3
+past-3 : (c : tie.Else5) → let x = c .before .before .before .before .before .before .before .before .before .before .before .before .args in Past
+    (x .base .now) (x .sds) (x .attribute .now) (x .to .now) 3
 past-3 c = come-next (past-2 (c .before .before .before .before)) (none-malformed _ _ (formed-passes _ (formed-4 (c .before .before))) (formed-passes _ (formed-5 c)))
 
-bears-6 : (c : tie.Else6) → let x = c .before .before .before .before .before .before .before .before .before .before .before .before .before .before .args in bears (schema-of (x .base .now)) (x .sds) (x .attribute .now) ≡ true
+bears-6 : (c : tie.Else6) → let x =
+    c .before .before .before .before .before .before .before .before .before .before .before .before .before .before .args in bears
+    (schema-of (x .base .now)) (x .sds) (x .attribute .now) ≡ true
 bears-6 c = borne (c .before .type-in .ensures) (c .if6 .left)
 
-type-6 : (c : tie.Else6) → let x = c .before .before .before .before .before .before .before .before .before .before .before .before .before .before .args in let t = c .before .type-in .result in (t < 128) × (t ≡ type-named (schema-of (x .base .now)) (x .sds) (x .attribute .now))
+type-6 : (c : tie.Else6) → let x =
+    c .before .before .before .before .before .before .before .before .before .before .before .before .before .before .args in let t =
+    c .before .type-in .result in (t < 128) × (t ≡ type-named (schema-of (x .base .now)) (x .sds) (x .attribute .now))
 type-6 c = c .before .type-in .ensures .found (bears-6 c)
 
-bears-7 : (c : tie.Else7) → let x = c .before .before .before .before .before .before .before .before .before .before .before .before .before .before .before .before .args in bears (schema-of (x .base .now)) (x .sds) (x .to .now) ≡ true
+bears-7 : (c : tie.Else7) → let x =
+    c .before .before .before .before .before .before .before .before .before .before .before .before .before .before .before .before .args in bears
+    (schema-of (x .base .now)) (x .sds) (x .to .now) ≡ true
 bears-7 c = borne (c .before .type-in2 .ensures) (c .if7 .left)
 
-type-7 : (c : tie.Else7) → let x = c .before .before .before .before .before .before .before .before .before .before .before .before .before .before .before .before .args in let t = c .before .type-in2 .result in (t < 128) × (t ≡ type-named (schema-of (x .base .now)) (x .sds) (x .to .now))
+type-7 : (c : tie.Else7) → let x =
+    c .before .before .before .before .before .before .before .before .before .before .before .before .before .before .before .before .args in let t =
+    c .before .type-in2 .result in (t < 128) × (t ≡ type-named (schema-of (x .base .now)) (x .sds) (x .to .now))
 type-7 c = c .before .type-in2 .ensures .found (bears-7 c)
 
-past-4 : (c : tie.Else7) → let x = c .before .before .before .before .before .before .before .before .before .before .before .before .before .before .before .before .args in Past (x .base .now) (x .sds) (x .attribute .now) (x .to .now) 4
+past-4 : (c : tie.Else7) → let x =
+    c .before .before .before .before .before .before .before .before .before .before .before .before .before .before .before .before .args in Past
+    (x .base .now) (x .sds) (x .attribute .now) (x .to .now) 4
 past-4 c = come-next (past-3 (c .before .before .before .before)) (none-missing _ _ _ _ (name-there _ _ _ (bears-6 (c .before .before))) (name-there _ _ _ (bears-7 c)))
 
 -- the kinds were tested of the types that are named
-kinds-8 : (c : tie.After-is-wrong-kind) → let x = c .before .before .before .before .before .before .before .before .before .before .before .before .before .before .before .before .before .args in let s = (schema-of (x .base .now)) in c .is-wrong-kind .result ≡ wrong-kind s (type-named s (x .sds) (x .attribute .now)) (type-named s (x .sds) (x .to .now))
+kinds-8 : (c : tie.After-is-wrong-kind) → let x =
+    c .before .before .before .before .before .before .before .before .before .before .before .before .before .before .before .before .before .args in
+    let s = (schema-of (x .base .now)) in c .is-wrong-kind .result ≡ wrong-kind s (type-named s (x .sds) (x .attribute .now))
+    (type-named s (x .sds) (x .to .now))
 kinds-8 c = wrong-named _ (type-6 (c .before .before .before) .1) (type-7 (c .before) .1) (c .is-wrong-kind .ensures)
 
 is-sound-requires : tie.Need-is-sound-requires
@@ -90,7 +104,8 @@ refused-requires-4 c κs = search needs
 
 returns-4 : tie.Need-returns-4
 returns-4 c =
-    asked-refused (past-2 (c .before .before .before)) (one-malformed _ _ (malformed-stops _ (sym (c .before .before .is-well-formed .ensures) ∙ not-true _ (c .before .if4 .taken)))) (omega arith)
+    asked-refused (past-2 (c .before .before .before)) (one-malformed _ _
+    (malformed-stops _ (sym (c .before .before .is-well-formed .ensures) ∙ not-true _ (c .before .if4 .taken)))) (omega arith)
     (c .refused4 .ensures)
 
 is-well-formed-requires-2 : tie.Need-is-well-formed-requires-2
@@ -101,7 +116,9 @@ refused-requires-5 c κs = search needs
 
 returns-5 : tie.Need-returns-5
 returns-5 c =
-    asked-refused (past-2 (c .before .before .before .before .before)) (other-malformed _ _ (malformed-stops _ (sym (c .before .before .is-well-formed2 .ensures) ∙ not-true _ (c .before .if5 .taken)))) (omega arith)
+    asked-refused (past-2 (c .before .before .before .before .before))
+    (other-malformed _ _ (malformed-stops _ (sym (c .before .before .is-well-formed2 .ensures) ∙ not-true _ (c .before .if5 .taken))))
+    (omega arith)
     (c .refused5 .ensures)
 
 type-in-requires : tie.Need-type-in-requires
@@ -111,7 +128,9 @@ refused-requires-6 : tie.Need-refused-requires-6
 refused-requires-6 c κs = search needs
 
 returns-6 : tie.Need-returns-6
-returns-6 c = asked-refused (past-3 (c .before .before .before)) (one-missing _ _ _ _ (name-missing _ _ _ (not-borne (c .before .before .type-in .ensures) (c .before .if6 .taken)))) (omega arith) (c .refused6 .ensures)
+returns-6 c = asked-refused (past-3 (c .before .before .before))
+    (one-missing _ _ _ _ (name-missing _ _ _ (not-borne (c .before .before .type-in .ensures) (c .before .if6 .taken)))) (omega arith)
+    (c .refused6 .ensures)
 
 type-in-requires-2 : tie.Need-type-in-requires-2
 type-in-requires-2 c κs = past-3 (c .before .before) .sound
@@ -120,7 +139,9 @@ refused-requires-7 : tie.Need-refused-requires-7
 refused-requires-7 c κs = search needs
 
 returns-7 : tie.Need-returns-7
-returns-7 c = asked-refused (past-3 (c .before .before .before .before .before)) (other-missing _ _ _ _ (name-missing _ _ _ (not-borne (c .before .before .type-in2 .ensures) (c .before .if7 .taken)))) (omega arith) (c .refused7 .ensures)
+returns-7 c = asked-refused (past-3 (c .before .before .before .before .before))
+    (other-missing _ _ _ _ (name-missing _ _ _ (not-borne (c .before .before .type-in2 .ensures) (c .before .if7 .taken)))) (omega arith)
+    (c .refused7 .ensures)
 
 is-wrong-kind-requires : tie.Need-is-wrong-kind-requires
 is-wrong-kind-requires c κs = sound-long (past-4 c .sound)

@@ -20,16 +20,21 @@ use Rattle.change.proofs.apply.unapply.Tie as tie
 abbrev Ways : List ℕ → ℕ → Name → Name → ℕ → Type 0
 Ways b d a n k = let s = schema-of b in Left (unapply d a n s) (drop k (unapply-rest d a n s)) (done 0 0 0 (less-application d (type-named s d n) (type-named s d a) s))
 
-both-1 : (c : tie.Else1) → let x = c .before .before .before .before .before .before .before .args in Both (x .base .now) (x .sds) (x .attribute .now) (x .to .now) (c .before .before .tested .result)
+both-1 : (c : tie.Else1) → let x = c .before .before .before .before .before .before .before .args in Both (x .base .now) (x .sds) (x .attribute .now)
+    (x .to .now) (c .before .before .tested .result)
 both-1 c = c .before .before .tested .ensures .both (c .if1 .left)
 
 left-1 : (c : tie.Else1) → let x = c .before .before .before .before .before .before .before .args in Ways (x .base .now) (x .sds) (x .attribute .now) (x .to .now) 0
 left-1 c = tested-passes (c .before .before .tested .ensures) _ (unapply-left _ _ _ _) (c .if1 .left)
 
-left-2 : (c : tie.Else2) → let x = c .before .before .before .before .before .before .before .before .before .before .before .before .args in Ways (x .base .now) (x .sds) (x .attribute .now) (x .to .now) 1
-left-2 c = passes (left-1 (c .before .before .before .before .before)) (row-some (both-1 (c .before .before .before .before .before)) (c .before .before .before .application-row .ensures) (c .before .application-count .ensures) (c .if2 .left))
+left-2 : (c : tie.Else2) → let x = c .before .before .before .before .before .before .before .before .before .before .before .before .args in Ways
+    (x .base .now) (x .sds) (x .attribute .now) (x .to .now) 1
+left-2 c = passes (left-1 (c .before .before .before .before .before))
+    (row-some (both-1 (c .before .before .before .before .before)) (c .before .before .before .application-row .ensures)
+    (c .before .application-count .ensures) (c .if2 .left))
 
-there-2 : (c : tie.Else2) → c .before .before .before .application-row .result < application-count (c .before .before .before .before .before .before .before .before .before .before .before .before .args .base .now)
+there-2 : (c : tie.Else2) → c .before .before .before .application-row .result < application-count
+    (c .before .before .before .before .before .before .before .before .before .before .before .before .args .base .now)
 there-2 c = omega (arith, c .before .application-count .ensures .is, c .if2 .left)
 
 tested-requires : tie.Need-tested-requires
@@ -59,7 +64,9 @@ same-length-2 c = search needs
 returns-2 : tie.Need-returns-2
 returns-2 c =
     let y = both-1 (c .before .before .before .before .before .before) in
-    kept-refused (y .sound) (stops (left-1 (c .before .before .before .before .before .before)) (row-none y (c .before .before .before .before .application-row .ensures) (c .before .before .application-count .ensures) (c .before .if2 .taken)))
+    kept-refused (y .sound) (stops (left-1 (c .before .before .before .before .before .before))
+    (row-none y (c .before .before .before .before .application-row .ensures) (c .before .before .application-count .ensures)
+    (c .before .if2 .taken)))
     (c .refused2 .ensures)
 
 take-application-requires : tie.Need-take-application-requires
@@ -75,7 +82,8 @@ returns-3 : tie.Need-returns-3
 returns-3 c =
     let y = both-1 (c .before .before .before .before .before .before .before .before .before .before) in
     kept-done (y .sound) (ends (left-2 (c .before .before .before .before .before))) (c .done .ensures)
-    (taken-off y (c .before .before .before .before .before .before .before .before .application-row .ensures) (there-2 (c .before .before .before .before .before)) (c .before .before .before .take-application .ensures))
+    (taken-off y (c .before .before .before .before .before .before .before .before .application-row .ensures)
+    (there-2 (c .before .before .before .before .before)) (c .before .before .before .take-application .ensures))
 
 pub unapply-spec : {M : Type 1} → statement M
 unapply-spec =

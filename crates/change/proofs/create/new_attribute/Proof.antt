@@ -26,11 +26,30 @@ slice-aggregate-write-type c = search needs
 write-type-requires : tie.Need-write-type-requires
 write-type-requires c κs =
     let p = c .before .before .before .before .place-for .ensures in
-    let r = p .ready (c .before .before .if1 .left) in
-    (sound-stored (r .sound), (r .below, ((omega arith, (omega (arith, ltb-false 5 (c .before .before .before .before .before .before .before .before .args .value) (p .value-known (c .before .before .if1 .left))), omega arith)), omega arith)))
+    let r = p .ready (c .before .before .if1 .left) in (
+      sound-stored (r .sound),
+      (
+        r .below,
+        (
+          (
+            omega arith,
+            (
+              omega (
+                arith,
+                ltb-false 5 (c .before .before .before .before .before .before .before .before .args .value)
+                    (p .value-known (c .before .before .if1 .left)),
+              ),
+              omega arith,
+            ),
+          ),
+          omega arith,
+        ),
+      ),
+    )
 
 put-presence-requires : tie.Need-put-presence-requires
-put-presence-requires c κs = presence-ready (c .before .before .before .before .before .before .before .before .place-for .ensures .ready (c .before .before .before .before .before .before .if1 .left)) _ (attribute-written _ (c .before .before .before .write-type .ensures))
+put-presence-requires c κs = presence-ready (c .before .before .before .before .before .before .before .before .place-for .ensures .ready
+    (c .before .before .before .before .before .before .if1 .left)) _ (attribute-written _ (c .before .before .before .write-type .ensures))
 
 done-requires : tie.Need-done-requires
 done-requires c κs = search needs
@@ -43,7 +62,8 @@ unfolding all
 returns-2 c =
     let p = c .before .before .before .before .before .before .before .before .before .before .before .before .place-for .ensures in
     let z = c .before .before .before .before .before .before .before .before .before .before .if1 .left in
-    made-kept (p .ready z) _ (attribute-written _ (c .before .before .before .before .before .before .before .write-type .ensures)) (tested-passes (p .told) z refl (new-attribute-left _ _ _ _)) (c .done .ensures) (c .before .before .before .put-presence .ensures)
+    made-kept (p .ready z) _ (attribute-written _ (c .before .before .before .before .before .before .before .write-type .ensures))
+    (tested-passes (p .told) z refl (new-attribute-left _ _ _ _)) (c .done .ensures) (c .before .before .before .put-presence .ensures)
 
 pub new-attribute-spec : {M : Type 1} → statement M
 new-attribute-spec =

@@ -29,7 +29,8 @@ write-type-requires c κs =
     (sound-stored (r .sound), (r .below, ((omega arith, (omega arith, omega arith)), omega arith)))
 
 put-presence-requires : tie.Need-put-presence-requires
-put-presence-requires c κs = presence-ready (c .before .before .before .before .before .before .before .before .place-for .ensures .ready (c .before .before .before .before .before .before .if1 .left)) _ (designation-written (c .before .before .before .write-type .ensures))
+put-presence-requires c κs = presence-ready (c .before .before .before .before .before .before .before .before .place-for .ensures .ready
+    (c .before .before .before .before .before .before .if1 .left)) _ (designation-written (c .before .before .before .write-type .ensures))
 
 done-requires : tie.Need-done-requires
 done-requires c κs = search needs
@@ -42,7 +43,8 @@ unfolding all
 returns-2 c =
     let p = c .before .before .before .before .before .before .before .before .before .before .before .before .place-for .ensures in
     let z = c .before .before .before .before .before .before .before .before .before .before .if1 .left in
-    made-kept (p .ready z) _ (designation-written (c .before .before .before .before .before .before .before .write-type .ensures)) (tested-passes (p .told) z refl (new-designation-left _ _ _)) (c .done .ensures) (c .before .before .before .put-presence .ensures)
+    made-kept (p .ready z) _ (designation-written (c .before .before .before .before .before .before .before .write-type .ensures))
+    (tested-passes (p .told) z refl (new-designation-left _ _ _)) (c .done .ensures) (c .before .before .before .put-presence .ensures)
 
 pub new-designation-spec : {M : Type 1} → statement M
 new-designation-spec =

@@ -36,13 +36,16 @@ formed-3 c = sym (c .before .is-well-formed .ensures) ∙ not-false _ (c .if4 .l
 past-3 : (c : tie.Else4) → let x = c .before .before .before .before .before .before .before .before .before .args in Past (x .base .now) (x .sds) (x .name .now) (x .unknown) 3
 past-3 c = come-next (past-2 (c .before .before)) (formed-passes _ (formed-3 c))
 
-past-4 : (c : tie.Else5) → let x = c .before .before .before .before .before .before .before .before .before .before .args in Past (x .base .now) (x .sds) (x .name .now) (x .unknown) 4
+past-4 : (c : tie.Else5) → let x = c .before .before .before .before .before .before .before .before .before .before .args in Past (x .base .now)
+    (x .sds) (x .name .now) (x .unknown) 4
 past-4 c = come-next (past-3 (c .before)) (c .if5 .left)
 
-free-5 : (c : tie.Else6) → let x = c .before .before .before .before .before .before .before .before .before .before .before .before .args in bears (schema-of (x .base .now)) (x .sds) (x .name .now) ≡ false
+free-5 : (c : tie.Else6) → let x = c .before .before .before .before .before .before .before .before .before .before .before .before .args in bears
+    (schema-of (x .base .now)) (x .sds) (x .name .now) ≡ false
 free-5 c = not-borne (c .before .type-in .ensures) (c .if6 .left)
 
-past-5 : (c : tie.Else6) → let x = c .before .before .before .before .before .before .before .before .before .before .before .before .args in Past (x .base .now) (x .sds) (x .name .now) (x .unknown) 5
+past-5 : (c : tie.Else6) → let x = c .before .before .before .before .before .before .before .before .before .before .before .before .args in Past
+    (x .base .now) (x .sds) (x .name .now) (x .unknown) 5
 past-5 c = come-next (past-4 (c .before .before)) (one-free _ _ _ (free-5 c))
 
 is-sound-requires : tie.Need-is-sound-requires
@@ -61,7 +64,9 @@ refused-requires-2 : tie.Need-refused-requires-2
 refused-requires-2 c κs = search needs
 
 returns-2 : tie.Need-returns-2
-returns-2 c = not-placed (come-stops (past-0 (c .before .before .before)) (unknown _ (sound-long (past-0 (c .before .before .before) .sound)) _ (sym (c .before .before .is-sds .ensures) ∙ not-true _ (c .before .if2 .taken))) (c .refused2 .ensures))
+returns-2 c = not-placed (come-stops (past-0 (c .before .before .before))
+    (unknown _ (sound-long (past-0 (c .before .before .before) .sound)) _
+    (sym (c .before .before .is-sds .ensures) ∙ not-true _ (c .before .if2 .taken))) (c .refused2 .ensures))
     (λ z. omega (arith, c .refused2 .ensures))
 
 refused-requires-3 : tie.Need-refused-requires-3
@@ -77,7 +82,8 @@ refused-requires-4 : tie.Need-refused-requires-4
 refused-requires-4 c κs = search needs
 
 returns-4 : tie.Need-returns-4
-returns-4 c = not-placed (come-stops (past-2 (c .before .before .before)) (malformed-stops _ (sym (c .before .before .is-well-formed .ensures) ∙ not-true _ (c .before .if4 .taken))) (c .refused4 .ensures))
+returns-4 c = not-placed (come-stops (past-2 (c .before .before .before))
+    (malformed-stops _ (sym (c .before .before .is-well-formed .ensures) ∙ not-true _ (c .before .if4 .taken))) (c .refused4 .ensures))
     (λ z. omega (arith, c .refused4 .ensures))
 
 refused-requires-5 : tie.Need-refused-requires-5
@@ -93,7 +99,9 @@ refused-requires-6 : tie.Need-refused-requires-6
 refused-requires-6 c κs = search needs
 
 returns-6 : tie.Need-returns-6
-returns-6 c = not-placed (come-stops (past-4 (c .before .before .before)) (one-taken _ _ _ (borne (c .before .before .type-in .ensures) (c .before .if6 .taken))) (c .refused6 .ensures)) (λ z. omega (arith, c .refused6 .ensures))
+returns-6 c = not-placed (come-stops (past-4 (c .before .before .before))
+    (one-taken _ _ _ (borne (c .before .before .type-in .ensures) (c .before .if6 .taken))) (c .refused6 .ensures))
+    (λ z. omega (arith, c .refused6 .ensures))
 
 free-type-requires : tie.Need-free-type-requires
 free-type-requires c κs = past-5 c .sound
@@ -102,7 +110,9 @@ refused-requires-7 : tie.Need-refused-requires-7
 refused-requires-7 c κs = search needs
 
 returns-7 : tie.Need-returns-7
-returns-7 c = not-placed (come-stops (past-5 (c .before .before .before)) (numbers-short _ 1 (no-room-for (c .before .before .free-type .ensures) 1 (omega arith) (c .before .if7 .taken))) (c .refused7 .ensures)) (λ z. omega (arith, c .refused7 .ensures))
+returns-7 c = not-placed (come-stops (past-5 (c .before .before .before))
+    (numbers-short _ 1 (no-room-for (c .before .before .free-type .ensures) 1 (omega arith) (c .before .if7 .taken))) (c .refused7 .ensures))
+    (λ z. omega (arith, c .refused7 .ensures))
 
 presence-count-requires : tie.Need-presence-count-requires
 presence-count-requires c κs = sound-long (past-5 (c .before .before) .sound)
@@ -111,7 +121,9 @@ refused-requires-8 : tie.Need-refused-requires-8
 refused-requires-8 c κs = search needs
 
 returns-8 : tie.Need-returns-8
-returns-8 c = not-placed (come-stops (past-5 (c .before .before .before .before .before)) (presences-short _ 1 (let h = c .before .if8 .taken in omega (arith, c .before .before .presence-count .ensures .is))) (c .refused8 .ensures)) (λ z. omega (arith, c .refused8 .ensures))
+returns-8 c = not-placed (come-stops (past-5 (c .before .before .before .before .before))
+    (presences-short _ 1 (let h = c .before .if8 .taken in omega (arith, c .before .before .presence-count .ensures .is))) (c .refused8 .ensures))
+    (λ z. omega (arith, c .refused8 .ensures))
 
 returns-9 : tie.Need-returns-9
 returns-9 c =
@@ -127,7 +139,12 @@ returns-9 c =
         small = used-below _ (sound-long (p .sound)) _ (used-1 (c .before .before .before .before .before .before .before .before .before .before));
         formed = formed-3 (c .before .before .before .before .before .before .before);
         free = free-5 (c .before .before .before .before);
-        room = omega (arith, c .before .presence-count .ensures .is, presences-long (c .before .before .before .before .before .before .before .before .before .before .before .before .before .before .before .before .args .base .now));
+        room = omega (
+          arith,
+          c .before .presence-count .ensures .is,
+          presences-long
+              (c .before .before .before .before .before .before .before .before .before .before .before .before .before .before .before .before .args .base .now),
+        );
         below = below;
         new = new-type-is f below;
       };

@@ -34,22 +34,33 @@ formed-4 c = sym (c .before .is-well-formed .ensures) ∙ not-false _ (c .if4 .l
 formed-5 : (c : tie.Else5) → well-formed (c .before .before .before .before .before .before .before .before .before .before .before .before .args .object .now) ≡ true
 formed-5 c = sym (c .before .is-well-formed2 .ensures) ∙ not-false _ (c .if5 .left)
 
-past-3 : (c : tie.Else5) → let x = c .before .before .before .before .before .before .before .before .before .before .before .before .args in Past (x .base .now) (x .sds) (x .link .now) (x .object .now) 3
+past-3 : (c : tie.Else5) → let x = c .before .before .before .before .before .before .before .before .before .before .before .before .args in Past
+    (x .base .now) (x .sds) (x .link .now) (x .object .now) 3
 past-3 c = come-next (past-2 (c .before .before .before .before)) (none-malformed _ _ (formed-passes _ (formed-4 (c .before .before))) (formed-passes _ (formed-5 c)))
 
-bears-6 : (c : tie.Else6) → let x = c .before .before .before .before .before .before .before .before .before .before .before .before .before .before .args in bears (schema-of (x .base .now)) (x .sds) (x .link .now) ≡ true
+bears-6 : (c : tie.Else6) → let x =
+    c .before .before .before .before .before .before .before .before .before .before .before .before .before .before .args in bears
+    (schema-of (x .base .now)) (x .sds) (x .link .now) ≡ true
 bears-6 c = borne (c .before .type-in .ensures) (c .if6 .left)
 
-type-6 : (c : tie.Else6) → let x = c .before .before .before .before .before .before .before .before .before .before .before .before .before .before .args in (c .before .type-in .result < 128) × (c .before .type-in .result ≡ type-named (schema-of (x .base .now)) (x .sds) (x .link .now))
+type-6 : (c : tie.Else6) → let x =
+    c .before .before .before .before .before .before .before .before .before .before .before .before .before .before .args in
+    (c .before .type-in .result < 128) × (c .before .type-in .result ≡ type-named (schema-of (x .base .now)) (x .sds) (x .link .now))
 type-6 c = c .before .type-in .ensures .found (bears-6 c)
 
-bears-7 : (c : tie.Else7) → let x = c .before .before .before .before .before .before .before .before .before .before .before .before .before .before .before .before .args in bears (schema-of (x .base .now)) (x .sds) (x .object .now) ≡ true
+bears-7 : (c : tie.Else7) → let x =
+    c .before .before .before .before .before .before .before .before .before .before .before .before .before .before .before .before .args in bears
+    (schema-of (x .base .now)) (x .sds) (x .object .now) ≡ true
 bears-7 c = borne (c .before .type-in2 .ensures) (c .if7 .left)
 
-type-7 : (c : tie.Else7) → let x = c .before .before .before .before .before .before .before .before .before .before .before .before .before .before .before .before .args in (c .before .type-in2 .result < 128) × (c .before .type-in2 .result ≡ type-named (schema-of (x .base .now)) (x .sds) (x .object .now))
+type-7 : (c : tie.Else7) → let x =
+    c .before .before .before .before .before .before .before .before .before .before .before .before .before .before .before .before .args in
+    (c .before .type-in2 .result < 128) × (c .before .type-in2 .result ≡ type-named (schema-of (x .base .now)) (x .sds) (x .object .now))
 type-7 c = c .before .type-in2 .ensures .found (bears-7 c)
 
-past-4 : (c : tie.Else7) → let x = c .before .before .before .before .before .before .before .before .before .before .before .before .before .before .before .before .args in Past (x .base .now) (x .sds) (x .link .now) (x .object .now) 4
+past-4 : (c : tie.Else7) → let x =
+    c .before .before .before .before .before .before .before .before .before .before .before .before .before .before .before .before .args in Past
+    (x .base .now) (x .sds) (x .link .now) (x .object .now) 4
 past-4 c = come-next (past-3 (c .before .before .before .before)) (both-there _ _ _ _ (bears-6 (c .before .before)) (bears-7 c))
 
 is-sound-requires : tie.Need-is-sound-requires
@@ -68,7 +79,9 @@ refused-requires-2 : tie.Need-refused-requires-2
 refused-requires-2 c κs = search needs
 
 returns-2 : tie.Need-returns-2
-returns-2 c = aim-refused (past-0 (c .before .before .before)) (unknown _ (sound-long (past-0 (c .before .before .before) .sound)) _ (sym (c .before .before .is-sds .ensures) ∙ not-true _ (c .before .if2 .taken))) (omega arith) (c .refused2 .ensures)
+returns-2 c = aim-refused (past-0 (c .before .before .before))
+    (unknown _ (sound-long (past-0 (c .before .before .before) .sound)) _
+    (sym (c .before .before .is-sds .ensures) ∙ not-true _ (c .before .if2 .taken))) (omega arith) (c .refused2 .ensures)
 
 refused-requires-3 : tie.Need-refused-requires-3
 refused-requires-3 c κs = search needs
@@ -83,7 +96,9 @@ refused-requires-4 : tie.Need-refused-requires-4
 refused-requires-4 c κs = search needs
 
 returns-4 : tie.Need-returns-4
-returns-4 c = aim-refused (past-2 (c .before .before .before)) (one-malformed _ _ (malformed-stops _ (sym (c .before .before .is-well-formed .ensures) ∙ not-true _ (c .before .if4 .taken)))) (omega arith) (c .refused4 .ensures)
+returns-4 c = aim-refused (past-2 (c .before .before .before))
+    (one-malformed _ _ (malformed-stops _ (sym (c .before .before .is-well-formed .ensures) ∙ not-true _ (c .before .if4 .taken)))) (omega arith)
+    (c .refused4 .ensures)
 
 is-well-formed-requires-2 : tie.Need-is-well-formed-requires-2
 is-well-formed-requires-2 c κs = search needs
@@ -92,7 +107,9 @@ refused-requires-5 : tie.Need-refused-requires-5
 refused-requires-5 c κs = search needs
 
 returns-5 : tie.Need-returns-5
-returns-5 c = aim-refused (past-2 (c .before .before .before .before .before)) (other-malformed _ _ (malformed-stops _ (sym (c .before .before .is-well-formed2 .ensures) ∙ not-true _ (c .before .if5 .taken)))) (omega arith) (c .refused5 .ensures)
+returns-5 c = aim-refused (past-2 (c .before .before .before .before .before))
+    (other-malformed _ _ (malformed-stops _ (sym (c .before .before .is-well-formed2 .ensures) ∙ not-true _ (c .before .if5 .taken)))) (omega arith)
+    (c .refused5 .ensures)
 
 type-in-requires : tie.Need-type-in-requires
 type-in-requires c κs = past-3 c .sound
@@ -101,7 +118,8 @@ refused-requires-6 : tie.Need-refused-requires-6
 refused-requires-6 c κs = search needs
 
 returns-6 : tie.Need-returns-6
-returns-6 c = aim-refused (past-3 (c .before .before .before)) (one-missing _ _ _ _ (not-borne (c .before .before .type-in .ensures) (c .before .if6 .taken))) (omega arith) (c .refused6 .ensures)
+returns-6 c = aim-refused (past-3 (c .before .before .before))
+    (one-missing _ _ _ _ (not-borne (c .before .before .type-in .ensures) (c .before .if6 .taken))) (omega arith) (c .refused6 .ensures)
 
 type-in-requires-2 : tie.Need-type-in-requires-2
 type-in-requires-2 c κs = past-3 (c .before .before) .sound
@@ -110,7 +128,8 @@ refused-requires-7 : tie.Need-refused-requires-7
 refused-requires-7 c κs = search needs
 
 returns-7 : tie.Need-returns-7
-returns-7 c = aim-refused (past-3 (c .before .before .before .before .before)) (other-missing _ _ _ _ (not-borne (c .before .before .type-in2 .ensures) (c .before .if7 .taken))) (omega arith) (c .refused7 .ensures)
+returns-7 c = aim-refused (past-3 (c .before .before .before .before .before))
+    (other-missing _ _ _ _ (not-borne (c .before .before .type-in2 .ensures) (c .before .if7 .taken))) (omega arith) (c .refused7 .ensures)
 
 kind-requires : tie.Need-kind-requires
 kind-requires c κs = (sound-long (past-4 c .sound), type-6 (c .before .before) .0)
@@ -132,14 +151,16 @@ refused-requires-9 c κs = search needs
 returns-9 : tie.Need-returns-9
 returns-9 c =
     let (h, e) = type-7 (c .before .before .before .before .before) in
-    aim-refused (past-4 (c .before .before .before .before .before)) (no-object-there _ _ _ _ h e (c .before .before .kind2 .ensures) (c .before .if9 .taken)) (omega arith) (c .refused9 .ensures)
+    aim-refused (past-4 (c .before .before .before .before .before))
+    (no-object-there _ _ _ _ h e (c .before .before .kind2 .ensures) (c .before .if9 .taken)) (omega arith) (c .refused9 .ensures)
 
 returns-10 : tie.Need-returns-10
 returns-10 c =
     let l = type-6 (c .before .before .before .before .before .before) in
     let o = type-7 (c .before .before .before .before) in
     let past = past-4 (c .before .before .before .before) in
-    aim-through (come-next past (both-kinds _ _ _ _ l o (c .before .before .before .kind .ensures) (c .before .before .if8 .left) (c .before .kind2 .ensures) (c .if9 .left))) refl (record {
+    aim-through (come-next past (both-kinds _ _ _ _ l o (c .before .before .before .kind .ensures) (c .before .before .if8 .left)
+    (c .before .kind2 .ensures) (c .if9 .left))) refl (record {
       sound = past .sound;
       used = used-2 (c .before .before .before .before .before .before .before .before .before .before .before .before .before);
       outside = c .before .before .before .before .before .before .before .before .before .before .before .before .if3 .left;

@@ -17,7 +17,8 @@ use Rattle.base.proofs.SdsShown.{used-below, known, unknown}
 use Rattle.base.proofs.Kept.{sound-long, kept-spoiled, kept-refused, kept-done}
 use Rattle.base.proofs.StoredLaws.{sound-stored, shows-stored}
 use Rattle.change.proofs.Laws.{formed-passes, malformed-stops, system-stops, system-passes}
-use Rattle.change.proofs.RenameLaws.{renamed, rename-effect, rename-left, one-malformed, other-malformed, none-malformed, name-there, name-missing, borne, not-borne, row-there, room-then, name-free, put-again}
+use Rattle.change.proofs.RenameLaws.{renamed, rename-effect, rename-left, one-malformed, other-malformed, none-malformed, name-there}
+use Rattle.change.proofs.RenameLaws.{name-missing, borne, not-borne, row-there, room-then, name-free, put-again}
 use Rattle.change.proofs.rename.rename.Statement.{statement}
 use Rattle.change.proofs.rename.rename.Tie as tie
 
@@ -34,7 +35,8 @@ used-2 c = sym (c .before .is-sds .ensures) ∙ not-false _ (c .if2 .left)
 left-2 : (c : tie.Else2) → let x = c .before .before .before .before .before .before .before .before .before .args in Ways (x .base .now) (x .sds) (x .name .now) (x .new .now) 1
 left-2 c = passes (rename-left _ _ _ _) (known _ (sound-long (sound-1 (c .before .before .before))) _ (used-2 c))
 
-left-3 : (c : tie.Else3) → let x = c .before .before .before .before .before .before .before .before .before .before .args in Ways (x .base .now) (x .sds) (x .name .now) (x .new .now) 2
+left-3 : (c : tie.Else3) → let x = c .before .before .before .before .before .before .before .before .before .before .args in Ways (x .base .now)
+    (x .sds) (x .name .now) (x .new .now) 2
 left-3 c = passes (left-2 (c .before)) (system-passes _ (c .if3 .left))
 
 formed-4 : (c : tie.Else4) → well-formed (c .before .before .before .before .before .before .before .before .before .before .before .before .args .name .now) ≡ true
@@ -43,23 +45,38 @@ formed-4 c = sym (c .before .is-well-formed .ensures) ∙ not-false _ (c .if4 .l
 formed-5 : (c : tie.Else5) → well-formed (c .before .before .before .before .before .before .before .before .before .before .before .before .before .before .args .new .now) ≡ true
 formed-5 c = sym (c .before .is-well-formed2 .ensures) ∙ not-false _ (c .if5 .left)
 
-left-5 : (c : tie.Else5) → let x = c .before .before .before .before .before .before .before .before .before .before .before .before .before .before .args in Ways (x .base .now) (x .sds) (x .name .now) (x .new .now) 3
+left-5 : (c : tie.Else5) → let x =
+    c .before .before .before .before .before .before .before .before .before .before .before .before .before .before .args in Ways (x .base .now)
+    (x .sds) (x .name .now) (x .new .now) 3
 left-5 c = passes (left-3 (c .before .before .before .before)) (none-malformed _ _ (formed-passes _ (formed-4 (c .before .before))) (formed-passes _ (formed-5 c)))
 
-bears-6 : (c : tie.Else6) → let x = c .before .before .before .before .before .before .before .before .before .before .before .before .before .before .before .before .before .args in bears (schema-of (x .base .now)) (x .sds) (x .name .now) ≡ true
+bears-6 : (c : tie.Else6) → let x =
+    c .before .before .before .before .before .before .before .before .before .before .before .before .before .before .before .before .before .args in
+    bears (schema-of (x .base .now)) (x .sds) (x .name .now) ≡ true
 bears-6 c = borne (c .before .type-in .ensures) (c .if6 .left)
 
-left-6 : (c : tie.Else6) → let x = c .before .before .before .before .before .before .before .before .before .before .before .before .before .before .before .before .before .args in Ways (x .base .now) (x .sds) (x .name .now) (x .new .now) 4
+left-6 : (c : tie.Else6) → let x =
+    c .before .before .before .before .before .before .before .before .before .before .before .before .before .before .before .before .before .args in
+    Ways (x .base .now) (x .sds) (x .name .now) (x .new .now) 4
 left-6 c = passes (left-5 (c .before .before .before)) (name-there _ _ _ (bears-6 c))
 
-type-6 : (c : tie.Else6) → let x = c .before .before .before .before .before .before .before .before .before .before .before .before .before .before .before .before .before .args in (c .before .type-in .result < 128) × (c .before .type-in .result ≡ type-named (schema-of (x .base .now)) (x .sds) (x .name .now))
+type-6 : (c : tie.Else6) → let x =
+    c .before .before .before .before .before .before .before .before .before .before .before .before .before .before .before .before .before .args in
+    (c .before .type-in .result < 128) × (c .before .type-in .result ≡ type-named (schema-of (x .base .now)) (x .sds) (x .name .now))
 type-6 c = c .before .type-in .ensures .found (bears-6 c)
 
-free-7 : (c : tie.Else7) → let x = c .before .before .before .before .before .before .before .before .before .before .before .before .before .before .before .before .before .before .before .before .args in borne-by-another (schema-of (x .base .now)) (x .sds) (c .before .before .before .before .type-in .result) (x .new .now) ≡ false
+free-7 : (c : tie.Else7) → let x =
+    c .before .before .before .before .before .before .before .before .before .before .before .before .before .before .before .before .before .before
+    .before .before .args in borne-by-another (schema-of (x .base .now)) (x .sds) (c .before .before .before .before .type-in .result) (x .new
+    .now) ≡ false
 free-7 c = sym (c .before .is-borne-by-another .ensures) ∙ c .if7 .left
 
-left-7 : (c : tie.Else7) → let x = c .before .before .before .before .before .before .before .before .before .before .before .before .before .before .before .before .before .before .before .before .args in Ways (x .base .now) (x .sds) (x .name .now) (x .new .now) 5
-left-7 c = let x = c .before .before .before .before .before .before .before .before .before .before .before .before .before .before .before .before .before .before .before .before .args in passes (left-6 (c .before .before .before)) (ap (λ (y : ℕ). borne-by-another (schema-of (x .base .now)) (x .sds) y (x .new .now)) (sym (type-6 (c .before .before .before) .1)) ∙ free-7 c)
+left-7 : (c : tie.Else7) → let x =
+    c .before .before .before .before .before .before .before .before .before .before .before .before .before .before .before .before .before .before
+    .before .before .args in Ways (x .base .now) (x .sds) (x .name .now) (x .new .now) 5
+left-7 c = let x = c .before .before .before .before .before .before .before .before .before .before .before .before .before .before .before .before
+    .before .before .before .before .args in passes (left-6 (c .before .before .before)) (ap (λ (y : ℕ). borne-by-another (schema-of (x .base .now))
+    (x .sds) y (x .new .now)) (sym (type-6 (c .before .before .before) .1)) ∙ free-7 c)
 
 is-sound-requires : tie.Need-is-sound-requires
 is-sound-requires c κs = search needs
@@ -83,7 +100,9 @@ same-length-2 : tie.Need-same-length-2
 same-length-2 c = search needs
 
 returns-2 : tie.Need-returns-2
-returns-2 c = kept-refused (sound-1 (c .before .before .before .before)) (stops (rename-left _ _ _ _) (unknown _ (sound-long (sound-1 (c .before .before .before .before))) _ (sym (c .before .before .is-sds .ensures) ∙ not-true _ (c .before .if2 .taken)))) (c .refused2 .ensures)
+returns-2 c = kept-refused (sound-1 (c .before .before .before .before))
+    (stops (rename-left _ _ _ _) (unknown _ (sound-long (sound-1 (c .before .before .before .before))) _
+    (sym (c .before .before .is-sds .ensures) ∙ not-true _ (c .before .if2 .taken)))) (c .refused2 .ensures)
 
 refused-requires-3 : tie.Need-refused-requires-3
 refused-requires-3 c κs = search needs
@@ -92,7 +111,8 @@ same-length-3 : tie.Need-same-length-3
 same-length-3 c = search needs
 
 returns-3 : tie.Need-returns-3
-returns-3 c = kept-refused (sound-1 (c .before .before .before .before .before)) (stops (left-2 (c .before .before)) (system-stops _ (c .before .if3 .taken))) (c .refused3 .ensures)
+returns-3 c = kept-refused (sound-1 (c .before .before .before .before .before))
+    (stops (left-2 (c .before .before)) (system-stops _ (c .before .if3 .taken))) (c .refused3 .ensures)
 
 is-well-formed-requires : tie.Need-is-well-formed-requires
 is-well-formed-requires c κs = search needs
@@ -105,7 +125,9 @@ same-length-4 c = search needs
 
 returns-4 : tie.Need-returns-4
 returns-4 c =
-    kept-refused (sound-1 (c .before .before .before .before .before .before .before)) (stops (left-3 (c .before .before .before)) (one-malformed _ _ (malformed-stops _ (sym (c .before .before .is-well-formed .ensures) ∙ not-true _ (c .before .if4 .taken)))))
+    kept-refused (sound-1 (c .before .before .before .before .before .before .before))
+    (stops (left-3 (c .before .before .before)) (one-malformed _ _
+    (malformed-stops _ (sym (c .before .before .is-well-formed .ensures) ∙ not-true _ (c .before .if4 .taken)))))
     (c .refused4 .ensures)
 
 is-well-formed-requires-2 : tie.Need-is-well-formed-requires-2
@@ -119,7 +141,9 @@ same-length-5 c = search needs
 
 returns-5 : tie.Need-returns-5
 returns-5 c =
-    kept-refused (sound-1 (c .before .before .before .before .before .before .before .before .before)) (stops (left-3 (c .before .before .before .before .before)) (other-malformed _ _ (malformed-stops _ (sym (c .before .before .is-well-formed2 .ensures) ∙ not-true _ (c .before .if5 .taken)))))
+    kept-refused (sound-1 (c .before .before .before .before .before .before .before .before .before))
+    (stops (left-3 (c .before .before .before .before .before))
+    (other-malformed _ _ (malformed-stops _ (sym (c .before .before .is-well-formed2 .ensures) ∙ not-true _ (c .before .if5 .taken)))))
     (c .refused5 .ensures)
 
 type-in-requires : tie.Need-type-in-requires
@@ -133,7 +157,9 @@ same-length-6 c = search needs
 
 returns-6 : tie.Need-returns-6
 returns-6 c =
-    kept-refused (sound-1 (c .before .before .before .before .before .before .before .before .before .before .before .before)) (stops (left-5 (c .before .before .before .before)) (name-missing _ _ _ (not-borne (c .before .before .type-in .ensures) (c .before .if6 .taken)))) (c .refused6 .ensures)
+    kept-refused (sound-1 (c .before .before .before .before .before .before .before .before .before .before .before .before))
+    (stops (left-5 (c .before .before .before .before)) (name-missing _ _ _
+    (not-borne (c .before .before .type-in .ensures) (c .before .if6 .taken)))) (c .refused6 .ensures)
 
 is-borne-by-another-requires : tie.Need-is-borne-by-another-requires
 is-borne-by-another-requires c κs =
@@ -148,9 +174,11 @@ same-length-7 c = search needs
 
 returns-7 : tie.Need-returns-7
 returns-7 c =
-    let x = c .before .before .before .before .before .before .before .before .before .before .before .before .before .before .before .before .before .before .before .before .before .args in
+    let x = c .before .before .before .before .before .before .before .before .before .before .before .before .before .before .before .before .before
+    .before .before .before .before .args in
     kept-refused (sound-1 (c .before .before .before .before .before .before .before .before .before .before .before .before .before .before .before))
-    (stops (left-6 (c .before .before .before .before)) (ap (λ (y : ℕ). borne-by-another (schema-of (x .base .now)) (x .sds) y (x .new .now)) (sym (type-6 (c .before .before .before .before) .1)) ∙ sym (c .before .before .is-borne-by-another .ensures) ∙ c .before .if7 .taken))
+    (stops (left-6 (c .before .before .before .before)) (ap (λ (y : ℕ). borne-by-another (schema-of (x .base .now)) (x .sds) y (x .new .now))
+    (sym (type-6 (c .before .before .before .before) .1)) ∙ sym (c .before .before .is-borne-by-another .ensures) ∙ c .before .if7 .taken))
     (c .refused7 .ensures)
 
 presence-row-requires : tie.Need-presence-row-requires
@@ -158,19 +186,35 @@ presence-row-requires c κs = sound-long (sound-1 (c .before .before .before .be
 
 take-presence-requires : tie.Need-take-presence-requires
 take-presence-requires c κs =
-    let s = sound-1 (c .before .before .before .before .before .before .before .before .before .before .before .before .before .before .before .before .before) in
-    (sound-stored s, row-there s _ _ (c .before .presence-row .ensures) _ (bears-6 (c .before .before .before .before .before .before)) (type-6 (c .before .before .before .before .before .before) .1))
+    let s = sound-1 (c .before .before .before .before .before .before .before .before .before .before .before .before .before .before .before .before .before) in (
+      sound-stored s,
+      row-there s _ _ (c .before .presence-row .ensures) _ (bears-6 (c .before .before .before .before .before .before))
+          (type-6 (c .before .before .before .before .before .before) .1),
+    )
 
 put-presence-requires : tie.Need-put-presence-requires
 put-presence-requires c κs =
-    let s = sound-1 (c .before .before .before .before .before .before .before .before .before .before .before .before .before .before .before .before .before .before .before .before .before) in
+    let s = sound-1 (c .before .before .before .before .before .before .before .before .before .before .before .before .before .before .before
+    .before .before .before .before .before .before) in
     let out = c .before .before .before .take-presence .ensures in
     let found = c .before .before .before .before .before .presence-row .ensures in
-    let there = row-there s _ _ found _ (bears-6 (c .before .before .before .before .before .before .before .before .before .before)) (type-6 (c .before .before .before .before .before .before .before .before .before .before) .1) in (
+    let there = row-there s _ _ found _ (bears-6 (c .before .before .before .before .before .before .before .before .before .before))
+    (type-6 (c .before .before .before .before .before .before .before .before .before .before) .1) in (
       shows-stored out,
       (
-        (omega (arith, used-below _ (sound-long s) _ (used-2 (c .before .before .before .before .before .before .before .before .before .before .before .before .before .before .before .before .before .before))), omega (arith, type-6 (c .before .before .before .before .before .before .before .before .before .before) .0)),
-        (formed-5 (c .before .before .before .before .before .before .before .before .before .before .before .before .before), (room-then s found there out, name-free s found there out _ (free-7 (c .before .before .before .before .before .before .before)))),
+        (
+          omega (
+            arith,
+            used-below _ (sound-long s) _ (used-2
+                (c .before .before .before .before .before .before .before .before .before .before .before .before .before .before .before .before
+                .before .before)),
+          ),
+          omega (arith, type-6 (c .before .before .before .before .before .before .before .before .before .before) .0),
+        ),
+        (
+          formed-5 (c .before .before .before .before .before .before .before .before .before .before .before .before .before),
+          (room-then s found there out, name-free s found there out _ (free-7 (c .before .before .before .before .before .before .before))),
+        ),
       ),
     )
 
@@ -182,13 +226,18 @@ same-length-8 c = search needs
 
 returns-8 : tie.Need-returns-8
 returns-8 c =
-    let x = c .before .before .before .before .before .before .before .before .before .before .before .before .before .before .before .before .before .before .before .before .before .before .before .before .before .before .before .before .before .before .before .args in
-    let s = sound-1 (c .before .before .before .before .before .before .before .before .before .before .before .before .before .before .before .before .before .before .before .before .before .before .before .before .before) in
+    let x = c .before .before .before .before .before .before .before .before .before .before .before .before .before .before .before .before .before
+    .before .before .before .before .before .before .before .before .before .before .before .before .before .before .args in
+    let s = sound-1 (c .before .before .before .before .before .before .before .before .before .before .before .before .before .before .before
+    .before .before .before .before .before .before .before .before .before .before) in
     let found = c .before .before .before .before .before .before .before .before .before .presence-row .ensures in
-    let there = row-there s _ _ found _ (bears-6 (c .before .before .before .before .before .before .before .before .before .before .before .before .before .before)) (type-6 (c .before .before .before .before .before .before .before .before .before .before .before .before .before .before) .1) in
+    let there = row-there s _ _ found _
+    (bears-6 (c .before .before .before .before .before .before .before .before .before .before .before .before .before .before))
+    (type-6 (c .before .before .before .before .before .before .before .before .before .before .before .before .before .before) .1) in
     kept-done s (ends (left-7 (c .before .before .before .before .before .before .before .before .before .before .before))) (c .done .ensures)
     (put-again s found there (c .before .before .before .before .before .before .before .take-presence .ensures) _ (c .before .before .before .put-presence .ensures)
-    ∙ ap (λ (y : ℕ). picture (renamed (x .sds) y (x .new .now) (schema-of (x .base .now)))) (type-6 (c .before .before .before .before .before .before .before .before .before .before .before .before .before .before) .1))
+    ∙ ap (λ (y : ℕ). picture (renamed (x .sds) y (x .new .now) (schema-of (x .base .now))))
+    (type-6 (c .before .before .before .before .before .before .before .before .before .before .before .before .before .before) .1))
 
 pub rename-spec : {M : Type 1} → statement M
 rename-spec =

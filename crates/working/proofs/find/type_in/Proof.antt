@@ -21,7 +21,8 @@ presence-type-requires c κs =
 
 returns-2 : tie.Need-returns-2
 returns-2 c =
-    named-here (c .before .before .row-named .ensures) (sound-good (c .before .before .before .before .before .before .pre)) (omega (arith, c .before .if1 .left, c .before .before .before .presence-count .ensures .is)) _
+    named-here (c .before .before .row-named .ensures) (sound-good (c .before .before .before .before .before .before .pre))
+    (omega (arith, c .before .if1 .left, c .before .before .before .presence-count .ensures .is)) _
     (c .presence-type .ensures .is)
 
 pub type-in-spec : {M : Type 1} → statement M

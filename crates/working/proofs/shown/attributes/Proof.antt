@@ -17,7 +17,8 @@ use Rattle.working.proofs.shown.attributes.Statement.{statement}
 use Rattle.working.proofs.shown.attributes.Tie as tie
 
 abbrev Inv-loop : tie.InvT-loop
-Inv-loop base sdss types n r₀ i₀ r i = (i ≤ n) × Gathers i (λ j. has sdss (getD base (application-at j) 0) && has types (getD base (application-at j + 1) 0)) (λ j. getD base (application-at j + 2) 0) (has r)
+Inv-loop base sdss types n r₀ i₀ r i = (i ≤ n) × Gathers i (λ j. has sdss (getD base (application-at j) 0) && has types
+    (getD base (application-at j + 1) 0)) (λ j. getD base (application-at j + 2) 0) (has r)
 
 abbrev μ-loop : tie.MeasureT-loop
 μ-loop base sdss types n r₀ i₀ r i = n - i
@@ -35,11 +36,24 @@ is-applied-requires : tie.Need-is-applied-requires Inv-loop μ-loop
 is-applied-requires c κs = (c .before .before .before .before .before .pre, omega (arith, c .before .before .before .application-count .ensures .is, c .loop-test .taken))
 
 application-attribute-requires : tie.Need-application-attribute-requires Inv-loop μ-loop
-application-attribute-requires c κs = (sound-long (c .before .before .before .before .before .before .before .pre), omega (arith, c .before .before .before .before .before .application-count .ensures .fits, c .before .before .loop-test .taken))
+application-attribute-requires c κs = (
+  sound-long (c .before .before .before .before .before .before .before .pre),
+  omega
+      (arith, c .before .before .before .before .before .application-count .ensures .fits, c .before .before .loop-test .taken),
+)
 
 add-requires : tie.Need-add-requires Inv-loop μ-loop
 add-requires c κs =
-    omega (arith, c .application-attribute .ensures .is, application-small (c .before .before .before .before .before .before .before .before .pre) (c .before .before .before .before .loop .i) (omega (arith, c .before .before .before .before .before .before .application-count .ensures .is, c .before .before .before .loop-test .taken)) .1 .1)
+    omega (
+      arith,
+      c .application-attribute .ensures .is,
+      application-small (c .before .before .before .before .before .before .before .before .pre)
+          (c .before .before .before .before .loop .i) (omega (
+            arith,
+            c .before .before .before .before .before .before .application-count .ensures .is,
+            c .before .before .before .loop-test .taken,
+          )) .1 .1,
+    )
 
 add-i : tie.Need-add-i Inv-loop μ-loop
 add-i c = search needs

@@ -26,14 +26,24 @@ returns : tie.Need-returns
 returns c = fails-first _ (c .before .test .ensures ∙ ap (has (c .before .before .before .before .args .sdss)) (c .before .before .application-sds .ensures .is)) (c .if1 .taken)
 
 application-to-requires : tie.Need-application-to-requires
-application-to-requires c κs = (sound-long (c .before .before .before .before .pre .0), omega (arith, few-applications (c .before .before .before .before .args .base .now), c .before .before .before .before .pre .1))
+application-to-requires c κs = (
+  sound-long (c .before .before .before .before .pre .0),
+  omega
+      (arith, few-applications (c .before .before .before .before .args .base .now), c .before .before .before .before .pre .1),
+)
 
 test-requires-2 : tie.Need-test-requires-2
-test-requires-2 c κs = omega (arith, c .application-to .ensures .is, application-small (c .before .before .before .before .before .pre .0) _ (c .before .before .before .before .before .pre .1) .1 .0)
+test-requires-2 c κs = omega (
+  arith,
+  c .application-to .ensures .is,
+  application-small (c .before .before .before .before .before .pre .0) _
+      (c .before .before .before .before .before .pre .1) .1 .0,
+)
 
 returns-2 : tie.Need-returns-2
 returns-2 c =
-    passes-first (c .before .before .before .test .ensures ∙ ap (has (c .before .before .before .before .before .before .args .sdss)) (c .before .before .before .before .application-sds .ensures .is)) (c .before .before .if1 .left)
+    passes-first (c .before .before .before .test .ensures ∙ ap (has (c .before .before .before .before .before .before .args .sdss))
+    (c .before .before .before .before .application-sds .ensures .is)) (c .before .before .if1 .left)
     (c .test2 .ensures ∙ ap (has (c .before .before .before .before .before .before .args .types)) (c .before .application-to .ensures .is))
 
 pub is-applied-spec : {M : Type 1} → statement M

@@ -26,12 +26,19 @@ returns : tie.Need-returns
 returns c = fails-first _ (c .before .test .ensures ∙ ap (has (c .before .before .before .before .args .sdss)) (c .before .before .end-sds .ensures .is)) (c .if1 .taken)
 
 end-side-requires : tie.Need-end-side-requires
-end-side-requires c κs = (sound-long (c .before .before .before .before .pre .0), omega (arith, few-ends (c .before .before .before .before .args .base .now), c .before .before .before .before .pre .1))
+end-side-requires c κs = (
+  sound-long (c .before .before .before .before .pre .0),
+  omega
+      (arith, few-ends (c .before .before .before .before .args .base .now), c .before .before .before .before .pre .1),
+)
 
 returns-2 : tie.Need-returns-2
 returns-2 c =
-    passes-first (c .before .before .test .ensures ∙ ap (has (c .before .before .before .before .before .args .sdss)) (c .before .before .before .end-sds .ensures .is)) (c .before .if1 .left)
-    (ap (λ (x : ℕ). eqb x (c .before .before .before .before .before .args .side)) (c .end-side .ensures .is ∙ side-byte (c .before .before .before .before .before .pre .0) _ (c .before .before .before .before .before .pre .1)))
+    passes-first (c .before .before .test .ensures ∙ ap (has (c .before .before .before .before .before .args .sdss))
+    (c .before .before .before .end-sds .ensures .is)) (c .before .if1 .left)
+    (ap (λ (x : ℕ). eqb x (c .before .before .before .before .before .args .side))
+    (c .end-side .ensures .is ∙ side-byte (c .before .before .before .before .before .pre .0) _
+    (c .before .before .before .before .before .pre .1)))
 
 pub is-end-spec : {M : Type 1} → statement M
 is-end-spec =

@@ -23,13 +23,18 @@ returns : tie.Need-returns
 returns c = fails-first _ (c .before .is-end .ensures) (c .if1 .taken)
 
 end-object-requires : tie.Need-end-object-requires
-end-object-requires c κs = (sound-long (c .before .before .before .pre .0), omega (arith, few-ends (c .before .before .before .args .base .now), c .before .before .before .pre .1))
+end-object-requires c κs = (
+  sound-long (c .before .before .before .pre .0),
+  omega
+      (arith, few-ends (c .before .before .before .args .base .now), c .before .before .before .pre .1),
+)
 
 test-requires : tie.Need-test-requires
 test-requires c κs = omega (arith, c .end-object .ensures .is, end-small (c .before .before .before .before .pre .0) _ (c .before .before .before .before .pre .1) .1 .1)
 
 returns-2 : tie.Need-returns-2
-returns-2 c = passes-first (c .before .before .before .is-end .ensures) (c .before .before .if1 .left) (c .test .ensures ∙ ap (has (c .before .before .before .before .before .args .types)) (c .before .end-object .ensures .is))
+returns-2 c = passes-first (c .before .before .before .is-end .ensures) (c .before .before .if1 .left)
+    (c .test .ensures ∙ ap (has (c .before .before .before .before .before .args .types)) (c .before .end-object .ensures .is))
 
 pub is-end-at-spec : {M : Type 1} → statement M
 is-end-at-spec =

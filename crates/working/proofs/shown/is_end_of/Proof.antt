@@ -26,7 +26,8 @@ end-link-requires : tie.Need-end-link-requires
 end-link-requires c κs = (sound-long (c .before .before .before .pre .0), omega (arith, few-ends (c .before .before .before .args .base .now), c .before .before .before .pre .1))
 
 returns-2 : tie.Need-returns-2
-returns-2 c = passes-first (c .before .before .is-end .ensures) (c .before .if1 .left) (ap (λ (x : ℕ). eqb x (c .before .before .before .before .args .link)) (c .end-link .ensures .is))
+returns-2 c = passes-first (c .before .before .is-end .ensures) (c .before .if1 .left)
+    (ap (λ (x : ℕ). eqb x (c .before .before .before .before .args .link)) (c .end-link .ensures .is))
 
 pub is-end-of-spec : {M : Type 1} → statement M
 is-end-of-spec = tie.close (tie.spec is-end-requires returns end-link-requires returns-2)

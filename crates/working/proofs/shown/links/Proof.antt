@@ -17,7 +17,9 @@ use Rattle.working.proofs.shown.links.Statement.{statement}
 use Rattle.working.proofs.shown.links.Tie as tie
 
 abbrev Inv-loop : tie.InvT-loop
-Inv-loop base sdss side types n r₀ i₀ r i = (i ≤ n) × Gathers i (λ j. (has sdss ((end-shown base j) .sds) && eqb (side-code ((end-shown base j) .side)) side) && has types ((end-shown base j) .object)) (λ j. getD base (end-at j + 1) 0) (has r)
+Inv-loop base sdss side types n r₀ i₀ r i = (i ≤ n) × Gathers i
+    (λ j. (has sdss ((end-shown base j) .sds) && eqb (side-code ((end-shown base j) .side)) side) && has types ((end-shown base j) .object))
+    (λ j. getD base (end-at j + 1) 0) (has r)
 
 abbrev μ-loop : tie.MeasureT-loop
 μ-loop base sdss side types n r₀ i₀ r i = n - i
@@ -35,11 +37,24 @@ is-end-at-requires : tie.Need-is-end-at-requires Inv-loop μ-loop
 is-end-at-requires c κs = (c .before .before .before .before .before .pre, omega (arith, c .before .before .before .end-count .ensures .is, c .loop-test .taken))
 
 end-link-requires : tie.Need-end-link-requires Inv-loop μ-loop
-end-link-requires c κs = (sound-long (c .before .before .before .before .before .before .before .pre), omega (arith, c .before .before .before .before .before .end-count .ensures .fits, c .before .before .loop-test .taken))
+end-link-requires c κs = (
+  sound-long (c .before .before .before .before .before .before .before .pre),
+  omega
+      (arith, c .before .before .before .before .before .end-count .ensures .fits, c .before .before .loop-test .taken),
+)
 
 add-requires : tie.Need-add-requires Inv-loop μ-loop
 add-requires c κs =
-    omega (arith, c .end-link .ensures .is, end-small (c .before .before .before .before .before .before .before .before .pre) (c .before .before .before .before .loop .i) (omega (arith, c .before .before .before .before .before .before .end-count .ensures .is, c .before .before .before .loop-test .taken)) .1 .0)
+    omega (
+      arith,
+      c .end-link .ensures .is,
+      end-small (c .before .before .before .before .before .before .before .before .pre)
+          (c .before .before .before .before .loop .i) (omega (
+            arith,
+            c .before .before .before .before .before .before .end-count .ensures .is,
+            c .before .before .before .loop-test .taken,
+          )) .1 .0,
+    )
 
 add-i : tie.Need-add-i Inv-loop μ-loop
 add-i c = search needs
@@ -64,7 +79,8 @@ returns c =
     let x = c .before .before .before .before .before in
     let l = c .before .loop in
     let end : l .i ≡ end-count (x .args .base .now) = omega (arith, c .before .before .before .end-count .ensures .is) in
-    all-ends (x .args .base .now) (has (l .r)) (λ e. (has (x .args .sdss) (e .sds) && eqb (side-code (e .side)) (x .args .side)) && has (x .args .types) (e .object)) (λ e. e .link) (rw end at (l .inv .1))
+    all-ends (x .args .base .now) (has (l .r)) (λ e. (has (x .args .sdss) (e .sds) && eqb (side-code (e .side)) (x .args .side)) && has
+    (x .args .types) (e .object)) (λ e. e .link) (rw end at (l .inv .1))
 
 pub links-spec : {M : Type 1} → statement M
 links-spec =

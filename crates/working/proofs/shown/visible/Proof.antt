@@ -32,18 +32,41 @@ loop-holds : tie.Need-loop-holds Inv-loop μ-loop
 loop-holds c = (omega arith, gathers-none _ _ _ (c .empty .ensures))
 
 presence-sds-requires : tie.Need-presence-sds-requires Inv-loop μ-loop
-presence-sds-requires c κs = (sound-long (c .before .before .before .before .before .pre), omega (arith, c .before .before .before .presence-count .ensures .fits, c .loop-test .taken))
+presence-sds-requires c κs = (
+  sound-long (c .before .before .before .before .before .pre),
+  omega
+      (arith, c .before .before .before .presence-count .ensures .fits, c .loop-test .taken),
+)
 
 test-requires : tie.Need-test-requires Inv-loop μ-loop
 test-requires c κs =
-    omega (arith, c .presence-sds .ensures .is, presence-small (c .before .before .before .before .before .before .pre) (c .before .before .loop .i) (omega (arith, c .before .before .before .before .presence-count .ensures .is, c .before .loop-test .taken)) .0)
+    omega (
+      arith,
+      c .presence-sds .ensures .is,
+      presence-small (c .before .before .before .before .before .before .pre) (c .before .before .loop .i)
+          (omega (arith, c .before .before .before .before .presence-count .ensures .is, c .before .loop-test .taken)) .0,
+    )
 
 presence-type-requires : tie.Need-presence-type-requires Inv-loop μ-loop
-presence-type-requires c κs = (sound-long (c .before .before .before .before .before .before .before .before .pre), omega (arith, c .before .before .before .before .before .before .presence-count .ensures .fits, c .before .before .before .loop-test .taken))
+presence-type-requires c κs = (
+  sound-long (c .before .before .before .before .before .before .before .before .pre),
+  omega
+      (arith, c .before .before .before .before .before .before .presence-count .ensures .fits, c .before .before .before .loop-test .taken),
+)
 
 add-requires : tie.Need-add-requires Inv-loop μ-loop
 add-requires c κs =
-    omega (arith, c .presence-type .ensures .is, presence-small (c .before .before .before .before .before .before .before .before .before .pre) (c .before .before .before .before .before .loop .i) (omega (arith, c .before .before .before .before .before .before .before .presence-count .ensures .is, c .before .before .before .before .loop-test .taken)) .1)
+    omega (
+      arith,
+      c .presence-type .ensures .is,
+      presence-small (c .before .before .before .before .before .before .before .before .before .pre)
+          (c .before .before .before .before .before .loop .i)
+          (omega (
+            arith,
+            c .before .before .before .before .before .before .before .presence-count .ensures .is,
+            c .before .before .before .before .loop-test .taken,
+          )) .1,
+    )
 
 add-i : tie.Need-add-i Inv-loop μ-loop
 add-i c = search needs
@@ -54,7 +77,8 @@ loop-less c = search needs
 loop-again : tie.Need-loop-again Inv-loop μ-loop
 loop-again c =
     let l = c .before .before .before .before .loop in
-    let test = sym (c .before .test .ensures ∙ ap (has (c .before .before .before .before .before .before .before .before .args .sdss)) (c .before .before .presence-sds .ensures .is)) in (
+    let test = sym (c .before .test .ensures ∙ ap (has (c .before .before .before .before .before .before .before .before .args .sdss))
+    (c .before .before .presence-sds .ensures .is)) in (
       omega arith,
       ⊎-elim
           (λ w. gathers-more _ _ (l .i) (has (l .r)) (l .inv .1) _ (test ∙ w .0 .taken)

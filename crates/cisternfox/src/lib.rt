@@ -19,56 +19,56 @@ pub extern "C" fn cf_base_length() -> usize
 pub extern "C" fn cf_fresh(base: &mut [u8]) -> Answer
     ensures { λ r. ⌜ Freshened (now (base .entry)) r (now (base .exit)) ⌝ }
 {
-    change::fresh(base)
+    sdss::fresh(base)
 }
 
 #[no_mangle]
 pub extern "C" fn cf_new_sds(base: &mut [u8], name: &[u8]) -> Answer
     ensures { λ r. ⌜ Kept (now (base .entry)) (new-sds (now (name .entry))) r (now (base .exit)) ⌝ }
 {
-    change::new_sds(base, name)
+    sdss::new_sds(base, name)
 }
 
 #[no_mangle]
 pub extern "C" fn cf_remove_sds(base: &mut [u8], sds: usize) -> Answer
     ensures { λ r. ⌜ Kept (now (base .entry)) (remove-sds sds) r (now (base .exit)) ⌝ }
 {
-    change::remove_sds(base, sds)
+    sdss::remove_sds(base, sds)
 }
 
 #[no_mangle]
 pub extern "C" fn cf_new_attribute(base: &mut [u8], sds: usize, name: &[u8], value: usize) -> Answer
     ensures { λ r. ⌜ Kept (now (base .entry)) (new-attribute sds (now (name .entry)) value) r (now (base .exit)) ⌝ }
 {
-    change::create::new_attribute(base, sds, name, value)
+    create::new_attribute(base, sds, name, value)
 }
 
 #[no_mangle]
 pub extern "C" fn cf_new_designation(base: &mut [u8], sds: usize, name: &[u8]) -> Answer
     ensures { λ r. ⌜ Kept (now (base .entry)) (new-designation sds (now (name .entry))) r (now (base .exit)) ⌝ }
 {
-    change::create::new_designation(base, sds, name)
+    create::new_designation(base, sds, name)
 }
 
 #[no_mangle]
 pub extern "C" fn cf_apply(base: &mut [u8], sds: usize, attribute: &[u8], to: &[u8]) -> Answer
     ensures { λ r. ⌜ Kept (now (base .entry)) (apply sds (now (attribute .entry)) (now (to .entry))) r (now (base .exit)) ⌝ }
 {
-    change::apply::apply(base, sds, attribute, to)
+    apply::apply(base, sds, attribute, to)
 }
 
 #[no_mangle]
 pub extern "C" fn cf_unapply(base: &mut [u8], sds: usize, attribute: &[u8], to: &[u8]) -> Answer
     ensures { λ r. ⌜ Kept (now (base .entry)) (unapply sds (now (attribute .entry)) (now (to .entry))) r (now (base .exit)) ⌝ }
 {
-    change::apply::unapply(base, sds, attribute, to)
+    apply::unapply(base, sds, attribute, to)
 }
 
 #[no_mangle]
 pub extern "C" fn cf_apply_link(base: &mut [u8], sds: usize, link: &[u8], object: &[u8]) -> Answer
     ensures { λ r. ⌜ Kept (now (base .entry)) (apply-link sds (now (link .entry)) (now (object .entry))) r (now (base .exit)) ⌝ }
 {
-    change::ends::apply_link(base, sds, link, object)
+    ends::apply_link(base, sds, link, object)
 }
 
 #[no_mangle]
@@ -80,14 +80,14 @@ pub extern "C" fn cf_add_destination(
 ) -> Answer
     ensures { λ r. ⌜ Kept (now (base .entry)) (add-destination sds (now (link .entry)) (now (object .entry))) r (now (base .exit)) ⌝ }
 {
-    change::ends::add_destination(base, sds, link, object)
+    ends::add_destination(base, sds, link, object)
 }
 
 #[no_mangle]
 pub extern "C" fn cf_rename(base: &mut [u8], sds: usize, name: &[u8], new: &[u8]) -> Answer
     ensures { λ r. ⌜ Kept (now (base .entry)) (rename sds (now (name .entry)) (now (new .entry))) r (now (base .exit)) ⌝ }
 {
-    change::rename::rename(base, sds, name, new)
+    presences::rename::rename(base, sds, name, new)
 }
 
 #[no_mangle]

@@ -1,4 +1,0 @@
-pub mod Conditions
-pub mod Applying
-pub mod Create
-pub mod Ends

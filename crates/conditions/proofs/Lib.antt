@@ -1,0 +1,4 @@
+pub mod NameLaws
+pub mod TestedLaws
+pub mod ReverseLaws
+pub mod ConditionLaws

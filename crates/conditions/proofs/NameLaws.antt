@@ -1,0 +1,60 @@
+-- The tests of an SDS and of names, one after the other. Assumes nothing.
+use Prim.Native.Nat.{ℕ}
+use native.Mathlib.Omega.{arith}
+use mathlib.Core.Path.{_≡_, refl, ap}
+use mathlib.Core.Bool.{Bool, true, false, not, _||_}
+use borrow.Author.Tests.{eq-eqb, ne-eqb}
+use Rattle.rules.specs.03-Names.{Name, well-formed}
+use Rattle.rules.specs.04-Schema.{Schema, bears}
+use Rattle.rules.specs.09-Refusals.{system-sds, malformed, no-such-name}
+use Rattle.rules.proofs.Bools.{or-left, or-right}
+use Rattle.working.specs.Listed.{Named-in}
+
+pub system-stops : (d : ℕ) → d ≡ 0 → system-sds d ≡ true
+unfolding system-sds
+system-stops d e = eq-eqb d 0 e
+
+pub system-passes : (d : ℕ) → (d ≡ 0 → ⊥) → system-sds d ≡ false
+unfolding system-sds
+system-passes d e = ne-eqb d 0 e
+
+pub formed-passes : (n : Name) → well-formed n ≡ true → malformed n ≡ false
+unfolding malformed
+formed-passes n e = ap not e
+
+pub malformed-stops : (n : Name) → well-formed n ≡ false → malformed n ≡ true
+unfolding malformed
+malformed-stops n e = ap not e
+
+-- a name is borne exactly where a type is found under it
+module _ {s : Schema} {d : ℕ} {n : Name} {r : ℕ} (found : Named-in s d n r) where
+  pub borne : (r ≡ 128 → ⊥) → bears s d n ≡ true
+  borne h = go (bears s d n) refl
+    where
+      go : (x : Bool) → bears s d n ≡ x → x ≡ true
+      go true e = refl
+      go false e = absurd (h (found .none e))
+
+  pub not-borne : r ≡ 128 → bears s d n ≡ false
+  not-borne h = go (bears s d n) refl
+    where
+      go : (x : Bool) → bears s d n ≡ x → x ≡ false
+      go true e = absurd (let (u, q) = found .found e in omega arith)
+      go false e = refl
+
+pub one-malformed : (n m : Name) → malformed n ≡ true → malformed n || malformed m ≡ true
+one-malformed n m e = or-left (malformed n) (malformed m) e
+
+pub other-malformed : (n m : Name) → malformed m ≡ true → malformed n || malformed m ≡ true
+other-malformed n m e = or-right (malformed n) (malformed m) e
+
+pub none-malformed : (n m : Name) → malformed n ≡ false → malformed m ≡ false → malformed n || malformed m ≡ false
+none-malformed n m e f = rw (e, f)
+
+pub name-there : (s : Schema) (d : ℕ) (n : Name) → bears s d n ≡ true → no-such-name s d n ≡ false
+unfolding no-such-name
+name-there s d n e = ap not e
+
+pub name-missing : (s : Schema) (d : ℕ) (n : Name) → bears s d n ≡ false → no-such-name s d n ≡ true
+unfolding no-such-name
+name-missing s d n e = ap not e

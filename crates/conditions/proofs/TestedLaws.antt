@@ -1,0 +1,60 @@
+-- The refusals of a call test by test, and its verdict where they were told at once. Assumes nothing.
+use Prim.Native.Nat.{ℕ}
+use native.Mathlib.Omega.{arith}
+use mathlib.Core.Path.{_≡_, refl, sym, ap, _∙_}
+use mathlib.Core.List.{List, [], _∷_, _++_, append-nil}
+use mathlib.Core.Bool.{Bool, true, false, cond}
+use lib.Dec.{ltb}
+use Rattle.rules.specs.declared.Answer.{Answer}
+use Rattle.rules.specs.01-Lists.{all}
+use Rattle.rules.specs.04-Schema.{Schema}
+use Rattle.rules.specs.07-Picture.{Sound}
+use Rattle.rules.specs.09-Refusals.{Outcome, Refusals, verdict, refusal}
+use Rattle.rules.specs.12-Contracts.{Kept}
+use Rattle.rules.proofs.09-Refusals.{Left, told, told-stops, told-passes}
+use Rattle.base.specs.Back.{schema-of}
+use Rattle.base.proofs.Kept.{kept-spoiled, kept-refused}
+use Rattle.conditions.specs.Tested.{Tested}
+use Rattle.conditions.specs.Tested.Tested.{spoiled, tested}
+
+-- ---- the tests, one after the other
+
+-- the base is sound, and of all the conditions cs are left to tell
+pub record Come (b : List ℕ) (whole cs : Refusals) : Type 0 where
+  pub sound : Sound b
+  pub left : told whole ≡ told cs
+
+pub come-first : {b : List ℕ} {whole : Refusals} → Sound b → Come b whole whole
+come-first s = record { sound = s; left = refl }
+
+module _ {b : List ℕ} {whole : Refusals} where
+  pub come-next : {n : ℕ} {x : Bool} {cs : Refusals} → Come b whole ((n, x) ∷ cs) → x ≡ false → Come b whole cs
+  unfolding told
+  come-next c e = record { sound = c .sound; left = c .left ∙ rw e }
+
+  pub come-stops : {n : ℕ} {x : Bool} {cs : Refusals} {no : ℕ} → Come b whole ((n, x) ∷ cs) → x ≡ true → no ≡ n → Tested b whole no
+  unfolding told
+  come-stops {n} {x} {cs} c e r = tested (c .sound) (r ∙ sym (c .left ∙ here))
+    where
+      here : cond x n (told cs) ≡ n
+      here = rw e
+
+  pub come-through : Come b whole [] → Tested b whole 0
+  unfolding told
+  come-through c = tested (c .sound) (sym (c .left))
+
+-- ---- the verdict of a call that has tested all of its conditions
+
+whole-left : {o effect : Outcome Schema} {cs : Refusals} → Left o cs effect → o ≡ verdict (cs ++ []) effect
+whole-left {o} {effect} {cs} l = l .is ∙ ap (λ (x : Refusals). verdict x effect) (sym (append-nil cs))
+
+module _ {b : List ℕ} {cs : Refusals} {no : ℕ} {effect : Outcome Schema} where
+  pub tested-stops : {rule : Schema → Outcome Schema} {a : Answer} → Tested b cs no → (no ≡ 0 → ⊥) → Left (rule (schema-of b)) cs effect
+      → a ≡ refusal no → Kept b rule a b
+  tested-stops (spoiled n e) z l q = kept-spoiled n (q ∙ ap refusal e)
+  tested-stops (tested s e) z l q = kept-refused s (told-stops effect cs [] (whole-left l) (λ w. z (e ∙ w))) (q ∙ ap refusal e)
+
+  pub tested-passes : {o : Outcome Schema} → Tested b cs no → no ≡ 0 → all (λ c. ltb 0 (c .0)) cs ≡ true → Left o cs effect → o ≡ effect
+  unfolding verdict
+  tested-passes (spoiled n e) z h l = absurd (omega arith)
+  tested-passes (tested s e) z h l = told-passes effect cs [] h (whole-left l) (sym e ∙ z)

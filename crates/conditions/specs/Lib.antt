@@ -1,0 +1,3 @@
+pub mod Tested
+pub mod Reverse
+pub mod Conditions

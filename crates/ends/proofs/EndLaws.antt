@@ -1,0 +1,301 @@
+-- The ends of link types: the refusals that the calls share, test by test, and what they do where none holds. Assumes nothing.
+use Prim.Native.Nat.{ℕ, zero, suc, _+_, _-_, _≤_, _<_}
+use native.Mathlib.Omega.{arith}
+use mathlib.Core.Path.{_≡_, refl, sym, ap, _∙_, subst}
+use mathlib.Core.List.{List, [], _∷_, _++_, map}
+use mathlib.Core.Bool.{Bool, true, false, not, cond, _&&_, _||_, true≢false}
+use lib.Dec.{ltb, eqb}
+use lib.ListN.{length, drop}
+use borrow.Author.Tests.{eqb-true, eq-eqb, ne-eqb, ltb-false}
+use Rattle.rules.specs.declared.Answer.{Answer}
+use Rattle.rules.specs.01-Lists.{any, all, put}
+use Rattle.rules.specs.03-Names.{Name}
+use Rattle.rules.specs.04-Schema.{Schema, Side, End, bears, kind-of, is-link, is-object, reverse, with-reverse, type-named}
+use Rattle.rules.specs.04-Schema.{side-code, other-side, is-end, has-end, end-before}
+use Rattle.rules.specs.04-Schema.Kind.{paired}
+use Rattle.rules.specs.04-Schema.Side.{origin, destination}
+use Rattle.rules.specs.06-Good.{Good}
+use Rattle.rules.specs.07-Picture.{Sound, picture}
+use Rattle.rules.specs.09-Refusals.{Outcome, Refusals, verdict, refusal, no-such-name, no-link, no-object, ends-full}
+use Rattle.rules.specs.09-Refusals.Outcome.{refused, done}
+use Rattle.rules.specs.10-Changes.{with-ends, put-all, both-ends, end-refusals, add-end}
+use Rattle.rules.specs.12-Contracts.{Kept}
+use Rattle.rules.proofs.Bools.{or-left, or-right, or-neither, and-both}
+use Rattle.rules.proofs.01-Lists.{any-where}
+use Rattle.rules.proofs.07-Picture.{read-side}
+use Rattle.rules.proofs.09-Refusals.{Left, told, told-stops, told-passes}
+use Rattle.base.specs.Rows.{type-at, Reads, Counted}
+use Rattle.base.specs.Back.{schema-of, end-count}
+use Rattle.base.specs.Stored.{Shows}
+use Rattle.base.proofs.Back.{sound-good}
+use Rattle.base.proofs.Kept.{kept-refused}
+use Rattle.base.proofs.Shown.{ends-long}
+use Rattle.base.proofs.StoredLaws.{shows-schema}
+use Rattle.base.proofs.KindBytes.{object-byte, link-byte}
+use Rattle.conditions.proofs.ReverseLaws.{one-is, none-is}
+use Rattle.ends.specs.declared.Aim.{Aim}
+use Rattle.ends.specs.Ends.{Through, Aimed}
+use Rattle.conditions.specs.Reverse.{one-or-none, Reverse-of}
+use Rattle.conditions.proofs.NameLaws.{name-there, name-missing}
+
+-- ---- the tests, one after the other
+
+module _ (b : List ℕ) (d : ℕ) (n m : Name) where
+  -- the base is sound, and the conditions cs are left to tell
+  pub record Come (cs : Refusals) : Type 0 where
+    pub sound : Sound b
+    pub left : told (end-refusals d n m (schema-of b)) ≡ told cs
+
+  -- the first k conditions have failed
+  abbrev pub Past : ℕ → Type 0
+  Past k = Come (drop k (end-refusals d n m (schema-of b)))
+
+  pub come-first : Sound b → Past 0
+  come-first s = record { sound = s; left = refl }
+
+module _ {b : List ℕ} {d : ℕ} {n m : Name} where
+  pub come-next : {k : ℕ} {x : Bool} {cs : Refusals} → Come b d n m ((k, x) ∷ cs) → x ≡ false → Come b d n m cs
+  unfolding told
+  come-next c e = record { sound = c .sound; left = c .left ∙ rw e }
+
+  module _ {v : Aim} where
+    pub aim-spoiled : (Sound b → ⊥) → v .no ≡ 1 → Aimed b d n m v
+    aim-spoiled o e = record { spoiled = λ _. e; told = λ s. absurd (o s); through = λ z. absurd (omega arith) }
+
+    pub aim-refused : {k : ℕ} {x : Bool} {cs : Refusals} → Come b d n m ((k, x) ∷ cs) → x ≡ true → 0 < k → v .no ≡ k → Aimed b d n m v
+    unfolding told
+    aim-refused {k} {x} {cs} c e h r = record {
+      spoiled = λ o. absurd (o (c .sound));
+      told = λ s. r ∙ sym (c .left ∙ here);
+      through = λ z. absurd (omega arith);
+    }
+      where
+        here : cond x k (told cs) ≡ k
+        here = rw e
+
+    pub aim-through : Past b d n m 5 → v .no ≡ 0 → Through b d n m v → Aimed b d n m v
+    unfolding told
+    aim-through c e th = record { spoiled = λ o. absurd (o (c .sound)); told = λ s. e ∙ sym (c .left); through = λ z. th }
+
+-- ---- what the tests of the two types say
+
+module _ (s : Schema) (d : ℕ) (n m : Name) where
+  pub both-there : bears s d n ≡ true → bears s d m ≡ true → no-such-name s d n || no-such-name s d m ≡ false
+  both-there e f = rw (name-there s d n e, name-there s d m f)
+
+  pub one-missing : bears s d n ≡ false → no-such-name s d n || no-such-name s d m ≡ true
+  one-missing e = or-left (no-such-name s d n) (no-such-name s d m) (name-missing s d n e)
+
+  pub other-missing : bears s d m ≡ false → no-such-name s d n || no-such-name s d m ≡ true
+  other-missing e = or-right (no-such-name s d n) (no-such-name s d m) (name-missing s d m e)
+
+module _ {b : List ℕ} {t x : ℕ} (h : t < 128) (r : Reads b (type-at t) x) where
+  pub link-is : x ≡ 3 → is-link (kind-of (schema-of b) t) ≡ true
+  link-is e = sym (link-byte b t x h (r .is)) ∙ eq-eqb x 3 e
+
+  link-not : (x ≡ 3 → ⊥) → is-link (kind-of (schema-of b) t) ≡ false
+  link-not e = sym (link-byte b t x h (r .is)) ∙ ne-eqb x 3 e
+
+  object-is : x ≡ 1 → is-object (kind-of (schema-of b) t) ≡ true
+  object-is e = sym (object-byte b t x h (r .is)) ∙ eq-eqb x 1 e
+
+  object-not : (x ≡ 1 → ⊥) → is-object (kind-of (schema-of b) t) ≡ false
+  object-not e = sym (object-byte b t x h (r .is)) ∙ ne-eqb x 1 e
+
+-- l and o are the types that the names stand for
+module _ (b : List ℕ) (d : ℕ) (n m : Name) where
+  pub no-link-there : {l x : ℕ} → l < 128 → l ≡ type-named (schema-of b) d n → Reads b (type-at l) x → (x ≡ 3 → ⊥)
+      → no-link (schema-of b) (type-named (schema-of b) d n) || no-object (schema-of b) (type-named (schema-of b) d m) ≡ true
+  unfolding no-link
+  no-link-there h e r k =
+      or-left (no-link (schema-of b) (type-named (schema-of b) d n)) (no-object (schema-of b) (type-named (schema-of b) d m))
+      (ap (no-link (schema-of b)) (sym e) ∙ ap not (link-not h r k))
+
+  pub no-object-there : {o y : ℕ} → o < 128 → o ≡ type-named (schema-of b) d m → Reads b (type-at o) y → (y ≡ 1 → ⊥)
+      → no-link (schema-of b) (type-named (schema-of b) d n) || no-object (schema-of b) (type-named (schema-of b) d m) ≡ true
+  unfolding no-object
+  no-object-there h e r k =
+      or-right (no-link (schema-of b) (type-named (schema-of b) d n)) (no-object (schema-of b) (type-named (schema-of b) d m))
+      (ap (no-object (schema-of b)) (sym e) ∙ ap not (object-not h r k))
+
+  pub both-kinds : {l o x y : ℕ} → (l < 128) × (l ≡ type-named (schema-of b) d n) → (o < 128) × (o ≡ type-named (schema-of b) d m)
+      → Reads b (type-at l) x → x ≡ 3 → Reads b (type-at o) y → y ≡ 1
+      → no-link (schema-of b) (type-named (schema-of b) d n) || no-object (schema-of b) (type-named (schema-of b) d m) ≡ false
+  unfolding no-link no-object
+  both-kinds (h, e) (k, f) r u q w =
+      neither (ap (no-link (schema-of b)) (sym e) ∙ ap not (link-is h r u)) (ap (no-object (schema-of b)) (sym f) ∙ ap not (object-is k q w))
+    where
+      neither : {p q : Bool} → p ≡ false → q ≡ false → p || q ≡ false
+      neither e f = rw (e, f)
+
+-- ---- the verdict of a call whose refusals begin with these
+
+module _ {b : List ℕ} {d : ℕ} {n m : Name} {v : Aim} (aimed : Aimed b d n m v) where
+  -- rest is what the call tests besides
+  pub aimed-refused : (v .no ≡ 0 → ⊥) → {rule : Schema → Outcome Schema} {effect : Outcome Schema} (rest : Refusals)
+      → Left (rule (schema-of b)) (end-refusals d n m (schema-of b) ++ rest) effect → {a : Answer} → a ≡ refusal (v .no) → Kept b rule a b
+  aimed-refused z {rule} {effect} rest left e = record {
+    spoiled = λ o. (e ∙ ap refusal (aimed .spoiled o), refl);
+    kept = λ s g p.
+        let sound : Sound b = record { schema = s; good = g; shown = p } in
+        kept-refused {rule = rule} sound
+        (told-stops effect (end-refusals d n m (schema-of b)) rest (left .is) (λ q. z (aimed .told sound ∙ q)) ∙ ap refused (sym (aimed .told sound))) e
+        .kept s g p;
+  }
+
+  pub aimed-passes : (z : v .no ≡ 0) {o effect : Outcome Schema} (rest : Refusals) → Left o (end-refusals d n m (schema-of b) ++ rest) effect
+      → Left o rest effect
+  unfolding all
+  aimed-passes z {o} {effect} rest left = record {
+    is = told-passes effect (end-refusals d n m (schema-of b)) rest refl (left .is) (sym (aimed .told (aimed .through z .sound)) ∙ z);
+  }
+
+-- ---- room for the ends of a link type and its reverse
+
+module _ (b : List ℕ) {r k : ℕ} (c : Counted (end-count b) 512 k) where
+  pub full-two : r < 128 → ltb 512 (k + 2) ≡ ends-full (schema-of b) (suc (length (one-or-none r)))
+  unfolding ends-full
+  full-two h =
+      let many : k + 2 ≡ length ((schema-of b) .ends) + 2 = omega (arith, c .is, ends-long b) in
+      ap (ltb 512) many ∙ ap (λ (l : List ℕ). ltb 512 (length ((schema-of b) .ends) + suc (length l))) (sym (one-is h))
+
+  pub full-one : 128 ≤ r → ltb 512 (k + 1) ≡ ends-full (schema-of b) (suc (length (one-or-none r)))
+  unfolding ends-full
+  full-one h =
+      let many : k + 1 ≡ length ((schema-of b) .ends) + 1 = omega (arith, c .is, ends-long b) in
+      ap (ltb 512) many ∙ ap (λ (l : List ℕ). ltb 512 (length ((schema-of b) .ends) + suc (length l))) (sym (none-is h))
+
+-- ---- an end put in
+
+module _ {A : Type 0} (before : A → A → Bool) where
+  longer : (a : A) (rs : List A) → length (put before a rs) ≡ suc (length rs)
+  unfolding put
+  longer a [] = refl
+  longer a (x ∷ rs) = go (before x a) (longer a rs)
+    where
+      go : (t : Bool) → length (put before a rs) ≡ suc (length rs) → length (cond t (x ∷ put before a rs) (a ∷ x ∷ rs)) ≡ suc (suc (length rs))
+      go true ih = ap suc ih
+      go false ih = refl
+
+  none-put : (p : A → Bool) (a : A) (rs : List A) → p a ≡ false → any p rs ≡ false → any p (put before a rs) ≡ false
+  unfolding put any
+  none-put p a [] e f = rw e
+  none-put p a (x ∷ rs) e f = go (before x a) (none-put p a rs e (or-neither (p x) (any p rs) f .1))
+    where
+      go : (t : Bool) → any p (put before a rs) ≡ false → any p (cond t (x ∷ put before a rs) (a ∷ x ∷ rs)) ≡ false
+      go true ih = rw (or-neither (p x) (any p rs) f .0, ih)
+      go false ih = rw e f
+
+turned : (x y : Side) → side-code x ≡ side-code (other-side y) → other-side x ≡ y
+turned origin origin e = absurd (omega arith)
+turned origin destination e = refl
+turned destination origin e = refl
+turned destination destination e = absurd (omega arith)
+
+pub other-is : (x : ℕ) → x < 2 → read-side (1 - x) ≡ other-side (read-side x)
+unfolding read-side
+other-is zero h = refl
+other-is (suc zero) h = refl
+other-is (suc (suc x)) h = absurd (omega arith)
+
+-- where it is no end of a link type, it is none of the reverse
+mirror-free : {s : Schema} → Good s → (d l c r o : ℕ) (side : Side) → kind-of s l ≡ paired c r → has-end s d l side o ≡ false
+    → has-end s d r (other-side side) o ≡ false
+unfolding has-end
+mirror-free {s} good d l c r o side k e = go (has-end s d r (other-side side) o) refl
+  where
+    found : has-end s d r (other-side side) o ≡ true → has-end s d l side o ≡ true
+    found f =
+        let (x, i, q) = any-where (is-end d r (other-side side) o) (s .ends) f in
+        let (p1, q1) = and-both (eqb (x .sds) d) (eqb (x .link) r && (eqb (side-code (x .side)) (side-code (other-side side)) && eqb (x .object) o)) q in
+        let (p2, q2) = and-both (eqb (x .link) r) (eqb (side-code (x .side)) (side-code (other-side side)) && eqb (x .object) o) q1 in
+        let (p3, p4) = and-both (eqb (side-code (x .side)) (side-code (other-side side))) (eqb (x .object) o) q2 in
+        let (c′, back) = good .reverse-in-turn l c r k in
+        let m = good .mirrored x i c′ l (ap (kind-of s) (eqb-true (x .link) r p2) ∙ back) in
+        let same : other-side (x .side) ≡ side = turned (x .side) side (eqb-true (side-code (x .side)) (side-code (other-side side)) p3) in
+        (λ j. has-end s (sym (eqb-true (x .sds) d p1) j) l (sym same j) (sym (eqb-true (x .object) o p4) j)) ∙ m
+
+    go : (t : Bool) → has-end s d r (other-side side) o ≡ t → t ≡ false
+    go true f = absurd (true≢false (sym (found f) ∙ e))
+    go false f = refl
+
+abbrev end-of : ℕ → ℕ → Side → ℕ → End
+end-of d l side o = record { sds = d; link = l; side = side; object = o }
+
+abbrev pub added : Side → ℕ → ℕ → ℕ → Schema → Schema
+added side d l o s = with-ends s (put-all end-before (both-ends d l side o s) (s .ends))
+
+abbrev pub add-rest : Side → ℕ → ℕ → ℕ → Schema → Refusals
+add-rest side d l o s = (9, has-end s d l side o) ∷ (14, ends-full s (length (with-reverse s l))) ∷ []
+
+pub add-left : (side : Side) (d : ℕ) (n m : Name) (s : Schema) → Left (add-end side d n m s)
+    (end-refusals d n m s ++ add-rest side d (type-named s d n) (type-named s d m) s) (done 0 0 0 (added side d (type-named s d n) (type-named s d m) s))
+unfolding add-end
+add-left side d n m s = record { is = refl }
+
+-- the tests that are left, of the types that were found
+pub add-tests : {b : List ℕ} {d : ℕ} {n m : Name} {v : Aim} → Aimed b d n m v → v .no ≡ 0 → (side : Side)
+    → Left (add-end side d n m (schema-of b)) (add-rest side d (v .link) (v .object) (schema-of b))
+    (done 0 0 0 (added side d (v .link) (v .object) (schema-of b)))
+add-tests {b} {d} {n} {m} {v} aimed z side =
+    let th = aimed .through z in
+    let s = schema-of b in
+    let left = aimed-passes aimed z (add-rest side d (type-named s d n) (type-named s d m) s) (add-left side d n m s) in
+    record {
+      is = left .is ∙ (λ i. verdict (add-rest side d (sym (th .link-named) i) (sym (th .object-named) i) s)
+          (done 0 0 0 (added side d (sym (th .link-named) i) (sym (th .object-named) i) s)));
+    }
+
+pub full-is : {s : Schema} {l r : ℕ} → Reverse-of s l r → ends-full s (suc (length (one-or-none r))) ≡ ends-full s (length (with-reverse s l))
+full-is {s} rev = ap (λ (l : List ℕ). ends-full s (suc (length l))) (sym (rev .is))
+
+module _ (b : List ℕ) {l r : ℕ} (rev : Reverse-of (schema-of b) l r) (room : ends-full (schema-of b) (suc (length (one-or-none r))) ≡ false) where
+  pub room-first : length ((schema-of b) .ends) < 512
+  unfolding ends-full
+  room-first = let h = ltb-false 512 (length ((schema-of b) .ends) + suc (length (one-or-none r))) room in omega arith
+
+  room-both : r < 128 → suc (length ((schema-of b) .ends)) < 512
+  unfolding ends-full
+  room-both k = let h = ltb-false 512 (length ((schema-of b) .ends) + suc (length (one-or-none r))) room in omega (arith, ap length (one-is k))
+
+  module _ (d o : ℕ) (side : Side) {b₁ : List ℕ} (out : Shows b₁ (with-ends (schema-of b) (put end-before (end-of d l side o) ((schema-of b) .ends)))) where
+    pub added-one : r ≡ 128 → b₁ ≡ picture (added side d l o (schema-of b))
+    unfolding put-all both-ends
+    added-one e = out .shown ∙ ap (λ (ls : List ℕ). picture (with-ends (schema-of b) (put-all end-before
+        (end-of d l side o ∷ map (λ y. end-of d y (other-side side) o) ls) ((schema-of b) .ends)))) (sym (rev .is ∙ none-is {r = r} (omega arith)))
+
+    module _ (k : r < 128) where
+      pub room-second : length ((schema-of b₁) .ends) < 512
+      room-second =
+          omega (arith, ap (λ (s : Schema). length (s .ends)) (shows-schema out), longer end-before (end-of d l side o) ((schema-of b) .ends), room-both k)
+
+      second-none : Sound b → has-end (schema-of b) d l side o ≡ false → has-end (schema-of b₁) d r (other-side side) o ≡ false
+      unfolding has-end
+      second-none sound e =
+          let (c, pair) = rev .pair k in
+          ap (λ (s : Schema). has-end s d r (other-side side) o) (shows-schema out)
+          ∙ none-put end-before (is-end d r (other-side side) o) (end-of d l side o) ((schema-of b) .ends)
+          (apart (ne-eqb l r (λ q. sound-good sound .reverse-different l c r pair (sym q)))) (mirror-free (sound-good sound) d l c r o side pair e)
+        where
+          apart : eqb l r ≡ false → is-end d r (other-side side) o (end-of d l side o) ≡ false
+          apart q = rw (q, eq-eqb d d refl)
+
+      added-two : {b₂ : List ℕ} → Shows b₂ (with-ends (schema-of b₁) (put end-before (end-of d r (other-side side) o) ((schema-of b₁) .ends)))
+          → b₂ ≡ picture (added side d l o (schema-of b))
+      unfolding put-all both-ends
+      added-two out₂ =
+          out₂ .shown ∙ ap (λ (s : Schema). picture (with-ends s (put end-before (end-of d r (other-side side) o) (s .ends)))) (shows-schema out)
+          ∙ ap (λ (ls : List ℕ). picture (with-ends (schema-of b) (put-all end-before
+          (end-of d l side o ∷ map (λ y. end-of d y (other-side side) o) ls) ((schema-of b) .ends)))) (sym (rev .is ∙ one-is k))
+
+  -- by the numbers of the sides
+  module _ (d o x : ℕ) (small : x < 2) {b₁ : List ℕ}
+      (out : Shows b₁ (with-ends (schema-of b) (put end-before (end-of d l (read-side x) o) ((schema-of b) .ends)))) (k : r < 128) where
+    pub second-free : Sound b → has-end (schema-of b) d l (read-side x) o ≡ false → has-end (schema-of b₁) d r (read-side (1 - x)) o ≡ false
+    second-free sound e = ap (λ (z : Side). has-end (schema-of b₁) d r z o) (other-is x small) ∙ second-none d o (read-side x) out k sound e
+
+    pub added-both : {b₂ : List ℕ} → Shows b₂ (with-ends (schema-of b₁) (put end-before (end-of d r (read-side (1 - x)) o) ((schema-of b₁) .ends)))
+        → b₂ ≡ picture (added (read-side x) d l o (schema-of b))
+    added-both {b₂} out₂ =
+        added-two d o (read-side x) out k
+        (subst (λ (z : Side). Shows b₂ (with-ends (schema-of b₁) (put end-before (end-of d r z o) ((schema-of b₁) .ends)))) (other-is x small) out₂)

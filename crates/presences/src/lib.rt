@@ -1,0 +1,2 @@
+// The presences of types in SDSs: renamed.
+pub mod rename;

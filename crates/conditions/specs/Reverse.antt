@@ -1,4 +1,4 @@
--- The reverse of a link type by its number.
+-- The reverse of a type by its number.
 use Prim.Native.Nat.{ℕ, _≤_, _<_}
 use mathlib.Core.Path.{_≡_}
 use mathlib.Core.List.{List, [], _∷_}

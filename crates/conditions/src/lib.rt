@@ -1,12 +1,11 @@
 // The conditions under which the changing calls refuse, each decided; and the rows and numbers that they then write to.
 use rules::Limits;
 ghost use mathlib.Core.Path.{_≡_};
-ghost use mathlib.Core.Bool.{true};
 ghost use Prim.Native.Nat.{_<_};
 ghost use lib.Dec.{eqb};
 ghost use lib.ListN.{length};
 ghost use Rattle.rules.specs.01-Lists.{any};
-ghost use Rattle.rules.specs.04-Schema.{kind-of, is-link, present, is-parent, is-application, applied, has-end};
+ghost use Rattle.rules.specs.04-Schema.{present, is-parent, is-application, applied, has-end};
 ghost use Rattle.rules.specs.07-Picture.{Sound, base-length};
 ghost use Rattle.rules.specs.09-Refusals.{missing-parent, has-child, in-application, in-end, still-used};
 ghost use Rattle.rules.proofs.07-Picture.{read-side};
@@ -48,16 +47,18 @@ fn is_parent(base: &[u8], t: usize, a: usize) -> bool
     false
 }
 
-// The reverse of link type l, or as many as there are types where it has none.
-pub fn reverse_of(base: &[u8], l: usize) -> usize
-    requires { ⌜ Sound (now base) × (l < 128) ⌝ }
-    requires { ⌜ is-link (kind-of (schema-of (now base)) l) ≡ true ⌝ }
-    ensures { λ r. ⌜ Reverse-of (schema-of (now (base .entry))) l r ⌝ }
+// The reverse of type t, or as many as there are types where it has none.
+pub fn reverse_of(base: &[u8], t: usize) -> usize
+    requires { ⌜ Sound (now base) × (t < 128) ⌝ }
+    ensures { λ r. ⌜ Reverse-of (schema-of (now (base .entry))) t r ⌝ }
 {
-    if base::value(base, l) == 4 {
+    if base::kind(base, t) != 3 {
         return Limits::TYPES;
     }
-    base::reverse(base, l)
+    if base::value(base, t) == 4 {
+        return Limits::TYPES;
+    }
+    base::reverse(base, t)
 }
 
 // ---- presences

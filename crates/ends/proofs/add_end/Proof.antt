@@ -64,7 +64,7 @@ returns-2 c = kept-refused (through-1 (c .before .before .before .before) .sound
     (sym (c .before .before .is-end .ensures) ∙ c .before .if2 .taken)) (c .refused2 .ensures)
 
 reverse-of-requires : tie.Need-reverse-of-requires
-reverse-of-requires c κs = let th = through-1 (c .before .before .before .before) in ((th .sound, th .link-below), th .link-kind)
+reverse-of-requires c κs = let th = through-1 (c .before .before .before .before) in (th .sound, th .link-below)
 
 is-full-requires : tie.Need-is-full-requires
 is-full-requires c κs = sound-long (through-1 (c .before .before .before .before .before .before) .sound)

@@ -3,10 +3,10 @@ use Prim.Native.Nat.{ℕ, zero, suc, _+_, _*_, _≤_, _<_}
 use native.Mathlib.Nat.{mul-le-mul-right}
 use native.Mathlib.Omega.{arith}
 use mathlib.Core.Path.{_≡_, refl, sym, ap, _∙_, subst}
-use mathlib.Core.Logic.{_⊎_, inl, inr, ⊎-elim}
+use mathlib.Core.Logic.{_⊎_, ⊎-elim}
 use mathlib.Core.List.{List, [], _∷_, _++_, append-nil, List·Memᴰ·cases-cons}
 use mathlib.Core.List.List·Memᴰ.{List·Memᴰ·head, List·Memᴰ·tail}
-use mathlib.Core.Bool.{Bool, true, false, not, cond, _&&_, _||_, true≢false, and-false, or-false}
+use mathlib.Core.Bool.{Bool, true, false, not, _&&_, _||_, true≢false, and-false, or-false}
 use lib.Dec.{ltb, eqb}
 use lib.ListN.{length, getD, take, drop, length-append, length-take, length-drop}
 use lib.Seq.{drop-at}
@@ -16,6 +16,7 @@ use Rattle.rules.specs.04-Schema.{Presence, Application, End, presence-before, 
 use Rattle.rules.specs.07-Picture.{pad, presence-row, application-row, end-row, table}
 use Rattle.rules.proofs.Bools.{and-both, and-of}
 use Rattle.rules.proofs.01-Lists.{place-in, before-irreflexive, before-transitive, before-connected, rising-at}
+use Rattle.rules.proofs.Edits.{put-long, put-in, tail-rising, put-rising}
 use Rattle.rules.proofs.03-Names.{pad-before}
 use Rattle.rules.proofs.07-Picture.{length-pad, length-table, wide-presence, wide-application, wide-end}
 use Rattle.base.specs.Rows.{part}
@@ -87,58 +88,12 @@ less-in zero (x ∷ rs) i = List·Memᴰ·tail i
 less-in (suc k) (x ∷ rs) i = ⊎-elim (λ h. List·Memᴰ·head h) (λ h. List·Memᴰ·tail (less-in k rs h)) (List·Memᴰ·cases-cons i)
 
 module _ {A : Type 0} (before : A → A → Bool) where
-  put-long : (a : A) (rs : List A) → length (put before a rs) ≡ suc (length rs)
-  unfolding put
-  put-long a [] = refl
-  put-long a (x ∷ rs) = go (before x a) (put-long a rs)
-    where
-      go : (t : Bool) → length (put before a rs) ≡ suc (length rs) → length (cond t (x ∷ put before a rs) (a ∷ x ∷ rs)) ≡ suc (suc (length rs))
-      go true ih = ap suc ih
-      go false ih = refl
-
-  put-in : (a : A) (rs : List A) {y : A} → y ∈ put before a rs → (y ≡ a) ⊎ (y ∈ rs)
-  unfolding put
-  put-in a [] i = List·Memᴰ·cases-cons i
-  put-in a (x ∷ rs) {y} i = go (before x a) i (λ h. put-in a rs h)
-    where
-      go : (t : Bool) → y ∈ cond t (x ∷ put before a rs) (a ∷ x ∷ rs) → (y ∈ put before a rs → (y ≡ a) ⊎ (y ∈ rs)) → (y ≡ a) ⊎ (y ∈ x ∷ rs)
-      go true i ih =
-          ⊎-elim (λ h. inr (List·Memᴰ·head h)) (λ h. ⊎-elim (λ e. inl e) (λ m. inr (List·Memᴰ·tail m)) (ih h)) (List·Memᴰ·cases-cons i)
-      go false i ih = List·Memᴰ·cases-cons i
-
-  -- x before all of a list that is put into
-  put-behind : (x a : A) (rs : List A) → before x a ≡ true → rising before (x ∷ rs) ≡ true → rising before (put before a rs) ≡ true
-      → rising before (x ∷ put before a rs) ≡ true
-  unfolding put rising
-  put-behind x a [] h r q = and-of (before x a) true h refl
-  put-behind x a (y ∷ rs) h r q = go (before y a) q
-    where
-      go : (t : Bool) → rising before (cond t (y ∷ put before a rs) (a ∷ y ∷ rs)) ≡ true
-          → rising before (x ∷ cond t (y ∷ put before a rs) (a ∷ y ∷ rs)) ≡ true
-      go true q = and-of (before x y) (rising before (y ∷ put before a rs)) (and-both (before x y) (rising before (y ∷ rs)) r .0) q
-      go false q = and-of (before x a) (rising before (a ∷ y ∷ rs)) h q
-
-  tail-rising : (x : A) (rs : List A) → rising before (x ∷ rs) ≡ true → rising before rs ≡ true
-  unfolding rising
-  tail-rising x [] e = refl
-  tail-rising x (y ∷ rs) e = and-both (before x y) (rising before (y ∷ rs)) e .1
-
-  put-rising : (a : A) (rs : List A) → rising before rs ≡ true → ((x : A) → x ∈ rs → before x a ≡ false → before a x ≡ true)
-      → rising before (put before a rs) ≡ true
-  unfolding put rising
-  put-rising a [] r f = refl
-  put-rising a (x ∷ rs) r f = go (before x a) refl (put-rising a rs (tail-rising x rs r) (λ y i. f y (List·Memᴰ·tail i)))
-    where
-      go : (t : Bool) → before x a ≡ t → rising before (put before a rs) ≡ true → rising before (cond t (x ∷ put before a rs) (a ∷ x ∷ rs)) ≡ true
-      go true q ih = put-behind x a rs q r ih
-      go false q ih = and-of (before a x) (rising before (x ∷ rs)) (f x (List·Memᴰ·head refl) q) r
-
   less-rising : (k : ℕ) (rs : List A) → rising before rs ≡ true
       → ((x y z : A) → x ∈ rs → y ∈ rs → z ∈ rs → before x y ≡ true → before y z ≡ true → before x z ≡ true) → rising before (less-row k rs) ≡ true
   unfolding rising
   less-rising zero [] r f = refl
   less-rising (suc k) [] r f = refl
-  less-rising zero (x ∷ rs) r f = tail-rising x rs r
+  less-rising zero (x ∷ rs) r f = tail-rising before x rs r
   less-rising (suc zero) (x ∷ []) r f = refl
   less-rising (suc (suc k)) (x ∷ []) r f = refl
   less-rising (suc zero) (x ∷ y ∷ []) r f = refl

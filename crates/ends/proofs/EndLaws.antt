@@ -8,7 +8,7 @@ use lib.Dec.{ltb, eqb}
 use lib.ListN.{length, drop}
 use borrow.Author.Tests.{eqb-true, eq-eqb, ne-eqb, ltb-false}
 use Rattle.rules.specs.declared.Answer.{Answer}
-use Rattle.rules.specs.01-Lists.{any, all, put}
+use Rattle.rules.specs.01-Lists.{all, put}
 use Rattle.rules.specs.03-Names.{Name}
 use Rattle.rules.specs.04-Schema.{Schema, Side, End, bears, kind-of, is-link, is-object, reverse, with-reverse, type-named}
 use Rattle.rules.specs.04-Schema.{side-code, other-side, is-end, has-end, end-before}
@@ -20,8 +20,9 @@ use Rattle.rules.specs.09-Refusals.{Outcome, Refusals, verdict, refusal, no-suc
 use Rattle.rules.specs.09-Refusals.Outcome.{refused, done}
 use Rattle.rules.specs.10-Changes.{with-ends, put-all, both-ends, end-refusals, add-end}
 use Rattle.rules.specs.12-Contracts.{Kept}
-use Rattle.rules.proofs.Bools.{or-left, or-right, or-neither, and-both}
+use Rattle.rules.proofs.Bools.{or-left, or-right, and-both}
 use Rattle.rules.proofs.01-Lists.{any-where}
+use Rattle.rules.proofs.Edits.{put-long, put-none}
 use Rattle.rules.proofs.07-Picture.{read-side}
 use Rattle.rules.proofs.09-Refusals.{Left, told, told-stops, told-passes}
 use Rattle.base.specs.Rows.{type-at, Reads, Counted}
@@ -167,25 +168,6 @@ module _ (b : List ℕ) {r k : ℕ} (c : Counted (end-count b) 512 k) where
 
 -- ---- an end put in
 
-module _ {A : Type 0} (before : A → A → Bool) where
-  longer : (a : A) (rs : List A) → length (put before a rs) ≡ suc (length rs)
-  unfolding put
-  longer a [] = refl
-  longer a (x ∷ rs) = go (before x a) (longer a rs)
-    where
-      go : (t : Bool) → length (put before a rs) ≡ suc (length rs) → length (cond t (x ∷ put before a rs) (a ∷ x ∷ rs)) ≡ suc (suc (length rs))
-      go true ih = ap suc ih
-      go false ih = refl
-
-  none-put : (p : A → Bool) (a : A) (rs : List A) → p a ≡ false → any p rs ≡ false → any p (put before a rs) ≡ false
-  unfolding put any
-  none-put p a [] e f = rw e
-  none-put p a (x ∷ rs) e f = go (before x a) (none-put p a rs e (or-neither (p x) (any p rs) f .1))
-    where
-      go : (t : Bool) → any p (put before a rs) ≡ false → any p (cond t (x ∷ put before a rs) (a ∷ x ∷ rs)) ≡ false
-      go true ih = rw (or-neither (p x) (any p rs) f .0, ih)
-      go false ih = rw e f
-
 turned : (x y : Side) → side-code x ≡ side-code (other-side y) → other-side x ≡ y
 turned origin origin e = absurd (omega arith)
 turned origin destination e = refl
@@ -267,14 +249,14 @@ module _ (b : List ℕ) {l r : ℕ} (rev : Reverse-of (schema-of b) l r) (room :
     module _ (k : r < 128) where
       pub room-second : length ((schema-of b₁) .ends) < 512
       room-second =
-          omega (arith, ap (λ (s : Schema). length (s .ends)) (shows-schema out), longer end-before (end-of d l side o) ((schema-of b) .ends), room-both k)
+          omega (arith, ap (λ (s : Schema). length (s .ends)) (shows-schema out), put-long end-before (end-of d l side o) ((schema-of b) .ends), room-both k)
 
       second-none : Sound b → has-end (schema-of b) d l side o ≡ false → has-end (schema-of b₁) d r (other-side side) o ≡ false
       unfolding has-end
       second-none sound e =
           let (c, pair) = rev .pair k in
           ap (λ (s : Schema). has-end s d r (other-side side) o) (shows-schema out)
-          ∙ none-put end-before (is-end d r (other-side side) o) (end-of d l side o) ((schema-of b) .ends)
+          ∙ put-none end-before (is-end d r (other-side side) o) (end-of d l side o) ((schema-of b) .ends)
           (apart (ne-eqb l r (λ q. sound-good sound .reverse-different l c r pair (sym q)))) (mirror-free (sound-good sound) d l c r o side pair e)
         where
           apart : eqb l r ≡ false → is-end d r (other-side side) o (end-of d l side o) ≡ false

@@ -2,10 +2,8 @@
 use Prim.Native.Nat.{ℕ, zero, suc, _+_, _<_}
 use native.Mathlib.Omega.{arith}
 use mathlib.Core.Path.{_≡_, refl, sym, ap, _∙_}
-use mathlib.Core.Logic.{⊎-elim}
-use mathlib.Core.List.{List, [], _∷_, List·Memᴰ·not-nil, List·Memᴰ·cases-cons}
-use mathlib.Core.List.List·Memᴰ.{List·Memᴰ·head, List·Memᴰ·tail}
-use mathlib.Core.Bool.{Bool, true, false, not, cond, true≢false, false≢true}
+use mathlib.Core.List.{List, [], _∷_}
+use mathlib.Core.Bool.{Bool, true, false, not, true≢false}
 use lib.Dec.{eqb, ltb}
 use lib.ListN.{length, getD}
 use borrow.Author.Tests.{eqb-true, eq-eqb, ltb-true, ltb-false}
@@ -19,6 +17,7 @@ use Rattle.rules.specs.09-Refusals.Outcome.{done}
 use Rattle.rules.specs.10-Changes.{with-presences, rename, rename-refusals}
 use Rattle.rules.proofs.Bools.{and-both, and-of}
 use Rattle.rules.proofs.01-Lists.{any-at, any-none}
+use Rattle.rules.proofs.Edits.{first-in, without-in}
 use Rattle.rules.proofs.03-Names.{same-name-is}
 use Rattle.rules.proofs.09-Refusals.{Left}
 use Rattle.base.specs.Rows.{presence-at, part}
@@ -33,29 +32,7 @@ use Rattle.working.specs.Listed.{Named-in}
 use Rattle.tables.proofs.OrderLaws.{front, front-once, presences-rise}
 use Rattle.conditions.proofs.NameLaws.{borne, not-borne}
 
--- ---- the first that passes, and what is left when those that pass are gone
-
-module _ {A : Type 0} (p : A → Bool) where
-  first-in : (d : A) (l : List A) → any p l ≡ true → (first p d l ∈ l) × (p (first p d l) ≡ true)
-  unfolding any first
-  first-in d [] e = absurd (false≢true e)
-  first-in d (x ∷ l) e = go (p x) refl e (first-in d l)
-    where
-      go : (b : Bool) → p x ≡ b → any p (x ∷ l) ≡ true
-          → (any p l ≡ true → (first p d l ∈ l) × (p (first p d l) ≡ true))
-          → (cond b x (first p d l) ∈ x ∷ l) × (p (cond b x (first p d l)) ≡ true)
-      go true q e f = (List·Memᴰ·head refl, q)
-      go false q e f = let (i, h) = f (rw q at e) in (List·Memᴰ·tail i, h)
-
-  without-in : (l : List A) {x : A} → x ∈ without p l → (x ∈ l) × (p x ≡ false)
-  unfolding without
-  without-in [] i = absurd (List·Memᴰ·not-nil i)
-  without-in (y ∷ l) {x} i = go (p y) refl i (λ h. without-in l h)
-    where
-      go : (b : Bool) → p y ≡ b → x ∈ cond b (without p l) (y ∷ without p l) → (x ∈ without p l → (x ∈ l) × (p x ≡ false)) → (x ∈ y ∷ l) × (p x ≡ false)
-      go true q i f = let (j, h) = f i in (List·Memᴰ·tail j, h)
-      go false q i f =
-          ⊎-elim (λ e. (List·Memᴰ·head e, ap p e ∙ q)) (λ m. let (j, h) = f m in (List·Memᴰ·tail j, h)) (List·Memᴰ·cases-cons i)
+-- ---- a row less
 
 less-long : {A : Type 0} (k : ℕ) (l : List A) → k < length l → suc (length (less-row k l)) ≡ length l
 less-long k [] h = absurd (omega arith)

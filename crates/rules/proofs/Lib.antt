@@ -1,5 +1,6 @@
 pub mod Bools
 pub mod 01-Lists
+pub mod Edits
 pub mod 03-Names
 pub mod 05-Descent
 pub mod 06-Good

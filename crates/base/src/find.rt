@@ -32,7 +32,7 @@ pub fn is_sds(base: &[u8], d: usize) -> bool
 }
 
 // The name of an SDS, blank where the number is unused.
-fn sds_name(base: &[u8], d: usize) -> &[u8]
+pub fn sds_name(base: &[u8], d: usize) -> &[u8]
     requires { ⌜ (length (now base) ≡ base-length) × (d < 16) ⌝ }
     ensures { λ r. ⌜ now r ≡ sds-name (schema-of (now (base .entry))) d ⌝ }
 {

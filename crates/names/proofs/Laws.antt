@@ -235,7 +235,7 @@ pub left-none : (run : List ℕ) (c : Run) → c .more ≡ false → left run c 
 unfolding left
 left-none run c e = rw e
 
-left-more : (run : List ℕ) (c : Run) → c .more ≡ true → left run c ≡ parted (drop (c .at) run)
+pub left-more : (run : List ℕ) (c : Run) → c .more ≡ true → left run c ≡ parted (drop (c .at) run)
 unfolding left
 left-more run c e = rw e
 

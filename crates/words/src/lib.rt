@@ -1,4 +1,6 @@
 // The lines of the run program: gathered from what is read, and split into words.
+pub mod input;
+
 use names::Run;
 ghost use mathlib.Core.Path.{_≡_};
 ghost use Prim.Native.Nat.{_≤_, _<_};

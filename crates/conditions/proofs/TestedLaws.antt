@@ -39,6 +39,11 @@ module _ {b : List ℕ} {whole : Refusals} where
       here : cond x n (told cs) ≡ n
       here = rw e
 
+  -- a function that is called tests what is left
+  pub come-rest : {cs : Refusals} {no : ℕ} → Come b whole cs → Tested b cs no → Tested b whole no
+  come-rest c (spoiled n e) = spoiled n e
+  come-rest c (tested s e) = tested s (e ∙ sym (c .left))
+
   pub come-through : Come b whole [] → Tested b whole 0
   unfolding told
   come-through c = tested (c .sound) (sym (c .left))

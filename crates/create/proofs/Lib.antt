@@ -1,1 +1,2 @@
 pub mod CreateLaws
+pub mod PairLaws

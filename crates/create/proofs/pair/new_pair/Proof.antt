@@ -54,7 +54,7 @@ write-type-requires-2 c κs =
 put-presence-requires-2 : tie.Need-put-presence-requires-2
 put-presence-requires-2 c κs =
     let p = c .before .before .before .before .before .before .before .before .before .before .before .before .before .before .before .before .before .places-for
-        .ensures in
+    .ensures in
     let z = c .before .before .before .before .before .before .before .before .before .before .before .before .before .before .before .if1 .left in
     let x = p .ready z in
     reverse-ready x (p .two z)
@@ -72,9 +72,9 @@ returns-2 : tie.Need-returns-2
 unfolding all
 returns-2 c =
     let p = c .before .before .before .before .before .before .before .before .before .before .before .before .before .before .before .before .before .before
-        .before .before .before .places-for .ensures in
+    .before .before .before .places-for .ensures in
     let z = c .before .before .before .before .before .before .before .before .before .before .before .before .before .before .before .before .before .before
-        .before .if1 .left in
+    .before .if1 .left in
     let x = p .ready z in
     pair-kept x (p .two z)
     (paired-written (x .categories .0) (c .before .before .before .before .before .before .before .before .before .before .before .before .before .before .before .before .write-type .ensures))

@@ -13,13 +13,16 @@ value-requires : tie.Need-value-requires
 value-requires c κs = (sound-long (c .before .before .before .pre .0), c .before .before .before .pre .1)
 
 returns-2 : tie.Need-returns-2
-returns-2 c = no-reverse (c .before .before .before .before .before .pre .0) (c .before .before .before .before .before .pre .1) (c .before .before .before .kind .ensures) (c .before .before .if1 .left) (c .before .value .ensures) (c .if2 .taken)
+returns-2 c = no-reverse (c .before .before .before .before .before .pre .0) (c .before .before .before .before .before .pre .1)
+    (c .before .before .before .kind .ensures) (c .before .before .if1 .left) (c .before .value .ensures) (c .if2 .taken)
 
 reverse-requires : tie.Need-reverse-requires
 reverse-requires c κs = (sound-long (c .before .before .before .before .before .pre .0), c .before .before .before .before .before .pre .1)
 
 returns-3 : tie.Need-returns-3
-returns-3 c = its-reverse (c .before .before .before .before .before .before .pre .0) (c .before .before .before .before .before .before .pre .1) (c .before .before .before .before .kind .ensures) (c .before .before .before .if1 .left) (c .before .before .value .ensures) (c .before .if2 .left) (c .reverse .ensures)
+returns-3 c = its-reverse (c .before .before .before .before .before .before .pre .0) (c .before .before .before .before .before .before .pre .1)
+    (c .before .before .before .before .kind .ensures) (c .before .before .before .if1 .left) (c .before .before .value .ensures)
+    (c .before .if2 .left) (c .reverse .ensures)
 
 pub reverse-of-spec : {M : Type 1} → statement M
 reverse-of-spec =

@@ -1,1 +1,2 @@
 pub mod RenameLaws
+pub mod RemoveLaws

@@ -43,7 +43,7 @@ less-long (suc k) (x ∷ l) h = ap suc (less-long k l (omega arith))
 
 module _ {s : Schema} (good : Good s) (d : ℕ) (n : Name) where
   -- the type that bears it is there under it
-  bearer : bears s d n ≡ true → (p : Presence) × (p ∈ s .presences) × (p .sds ≡ d) × (same-name (p .name) n ≡ true) × (p .type ≡ type-named s d n)
+  pub bearer : bears s d n ≡ true → (p : Presence) × (p ∈ s .presences) × (p .sds ≡ d) × (same-name (p .name) n ≡ true) × (p .type ≡ type-named s d n)
   unfolding bears type-named
   bearer e =
       let p = first (holds-name d n) (record { sds = 0; name = []; type = 0 }) (s .presences) in

@@ -1,2 +1,3 @@
-// The presences of types in SDSs: renamed.
+// The presences of types in SDSs: renamed, and removed.
 pub mod rename;
+pub mod remove;

@@ -1,0 +1,16 @@
+-- What the removal of a type from an SDS takes out, and what it needs of the schema to do so.
+use Prim.Native.Nat.{ℕ}
+use mathlib.Core.Path.{_≡_}
+use mathlib.Core.Bool.{true}
+use Rattle.rules.specs.01-Lists.{_∈_, without}
+use Rattle.rules.specs.04-Schema.{Schema, Presence, holds-type, present}
+use Rattle.rules.specs.10-Changes.{with-presences}
+
+-- type t is in SDS d by one presence: the base is not sound any more when the second type of a pair is taken out
+pub record Held-once (s : Schema) (d t : ℕ) : Type 0 where
+  pub there : present s d t ≡ true
+  pub once : (p q : Presence) → p ∈ s .presences → q ∈ s .presences → holds-type d t p ≡ true → holds-type d t q ≡ true → p ≡ q
+
+-- the schema less the presence of type t in SDS d
+abbrev pub less-presence : ℕ → ℕ → Schema → Schema
+less-presence d t s = with-presences s (without (holds-type d t) (s .presences))

@@ -6,7 +6,7 @@ use mathlib.Core.List.{List}
 use mathlib.Core.Bool.{true}
 use lib.ListN.{drop}
 use borrow.Author.Tests.{not-true, not-false}
-use Rattle.rules.specs.03-Names.{Name, well-formed}
+use Rattle.rules.specs.03-Names.{Name}
 use Rattle.rules.specs.04-Schema.{bears, type-named}
 use Rattle.rules.specs.07-Picture.{Sound}
 use Rattle.rules.specs.10-Changes.{remove-type, remove-type-refusals}

@@ -1,11 +1,11 @@
 -- A type removed from an SDS, and its reverse with it. Assumes nothing.
 use Prim.Native.Nat.{ℕ, _<_}
 use native.Mathlib.Omega.{arith}
-use mathlib.Core.Path.{_≡_, refl, sym, ap, _∙_, subst}
+use mathlib.Core.Path.{_≡_, refl, sym, ap, _∙_}
 use mathlib.Core.List.{List, [], _∷_}
 use mathlib.Core.Bool.{Bool, true, false, _&&_, _||_, or-false}
 use lib.Dec.{eqb}
-use borrow.Author.Tests.{eqb-true, eq-eqb, ltb-true}
+use borrow.Author.Tests.{eqb-true}
 use Rattle.rules.specs.01-Lists.{_∈_, any, among, without}
 use Rattle.rules.specs.03-Names.{Name}
 use Rattle.rules.specs.04-Schema.{Schema, Presence, with-reverse, holds-type, present, bears, type-named}
@@ -15,23 +15,19 @@ use Rattle.rules.specs.07-Picture.{Sound, picture}
 use Rattle.rules.specs.09-Refusals.{Outcome, still-used}
 use Rattle.rules.specs.09-Refusals.Outcome.{done}
 use Rattle.rules.specs.10-Changes.{with-presences, less-gone, remove-type, remove-type-refusals}
-use Rattle.rules.proofs.Bools.{and-both, and-of}
+use Rattle.rules.proofs.Bools.{and-both}
 use Rattle.rules.proofs.01-Lists.{any-at, any-where}
 use Rattle.rules.proofs.Edits.{without-in, without-keeps, without-same, without-twice}
 use Rattle.rules.proofs.09-Refusals.{Left}
-use Rattle.base.specs.Back.{schema-of, presence-count, presence-shown}
-use Rattle.base.specs.Found.{Presence-row}
-use Rattle.base.specs.Stored.{less-row, Shows, Stored, Becomes}
+use Rattle.base.specs.Back.{schema-of}
+use Rattle.base.specs.Stored.{Shows, Stored, Becomes}
 use Rattle.base.proofs.Back.{sound-good}
-use Rattle.base.proofs.Shown.{presence-there}
 use Rattle.base.proofs.StoredLaws.{shows-next, shows-has}
-use Rattle.base.proofs.TakenLaws.{presence-without}
-use Rattle.base.proofs.Walked.{first-presence, presence-first}
 use Rattle.conditions.specs.Reverse.{one-or-none, Reverse-of}
 use Rattle.conditions.proofs.ConditionLaws.{or-first, or-next}
 use Rattle.conditions.proofs.ReverseLaws.{one-is, none-is}
 use Rattle.presences.specs.Remove.{Held-once, less-presence}
-use Rattle.presences.proofs.RenameLaws.{bearer}
+use Rattle.presences.proofs.HeldLaws.{held, held-named}
 
 -- ---- a test of a type and of its reverse, if it has one
 
@@ -48,32 +44,16 @@ module _ (p : ℕ → Bool) (t r : ℕ) {x : Bool} (e : x ≡ p t) where
   unfolding any
   either-last f h {y} g = or-next e f (g ∙ sym (or-false (p r)) ∙ sym (ap (any p) (one-is h)))
 
--- ---- a type that is in an SDS by one presence
+-- ---- the reverse
 
 module _ {s : Schema} (good : Good s) where
-  held : (d t : ℕ) → present s d t ≡ true → Held-once s d t
-  held d t e = record {
-    there = e;
-    once = λ p q i j f g.
-        let (x, y) = and-both (eqb (p .sds) d) (eqb (p .type) t) f in
-        let (z, w) = and-both (eqb (q .sds) d) (eqb (q .type) t) g in
-        good .one-presence p q i j (eqb-true (p .sds) d x ∙ sym (eqb-true (q .sds) d z)) (eqb-true (p .type) t y ∙ sym (eqb-true (q .type) t w));
-  }
-
-  -- it bears a name there
-  held-named : {d t : ℕ} (n : Name) → bears s d n ≡ true → t ≡ type-named s d n → Held-once s d t
-  unfolding present
-  held-named {d} {t} n e q =
-      let (p, i, at, same, type) = bearer good d n e in
-      held d t (any-at (holds-type d t) i (and-of (eqb (p .sds) d) (eqb (p .type) t) (eq-eqb (p .sds) d at) (eq-eqb (p .type) t (type ∙ sym q))))
-
   -- its reverse is there too, and still is when it is gone itself
   held-reverse : {d t r : ℕ} → Held-once s d t → Reverse-of s t r → r < 128 → Held-once (less-presence d t s) d r
   unfolding present
   held-reverse {d} {t} {r} once rev h = record { there = still; once = λ p q i j. both .once p q (was i) (was j) }
     where
       both : Held-once s d r
-      both = let (c, pair) = rev .pair h in held d r (good .reverse-present d t c r (once .there) pair)
+      both = let (c, pair) = rev .pair h in held good d r (good .reverse-present d t c r (once .there) pair)
 
       was : {p : Presence} → p ∈ without (holds-type d t) (s .presences) → p ∈ s .presences
       was i = without-in (holds-type d t) (s .presences) i .0
@@ -90,20 +70,6 @@ module _ {s : Schema} (good : Good s) where
       still =
           let (p, i, e) = any-where (holds-type d r) (s .presences) (both .there) in
           any-at (holds-type d r) (without-keeps (holds-type d t) (s .presences) i (other p e (holds-type d t p) refl)) e
-
--- ---- its row, taken out
-
-module _ {b : List ℕ} {d t r : ℕ} (once : Held-once (schema-of b) d t) (found : Presence-row b (presence-count b) d t r) where
-  pub row-below : r < presence-count b
-  unfolding present
-  row-below = ltb-true r (presence-count b) (first-presence b (holds-type d t) (presence-first b d t found) ∙ once .there)
-
-  pub row-taken : Stored b → {b₁ : List ℕ} → Shows b₁ (with-presences (schema-of b) (less-row r ((schema-of b) .presences)))
-      → Shows b₁ (less-presence d t (schema-of b))
-  row-taken x {b₁} out =
-      let is = presence-first b d t found .found row-below in
-      subst (λ (ps : List Presence). Shows b₁ (with-presences (schema-of b) ps))
-      (sym (presence-without x r row-below (holds-type d t) is (λ p m e. once .once p (presence-shown b r) m (presence-there b r row-below) e is))) out
 
 -- ---- a type that is in no SDS any more
 

@@ -1,6 +1,6 @@
 use borrow.Author.Needs.{needs}
 use Rattle.base.proofs.StoredLaws.{stored-long}
-use Rattle.presences.proofs.RemoveLaws.{row-below, row-taken}
+use Rattle.presences.proofs.HeldLaws.{row-below, row-taken}
 use Rattle.presences.proofs.remove.take_out.Statement.{statement}
 use Rattle.presences.proofs.remove.take_out.Tie as tie
 
@@ -14,7 +14,8 @@ same-length : tie.Need-same-length
 same-length c = search needs
 
 returns : tie.Need-returns
-returns c = row-taken (c .before .before .before .before .before .before .before .pre .1) (c .before .before .before .before .presence-row .ensures) (c .before .before .before .before .before .before .before .pre .0) (c .before .before .take-presence .ensures)
+returns c = row-taken (c .before .before .before .before .before .before .before .pre .1) (c .before .before .before .before .presence-row .ensures) (c .before
+    .before .before .before .before .before .before .pre .0) (c .before .before .take-presence .ensures)
 
 pub take-out-spec : {M : Type 1} → statement M
 take-out-spec =

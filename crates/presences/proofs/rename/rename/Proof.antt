@@ -188,7 +188,7 @@ take-presence-requires : tie.Need-take-presence-requires
 take-presence-requires c κs =
     let s = sound-1 (c .before .before .before .before .before .before .before .before .before .before .before .before .before .before .before .before .before) in (
       sound-stored s,
-      row-there s _ _ (c .before .presence-row .ensures) _ (bears-6 (c .before .before .before .before .before .before))
+      row-there s (c .before .presence-row .ensures) _ (bears-6 (c .before .before .before .before .before .before))
           (type-6 (c .before .before .before .before .before .before) .1),
     )
 
@@ -198,7 +198,7 @@ put-presence-requires c κs =
     .before .before .before .before .before .before) in
     let out = c .before .before .before .take-presence .ensures in
     let found = c .before .before .before .before .before .presence-row .ensures in
-    let there = row-there s _ _ found _ (bears-6 (c .before .before .before .before .before .before .before .before .before .before))
+    let there = row-there s found _ (bears-6 (c .before .before .before .before .before .before .before .before .before .before))
     (type-6 (c .before .before .before .before .before .before .before .before .before .before) .1) in (
       shows-stored out,
       (
@@ -231,7 +231,7 @@ returns-8 c =
     let s = sound-1 (c .before .before .before .before .before .before .before .before .before .before .before .before .before .before .before
     .before .before .before .before .before .before .before .before .before .before) in
     let found = c .before .before .before .before .before .before .before .before .before .presence-row .ensures in
-    let there = row-there s _ _ found _
+    let there = row-there s found _
     (bears-6 (c .before .before .before .before .before .before .before .before .before .before .before .before .before .before))
     (type-6 (c .before .before .before .before .before .before .before .before .before .before .before .before .before .before) .1) in
     kept-done s (ends (left-7 (c .before .before .before .before .before .before .before .before .before .before .before))) (c .done .ensures)

@@ -1,3 +1,3 @@
 // The presences of types in SDSs: renamed, and removed.
-pub mod rename;
 pub mod remove;
+pub mod rename;

@@ -15,15 +15,17 @@ slice-aggregate-write-type : tie.Need-slice-aggregate-write-type
 slice-aggregate-write-type c = search needs
 
 write-type-requires : tie.Need-write-type-requires
-write-type-requires c κs = (c .before .before .before .before .before .before .pre .0, (c .before .before .before .before .before .before .pre .1, ((omega
-    arith, (omega arith, omega arith)), omega arith)))
+write-type-requires c κs =
+    let (stored, below) = c .before .before .before .before .before .before .pre in
+    (stored, (below, ((omega arith, (omega arith, omega arith)), omega arith)))
 
 same-length : tie.Need-same-length
 same-length c = search needs
 
 returns : tie.Need-returns
-returns c = gone _ _ (sym (c .before .before .before .before .before .before .is-elsewhere .ensures) ∙ not-true _ (c .before .before .before .before .before
-    .if1 .taken)) (unused-written (c .before .before .write-type .ensures))
+returns c =
+    gone _ _ (sym (c .before .before .before .before .before .before .is-elsewhere .ensures) ∙ not-true _ (c .before .before .before .before .before .if1 .taken))
+    (unused-written (c .before .before .write-type .ensures))
 
 same-length-2 : tie.Need-same-length-2
 same-length-2 c = search needs

@@ -48,15 +48,14 @@ type-5 : (c : tie.Else5) → let x = c .before .before .before .before .before .
     (c .before .type-in .result < 128) × (c .before .type-in .result ≡ type-named (schema-of (x .base .now)) (x .sds) (x .name .now))
 type-5 c = c .before .type-in .ensures .found (bears-5 c)
 
-through-6 : (c : tie.Else6) → let x = c .before .before .before .before .before .before .before .before .before .before .before .before .before .before .before
-    .before .before .before .before .args in Through (x .base .now) (x .sds) (x .name .now) (c .before .before .before .before .before .before .type-in
-    .result) (c .before .before .before .reverse-of .result)
+through-6 : (c : tie.Else6) → let x =
+    c .before .before .before .before .before .before .before .before .before .before .before .before .before .before .before .before .before .before .before .args in
+    Through (x .base .now) (x .sds) (x .name .now) (c .before .before .before .before .before .before .type-in .result) (c .before .before .before .reverse-of .result)
 through-6 c =
     let rev = c .before .before .before .reverse-of .ensures in
-    goes-through (sound-1 (c .before .before .before .before .before .before .before .before .before .before .before .before .before .before)) (bears-5 (c
-        .before .before .before .before .before)) (type-5 (c .before .before .before .before .before)) rev
-    (ends (passes (left-5 (c .before .before .before .before .before)) (used-is _ _ _ (type-5 (c .before .before .before .before .before) .1) rev (c .before
-        .is-either-used .ensures) ∙ c .if6 .left)))
+    let past = c .before .before .before .before .before in
+    goes-through (sound-1 (c .before .before .before .before .before .before .before .before .before .before .before .before .before .before)) (bears-5 past) (type-5 past) rev
+    (ends (passes (left-5 past) (used-is _ _ _ (type-5 past .1) rev (c .before .is-either-used .ensures) ∙ c .if6 .left)))
 
 is-sound-requires : tie.Need-is-sound-requires
 is-sound-requires c κs = search needs
@@ -132,9 +131,11 @@ same-length-6 : tie.Need-same-length-6
 same-length-6 c = search needs
 
 returns-6 : tie.Need-returns-6
-returns-6 c = kept-refused (sound-1 (c .before .before .before .before .before .before .before .before .before .before .before .before .before .before .before))
-    (stops (left-5 (c .before .before .before .before .before .before)) (used-is _ _ _ (type-5 (c .before .before .before .before .before .before) .1) (c
-        .before .before .before .before .reverse-of .ensures) (c .before .before .is-either-used .ensures) ∙ c .before .if6 .taken))
+returns-6 c =
+    let past = c .before .before .before .before .before .before in
+    kept-refused (sound-1 (c .before .before .before .before .before .before .before .before .before .before .before .before .before .before .before))
+    (stops (left-5 past)
+    (used-is _ _ _ (type-5 past .1) (c .before .before .before .before .reverse-of .ensures) (c .before .before .is-either-used .ensures) ∙ c .before .if6 .taken))
     (c .refused6 .ensures)
 
 take-out-requires : tie.Need-take-out-requires
@@ -153,8 +154,8 @@ returns-7 : tie.Need-returns-7
 returns-7 c =
     let th = through-6 (c .before .before .before .before .before .before .before .before .before .before) in
     kept-done (th .sound) (th .rule) (c .done .ensures)
-    (removed-one _ _ (th .pair) (c .before .before .before .before .before .before .before .before .take-out .ensures) (c .before .before .before .before
-        .before .if7 .taken) (c .before .before .before .drop-if-gone .ensures))
+    (removed-one _ _ (th .pair) (c .before .before .before .before .before .before .before .before .take-out .ensures)
+    (c .before .before .before .before .before .if7 .taken) (c .before .before .before .drop-if-gone .ensures))
 
 take-out-requires-2 : tie.Need-take-out-requires-2
 take-out-requires-2 c κs =
@@ -166,9 +167,9 @@ drop-if-gone-requires-2 : tie.Need-drop-if-gone-requires-2
 drop-if-gone-requires-2 c κs = (shows-stored (c .before .before .before .take-out2 .ensures), through-6 (c .before .before .before .before .before .before .before .before .before .before) .below)
 
 drop-if-gone-requires-3 : tie.Need-drop-if-gone-requires-3
-drop-if-gone-requires-3 c κs = (shows-stored (c .before .before .before .drop-if-gone2 .ensures), omega (arith, through-6 (c .before .before .before .before
-    .before .before .before .before .before .before .before .before .before .before) .pair .fits, c .before .before .before .before .before .before .before
-    .before .before .if7 .left))
+drop-if-gone-requires-3 c κs =
+    let th = through-6 (c .before .before .before .before .before .before .before .before .before .before .before .before .before .before) in
+    (shows-stored (c .before .before .before .drop-if-gone2 .ensures), omega (arith, th .pair .fits, c .before .before .before .before .before .before .before .before .before .if7 .left))
 
 done-requires-2 : tie.Need-done-requires-2
 done-requires-2 c κs = search needs
@@ -179,10 +180,11 @@ same-length-8 c = search needs
 returns-8 : tie.Need-returns-8
 returns-8 c =
     let th = through-6 (c .before .before .before .before .before .before .before .before .before .before .before .before .before .before .before .before .before .before) in
+    let out = c .before .before .before .before .before .before .before .before .before .before .before .before .before .before .before .before .take-out .ensures in
     kept-done (th .sound) (th .rule) (c .done2 .ensures)
-    (removed-two _ _ (th .pair) (c .before .before .before .before .before .before .before .before .before .before .before .before .before .before .before
-        .before .take-out .ensures) (omega (arith, th .pair .fits, c .before .before .before .before .before .before .before .before .before .before .before
-        .before .before .if7 .left)) (c .before .before .before .before .before .before .before .before .before .before .before .take-out2 .ensures)
+    (removed-two _ _ (th .pair) out
+    (omega (arith, th .pair .fits, c .before .before .before .before .before .before .before .before .before .before .before .before .before .if7 .left))
+    (c .before .before .before .before .before .before .before .before .before .before .before .take-out2 .ensures)
     (c .before .before .before .before .before .before .before .drop-if-gone2 .ensures) (c .before .before .before .drop-if-gone3 .ensures))
 
 pub remove-type-spec : {M : Type 1} → statement M

@@ -8,14 +8,17 @@ presence-row-requires : tie.Need-presence-row-requires
 presence-row-requires c κs = stored-long (c .before .before .pre .0)
 
 take-presence-requires : tie.Need-take-presence-requires
-take-presence-requires c κs = (c .before .before .before .before .pre .0, row-below (c .before .before .before .before .pre .1) (c .before .presence-row .ensures))
+take-presence-requires c κs =
+    let (stored, once) = c .before .before .before .before .pre in
+    (stored, row-below once (c .before .presence-row .ensures))
 
 same-length : tie.Need-same-length
 same-length c = search needs
 
 returns : tie.Need-returns
-returns c = row-taken (c .before .before .before .before .before .before .before .pre .1) (c .before .before .before .before .presence-row .ensures) (c .before
-    .before .before .before .before .before .before .pre .0) (c .before .before .take-presence .ensures)
+returns c =
+    let (stored, once) = c .before .before .before .before .before .before .before .pre in
+    row-taken once (c .before .before .before .before .presence-row .ensures) stored (c .before .before .take-presence .ensures)
 
 pub take-out-spec : {M : Type 1} → statement M
 take-out-spec =

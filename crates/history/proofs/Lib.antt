@@ -1,0 +1,4 @@
+pub mod Carried
+pub mod Orders
+pub mod Parts
+pub mod Applications

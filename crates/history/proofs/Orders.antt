@@ -1,0 +1,181 @@
+-- The orders in which rows are kept are strict and total, so a rising list stays one when a new row is put in or some are taken out.
+-- Assumes nothing.
+use Prim.Native.Nat.{ℕ, _<_}
+use native.Mathlib.Omega.{arith}
+use mathlib.Core.Path.{_≡_, refl, sym, ap, _∙_}
+use mathlib.Core.Logic.{⊎-elim}
+use mathlib.Core.List.{List, [], _∷_, List·Memᴰ·not-nil, List·Memᴰ·cases-cons}
+use mathlib.Core.List.List·Memᴰ.{List·Memᴰ·head}
+use mathlib.Core.Bool.{Bool, true, false, not, cond, _&&_, _||_, false≢true}
+use lib.Dec.{ltb, eqb}
+use borrow.Author.Tests.{ltb-true, ltb-false, lt-ltb, eqb-true, eq-eqb}
+use Rattle.rules.specs.01-Lists.{_∈_, rising, without, put}
+use Rattle.rules.specs.03-Names.{Name, name-before}
+use Rattle.rules.specs.04-Schema.{Side, side-code, presence-before, application-before, end-before}
+use Rattle.rules.specs.04-Schema.Side.{origin, destination}
+use Rattle.rules.proofs.Bools.{or-cases, or-left, or-right, or-neither, and-both, and-of}
+use Rattle.rules.proofs.03-Names.{same-name-is, name-transitive, name-connected}
+use Rattle.rules.proofs.Edits.{tail-rising, put-rising, without-in}
+
+pub record Order {A : Type 0} (before : A → A → Bool) : Type 0 where
+  pub connected : (x y : A) → before x y ≡ false → before y x ≡ false → x ≡ y
+  pub transitive : (x y z : A) → before x y ≡ true → before y z ≡ true → before x z ≡ true
+
+pub number-order : Order ltb
+number-order = record {
+  connected = λ x y p q. omega (arith, ltb-false x y p, ltb-false y x q);
+  transitive = λ x y z p q. lt-ltb x z (omega (arith, ltb-true x y p, ltb-true y z q));
+}
+
+-- ---- by a number first, and then by the rest
+
+abbrev by : ℕ → ℕ → Bool → Bool
+by x y rest = ltb x y || (eqb x y && rest)
+
+by-connected : (x y : ℕ) (r q : Bool) → by x y r ≡ false → by y x q ≡ false → (x ≡ y) × (r ≡ false) × (q ≡ false)
+by-connected x y r q e f =
+    let (a, b) = or-neither (ltb x y) (eqb x y && r) e in
+    let (c, d) = or-neither (ltb y x) (eqb y x && q) f in
+    let same : x ≡ y = omega (arith, ltb-false x y a, ltb-false y x c) in
+    (same, rw (eq-eqb x y same) at b, rw (eq-eqb y x (sym same)) at d)
+
+by-transitive : (x y z : ℕ) (r q p : Bool) → by x y r ≡ true → by y z q ≡ true → (r ≡ true → q ≡ true → p ≡ true) → by x z p ≡ true
+by-transitive x y z r q p e f g =
+    ⊎-elim
+    (λ a. ⊎-elim
+    (λ b. first (omega (arith, ltb-true x y a, ltb-true y z b)))
+    (λ b. first (omega (arith, ltb-true x y a, eqb-true y z (and-both (eqb y z) q b .0))))
+    (or-cases (ltb y z) (eqb y z && q) f))
+    (λ a. let (same, rest) = and-both (eqb x y) r a in
+    ⊎-elim
+    (λ b. first (omega (arith, eqb-true x y same, ltb-true y z b)))
+    (λ b. let (same′, rest′) = and-both (eqb y z) q b in
+    or-right (ltb x z) (eqb x z && p) (and-of (eqb x z) p (eq-eqb x z (eqb-true x y same ∙ eqb-true y z same′)) (g rest rest′)))
+    (or-cases (ltb y z) (eqb y z && q) f))
+    (or-cases (ltb x y) (eqb x y && r) e)
+  where
+    first : x < z → by x z p ≡ true
+    first h = or-left (ltb x z) (eqb x z && p) (lt-ltb x z h)
+
+-- ---- the three tables
+
+pub application-order : Order application-before
+unfolding application-before
+application-order = record {
+  connected = λ x y p q.
+      let (a, p1, q1) = by-connected (x .sds) (y .sds) _ _ p q in
+      let (b, p2, q2) = by-connected (x .to) (y .to) _ _ p1 q1 in
+      λ i. record { sds = a i; to = b i; attribute = number-order .connected (x .attribute) (y .attribute) p2 q2 i };
+  transitive = λ x y z p q.
+      by-transitive (x .sds) (y .sds) (z .sds) _ _ _ p q (λ p1 q1.
+      by-transitive (x .to) (y .to) (z .to) _ _ _ p1 q1 (λ p2 q2.
+      number-order .transitive (x .attribute) (y .attribute) (z .attribute) p2 q2));
+}
+
+side-is : (x y : Side) → side-code x ≡ side-code y → x ≡ y
+side-is origin origin e = refl
+side-is origin destination e = absurd (omega arith)
+side-is destination origin e = absurd (omega arith)
+side-is destination destination e = refl
+
+pub end-order : Order end-before
+unfolding end-before
+end-order = record {
+  connected = λ x y p q.
+      let (a, p1, q1) = by-connected (x .sds) (y .sds) _ _ p q in
+      let (b, p2, q2) = by-connected (x .link) (y .link) _ _ p1 q1 in
+      let (c, p3, q3) = by-connected (side-code (x .side)) (side-code (y .side)) _ _ p2 q2 in
+      λ i. record {
+        sds = a i;
+        link = b i;
+        side = side-is (x .side) (y .side) c i;
+        object = number-order .connected (x .object) (y .object) p3 q3 i;
+      };
+  transitive = λ x y z p q.
+      by-transitive (x .sds) (y .sds) (z .sds) _ _ _ p q (λ p1 q1.
+      by-transitive (x .link) (y .link) (z .link) _ _ _ p1 q1 (λ p2 q2.
+      by-transitive (side-code (x .side)) (side-code (y .side)) (side-code (z .side)) _ _ _ p2 q2 (λ p3 q3.
+      number-order .transitive (x .object) (y .object) (z .object) p3 q3)));
+}
+
+flip : (x : Bool) → not x ≡ true → x ≡ false
+flip true h = absurd (false≢true h)
+flip false h = refl
+
+-- by a name first, and then by a number
+abbrev named : Name → Name → ℕ → ℕ → Bool
+named n m t u = name-before n m || (not (name-before m n) && ltb t u)
+
+named-connected : (n m : Name) (t u : ℕ) → named n m t u ≡ false → named m n u t ≡ false → (n ≡ m) × (t ≡ u)
+named-connected n m t u e f =
+    let (a, b) = or-neither (name-before n m) (not (name-before m n) && ltb t u) e in
+    let (c, d) = or-neither (name-before m n) (not (name-before n m) && ltb u t) f in
+    let b′ : ltb t u ≡ false = rw c at b in
+    let d′ : ltb u t ≡ false = rw a at d in
+    (same-name-is n m (name-connected n m a c), omega (arith, ltb-false t u b′, ltb-false u t d′))
+
+named-transitive : (n m o : Name) (t u v : ℕ) → named n m t u ≡ true → named m o u v ≡ true → named n o t v ≡ true
+named-transitive n m o t u v e f = go (name-before n m) refl (name-before m o) refl e f
+  where
+    -- where neither is before the other the names are one
+    go : (a : Bool) → name-before n m ≡ a → (b : Bool) → name-before m o ≡ b → a || (not (name-before m n) && ltb t u) ≡ true
+        → b || (not (name-before o m) && ltb u v) ≡ true → named n o t v ≡ true
+    go true p true q e f = or-left (name-before n o) (not (name-before o n) && ltb t v) (name-transitive n m o p q)
+    go true p false q e f =
+        let (x, y) = and-both (not (name-before o m)) (ltb u v) f in
+        let same : m ≡ o = same-name-is m o (name-connected m o q (flip (name-before o m) x)) in
+        or-left (name-before n o) (not (name-before o n) && ltb t v) (ap (name-before n) (sym same) ∙ p)
+    go false p true q e f =
+        let (x, y) = and-both (not (name-before m n)) (ltb t u) e in
+        let same : n ≡ m = same-name-is n m (name-connected n m p (flip (name-before m n) x)) in
+        or-left (name-before n o) (not (name-before o n) && ltb t v) (ap (λ (k : Name). name-before k o) same ∙ q)
+    go false p false q e f =
+        let (x, y) = and-both (not (name-before m n)) (ltb t u) e in
+        let (z, w) = and-both (not (name-before o m)) (ltb u v) f in
+        let same : n ≡ m = same-name-is n m (name-connected n m p (flip (name-before m n) x)) in
+        or-right (name-before n o) (not (name-before o n) && ltb t v)
+        (and-of (not (name-before o n)) (ltb t v) (ap (λ (k : Name). not (name-before o k)) same ∙ z)
+        (number-order .transitive t u v y w))
+
+pub presence-order : Order presence-before
+unfolding presence-before
+presence-order = record {
+  connected = λ x y p q.
+      let (a, p1, q1) = by-connected (x .sds) (y .sds) _ _ p q in
+      let (b, c) = named-connected (x .name) (y .name) (x .type) (y .type) p1 q1 in
+      λ i. record { sds = a i; name = b i; type = c i };
+  transitive = λ x y z p q.
+      by-transitive (x .sds) (y .sds) (z .sds) _ _ _ p q (λ p1 q1.
+      named-transitive (x .name) (y .name) (z .name) (x .type) (y .type) (z .type) p1 q1);
+}
+
+-- ---- rising lists
+
+module _ {A : Type 0} {before : A → A → Bool} (o : Order before) where
+  pub put-rises : (a : A) (rs : List A) → rising before rs ≡ true → (a ∈ rs → ⊥) → rising before (put before a rs) ≡ true
+  put-rises a rs r n = put-rising before a rs r (λ x i e. go x i e (before a x) refl)
+    where
+      go : (x : A) → x ∈ rs → before x a ≡ false → (t : Bool) → before a x ≡ t → before a x ≡ true
+      go x i e true q = q
+      go x i e false q = absurd (n (rw (o .connected a x q e) i))
+
+  rising-all : (x : A) (rs : List A) → rising before (x ∷ rs) ≡ true → (y : A) → y ∈ rs → before x y ≡ true
+  unfolding rising
+  rising-all x [] r y i = absurd (List·Memᴰ·not-nil i)
+  rising-all x (z ∷ rs) r y i =
+      let (a, b) = and-both (before x z) (rising before (z ∷ rs)) r in
+      ⊎-elim (λ h. rw h a) (λ m. o .transitive x z y a (rising-all z rs b y m)) (List·Memᴰ·cases-cons i)
+
+  rising-onto : (x : A) (rs : List A) → rising before rs ≡ true → ((y : A) → y ∈ rs → before x y ≡ true) → rising before (x ∷ rs) ≡ true
+  unfolding rising
+  rising-onto x [] r f = refl
+  rising-onto x (y ∷ rs) r f = and-of (before x y) (rising before (y ∷ rs)) (f y (List·Memᴰ·head refl)) r
+
+  pub without-rises : (p : A → Bool) (rs : List A) → rising before rs ≡ true → rising before (without p rs) ≡ true
+  unfolding without
+  without-rises p [] r = r
+  without-rises p (x ∷ rs) r = go (p x) (without-rises p rs (tail-rising before x rs r))
+    where
+      go : (t : Bool) → rising before (without p rs) ≡ true → rising before (cond t (without p rs) (x ∷ without p rs)) ≡ true
+      go true ih = ih
+      go false ih = rising-onto x (without p rs) ih (λ y i. rising-all x rs r y (without-in p rs i .0))

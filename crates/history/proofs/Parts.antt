@@ -1,9 +1,10 @@
 -- A good schema in parts, each by the tables that it speaks of, so that a change of one table leaves the other parts as they are.
 -- Assumes nothing.
 use Prim.Native.Nat.{ℕ, _≤_}
-use mathlib.Core.Path.{_≡_}
+use mathlib.Core.Path.{_≡_, refl, sym, ap, _∙_}
+use mathlib.Core.Logic.{⊎-elim}
 use mathlib.Core.List.{List, []}
-use mathlib.Core.Bool.{true, _&&_, _||_}
+use mathlib.Core.Bool.{true, _&&_, _||_, false≢true}
 use lib.Dec.{ltb}
 use lib.ListN.{length, getD}
 use Rattle.rules.specs.01-Lists.{_∈_, rising}
@@ -12,9 +13,10 @@ use Rattle.rules.specs.03-Names.{Name, well-formed, same-name}
 use Rattle.rules.specs.04-Schema.{Schema, Kind, Presence, Application, End, system-name, system-presence, used-sds, kind-of}
 use Rattle.rules.specs.04-Schema.{is-used, is-object, is-attribute, is-link, parents, present, has-end, other-side, presence-before}
 use Rattle.rules.specs.04-Schema.{application-before, end-before}
-use Rattle.rules.specs.04-Schema.Kind.{object, attribute, paired}
+use Rattle.rules.specs.04-Schema.Kind.{unused, object, attribute, designation, paired}
 use Rattle.rules.specs.05-Descent.{Parent, Descends}
 use Rattle.rules.specs.06-Good.{Good}
+use Rattle.rules.proofs.Bools.{or-cases, and-both, and-of}
 use Rattle.history.proofs.Carried.{descends-over}
 
 -- a schema that has these tables and no others
@@ -195,3 +197,59 @@ whole {s} p = record {
   reverse-present = p .presences .with-reverse;
   mirrored = p .ends .mirrored;
 }
+
+-- ---- over types that are what they were, and presences that are still there
+
+pub object-used : (k : Kind) → is-object k ≡ true → is-used k ≡ true
+object-used unused e = absurd (false≢true e)
+object-used (object ps) e = refl
+object-used (attribute v) e = absurd (false≢true e)
+object-used designation e = absurd (false≢true e)
+object-used (paired c r) e = absurd (false≢true e)
+
+pub attribute-used : (k : Kind) → is-attribute k ≡ true → is-used k ≡ true
+attribute-used unused e = absurd (false≢true e)
+attribute-used (object ps) e = absurd (false≢true e)
+attribute-used (attribute v) e = refl
+attribute-used designation e = absurd (false≢true e)
+attribute-used (paired c r) e = absurd (false≢true e)
+
+pub link-used : (k : Kind) → is-link k ≡ true → is-used k ≡ true
+link-used unused e = absurd (false≢true e)
+link-used (object ps) e = absurd (false≢true e)
+link-used (attribute v) e = absurd (false≢true e)
+link-used designation e = refl
+link-used (paired c r) e = refl
+
+pub either-used : (k : Kind) → is-object k || is-link k ≡ true → is-used k ≡ true
+either-used k e = ⊎-elim (object-used k) (link-used k) (or-cases (is-object k) (is-link k) e)
+
+module _ (ks ks′ : List Kind) (ps ps′ : List Presence)
+    (same : (t : ℕ) → is-used (kind-of (of-types ks) t) ≡ true → kind-of (of-types ks′) t ≡ kind-of (of-types ks) t)
+    (still : (d t : ℕ) → present (of-presences ps) d t ≡ true → present (of-presences ps′) d t ≡ true) where
+  both-still : (d t u : ℕ) → present (of-presences ps) d t && present (of-presences ps) d u ≡ true
+      → present (of-presences ps′) d t && present (of-presences ps′) d u ≡ true
+  both-still d t u e =
+      let (a, b) = and-both (present (of-presences ps) d t) (present (of-presences ps) d u) e in
+      and-of (present (of-presences ps′) d t) (present (of-presences ps′) d u) (still d t a) (still d u b)
+
+  pub applications-over : {xs : List Application} → Applications ks ps xs → Applications ks′ ps′ xs
+  applications-over g = record {
+    room = g .room;
+    of-attribute = λ x i. let e = g .of-attribute x i in ap is-attribute (same (x .attribute) (attribute-used (kind-of (of-types ks) (x .attribute)) e)) ∙ e;
+    to-either = λ x i. let e = g .to-either x i in ap (λ (k : Kind). is-object k || is-link k) (same (x .to) (either-used (kind-of (of-types ks) (x .to)) e)) ∙ e;
+    there = λ x i. both-still (x .sds) (x .to) (x .attribute) (g .there x i);
+    outside = g .outside;
+    rises = g .rises;
+  }
+
+  pub ends-over : {es : List End} → Ends ks ps es → Ends ks′ ps′ es
+  ends-over g = record {
+    room = g .room;
+    of-link = λ e i. let h = g .of-link e i in ap is-link (same (e .link) (link-used (kind-of (of-types ks) (e .link)) h)) ∙ h;
+    at-object = λ e i. let h = g .at-object e i in ap is-object (same (e .object) (object-used (kind-of (of-types ks) (e .object)) h)) ∙ h;
+    there = λ e i. both-still (e .sds) (e .link) (e .object) (g .there e i);
+    outside = g .outside;
+    rises = g .rises;
+    mirrored = λ e i c r k. g .mirrored e i c r (sym (same (e .link) (link-used (kind-of (of-types ks) (e .link)) (g .of-link e i))) ∙ k);
+  }

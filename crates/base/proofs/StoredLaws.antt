@@ -6,9 +6,9 @@ use lib.ListN.{length}
 use Rattle.rules.specs.04-Schema.{Schema}
 use Rattle.rules.specs.07-Picture.{picture, base-length, Sound}
 use Rattle.rules.proofs.07-Picture.{picture-length}
-use Rattle.base.specs.Back.{schema-of}
+use Rattle.base.specs.Back.{schema-of, Canonical}
 use Rattle.base.specs.Stored.{Storable, Shows, Stored}
-use Rattle.base.proofs.Back.{storable-back, good-storable, canonical-picture, sound-canonical, sound-good}
+use Rattle.base.proofs.Back.{storable-back, good-storable, storable-canonical, canonical-picture, sound-canonical, sound-good}
 
 pub sound-stored : {b : List ℕ} → Sound b → Stored b
 sound-stored {b} s = record { rows = good-storable (sound-good s); shown = sym (canonical-picture b (sound-canonical s)) }
@@ -30,3 +30,6 @@ shows-next {b′ = b′} edit x y = subst (λ (s : Schema). Shows b′ (edit s))
 
 pub stored-long : {b : List ℕ} → Stored b → length b ≡ base-length
 stored-long {b} x = ap length (x .shown) ∙ picture-length (schema-of b)
+
+pub stored-canonical : {b : List ℕ} → Stored b → Canonical b
+stored-canonical x = subst (λ (l : List ℕ). Canonical l) (sym (x .shown)) (storable-canonical (x .rows))

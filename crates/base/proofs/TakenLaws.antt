@@ -13,8 +13,7 @@ use Rattle.rules.specs.07-Picture.{end-row}
 use Rattle.rules.proofs.Bools.{and-both, and-of}
 use Rattle.rules.proofs.07-Picture.{read-side, read-end, end-back}
 use Rattle.base.specs.Rows.{application-at}
-use Rattle.base.specs.Back.{schema-of, presence-count, application-count, end-count, presence-shown}
-use Rattle.base.specs.Found.{End-at}
+use Rattle.base.specs.Back.{schema-of, presence-count, application-count, end-count, presence-shown, end-shown}
 use Rattle.base.specs.Stored.{Stored, less-row}
 use Rattle.base.proofs.Back.{no-application, no-end}
 use Rattle.base.proofs.Shown.{presences-long, applications-long, ends-long, presence-is, application-is, end-is}
@@ -31,12 +30,6 @@ one-application d t a x e =
     let (f, more) = and-both (eqb (x .sds) d) (eqb (x .to) t && eqb (x .attribute) a) e in
     let (g, h) = and-both (eqb (x .to) t) (eqb (x .attribute) a) more in
     λ i. record { sds = eqb-true (x .sds) d f i; to = eqb-true (x .to) t g i; attribute = eqb-true (x .attribute) a h i }
-
-own-end : (d l : ℕ) (s : Side) (o : ℕ) → is-end d l s o (record { sds = d; link = l; side = s; object = o }) ≡ true
-own-end d l s o =
-    let k = side-code s in
-    and-of (eqb d d) (eqb l l && (eqb k k && eqb o o)) (eq-eqb d d refl)
-    (and-of (eqb l l) (eqb k k && eqb o o) (eq-eqb l l refl) (and-of (eqb k k) (eqb o o) (eq-eqb k k refl) (eq-eqb o o refl)))
 
 -- a side is known by its code
 side-is : (s : Side) {k : ℕ} → k ≡ side-code s → read-side k ≡ s
@@ -72,11 +65,9 @@ module _ {b : List ℕ} (x : Stored b) (i : ℕ) where
       without-row of-applications (x .rows .applications) no-application (is-application d t a) i (omega (arith, applications-long b))
       (ap (is-application d t a) is ∙ own-application d t a) (λ y m q. one-application d t a y q ∙ sym is)
 
-  pub end-without : (d l : ℕ) (s : Side) (o : ℕ) → End-at b (end-count b) i d l (side-code s) o
+  pub end-without : (d l : ℕ) (s : Side) (o : ℕ) → i < end-count b → is-end d l s o (end-shown b i) ≡ true
       → without (is-end d l s o) ((schema-of b) .ends) ≡ less-row i ((schema-of b) .ends)
-  end-without d l s o r =
-      let side = side-is s (r .turned) in
-      let is : getD ((schema-of b) .ends) i no-end ≡ record { sds = d; link = l; side = s; object = o }
-      = end-is b i no-end (r .below) ∙ (λ j. record { sds = r .sds j; link = r .link j; side = side j; object = r .object j }) in
-      without-row of-ends (x .rows .ends) no-end (is-end d l s o) i (omega (arith, ends-long b, r .below))
-      (ap (is-end d l s o) is ∙ own-end d l s o) (λ y m q. one-end d l s o y q ∙ sym is)
+  end-without d l s o h e =
+      let is = end-is b i no-end h in
+      without-row of-ends (x .rows .ends) no-end (is-end d l s o) i (omega (arith, ends-long b))
+      (ap (is-end d l s o) is ∙ e) (λ y m q. one-end d l s o y q ∙ sym (is ∙ one-end d l s o (end-shown b i) e))

@@ -18,21 +18,21 @@ use Rattle.rules.specs.10-Changes.{new-type, second-new-type}
 use Rattle.rules.proofs.Bools.{and-of}
 use Rattle.rules.proofs.01-Lists.{any-at, numbers-first, numbers-none}
 use Rattle.rules.proofs.07-Picture.{read-side}
-use Rattle.base.specs.Rows.{type-at, Rising, Counted, End-row}
+use Rattle.base.specs.Rows.{type-at, end-at, part, Rising, Counted, End-row}
 use Rattle.base.specs.Back.{schema-of, presence-count, application-count, end-count, presence-shown, application-shown, end-shown}
 use Rattle.base.specs.Found.{Presence-row, First-row, End-found}
-use Rattle.base.proofs.Back.{sound-good, sound-canonical}
-use Rattle.base.proofs.Kept.{sound-long}
+use Rattle.base.specs.Stored.{Stored}
 use Rattle.base.proofs.KindBytes.{used-code, sound-code}
 use Rattle.base.proofs.Shown.{end-read, end-there}
+use Rattle.base.proofs.StoredLaws.{stored-long, stored-canonical}
 use Rattle.base.proofs.Walked.{some-presence, no-presence, first-presence, some-application, no-application, first-application, some-end, no-end}
 use Rattle.base.proofs.Walked.{presence-first}
 use Rattle.graph.proofs.Rows.{good-parental, parents-count, parents-place}
 use Rattle.working.proofs.ListedLaws.{any-there, any-nowhere}
-use Rattle.working.proofs.ShownLaws.{side-byte}
 use Rattle.closed.specs.Held.{Ends}
 use Rattle.closed.proofs.HeldLaws.{side-same, has-row}
 use Rattle.tables.proofs.OrderLaws.{ends-rise}
+use Rattle.tables.proofs.RestLaws.{written-side}
 use Rattle.conditions.specs.Conditions.{Free-type, child-in, application-with, end-with, End-place}
 
 -- ---- the tests of a row, one after the other: two numbers that must be the same, or either of two
@@ -181,22 +181,19 @@ pub applied-row : (b : List ℕ) (d t a : ℕ) {r n : ℕ} → n ≡ application
 unfolding applied
 applied-row b d t a {r} e f = ap (ltb r) e ∙ first-application b (is-application d t a) f
 
-module _ {b : List ℕ} (s : Sound b) {n : ℕ} (c : Counted (end-count b) 512 n) where
-  code-small : (x : Side) → side-code x ≤ 1
-  code-small Side.origin = omega arith
-  code-small Side.destination = omega arith
+module _ {b : List ℕ} (s : Stored b) {n : ℕ} (c : Counted (end-count b) 512 n) where
+  written : (i : ℕ) → i < end-count b → end-row (end-shown b i) ≡ part b (end-at i) 4
+  written i h = ap end-row (sym (end-read b i)) ∙ stored-canonical s .end-rows i h
 
   pub rows-rise : Rising b 11264 4 4 n
-  rows-rise =
-      subst (λ (k : ℕ). Rising b 11264 4 4 k) (sym (c .is))
-      (ends-rise b (λ i h. ap end-row (sym (end-read b i)) ∙ sound-canonical s .end-rows i h) (sound-good s .ends-rising))
+  rows-rise = subst (λ (k : ℕ). Rising b 11264 4 4 k) (sym (c .is)) (ends-rise b written (s .rows .ends .rise))
 
   ends-are : Ends b n
   ends-are = record {
-    long = sound-long s;
+    long = stored-long s;
     counted = c;
     rise = rows-rise;
-    sides = λ i h. omega (arith, side-byte s i (omega (arith, c .is)), code-small ((end-shown b i) .side));
+    sides = λ i h. written-side b i (written i (omega (arith, c .is)));
   }
 
   module _ {d l x o r : ℕ} (small : x < 2) (f : End-found b n d l x o r) where
@@ -210,7 +207,7 @@ module _ {b : List ℕ} (s : Sound b) {n : ℕ} (c : Counted (end-count b) 512 n
         and-of (eqb (e .sds) d) (eqb (e .link) l && (eqb (side-code (e .side)) (side-code (read-side x)) && eqb (e .object) o)) (eq-eqb (e .sds) d (w .sds))
         (and-of (eqb (e .link) l) (eqb (side-code (e .side)) (side-code (read-side x)) && eqb (e .object) o) (eq-eqb (e .link) l (w .link))
         (and-of (eqb (side-code (e .side)) (side-code (read-side x))) (eqb (e .object) o)
-        (eq-eqb (side-code (e .side)) (side-code (read-side x)) (sym (side-byte s r h) ∙ w .turned ∙ sym the-side))
+        (eq-eqb (side-code (e .side)) (side-code (read-side x)) (ap (λ (k : ℕ). side-code (read-side k)) (w .turned)))
         (eq-eqb (e .object) o (w .object))))
 
     pub end-placed : End-place b d l (read-side x) o r

@@ -11,6 +11,7 @@ ghost use Rattle.rules.specs.09-Refusals.{missing-parent, has-child, in-applica
 ghost use Rattle.rules.proofs.07-Picture.{read-side};
 ghost use Rattle.base.specs.Back.{schema-of, presence-count, application-count, presence-shown, application-shown, end-shown};
 ghost use Rattle.base.specs.Found.{First-row};
+ghost use Rattle.base.specs.Stored.{Stored};
 ghost use Rattle.conditions.specs.Reverse.{Reverse-of};
 ghost use Rattle.conditions.specs.Conditions.{Free-type, child-in, application-with, end-with, End-place};
 
@@ -201,7 +202,7 @@ pub fn in_application(base: &[u8], d: usize, t: usize) -> bool
 
 // The row of that end, or no row: as many as there are, or more. Sides are 0 origin, 1 destination.
 pub fn end_row(base: &[u8], d: usize, l: usize, side: usize, o: usize) -> usize
-    requires { ⌜ Sound (now base) ⌝ }
+    requires { ⌜ Stored (now base) ⌝ }
     requires { ⌜ (d < 256) × ((l < 256) × ((side < 2) × (o < 256))) ⌝ }
     ensures { λ r. ⌜ End-place (now (base .entry)) d l (read-side side) o r ⌝ }
 {

@@ -1,17 +1,17 @@
 -- `change::conditions::end_row` meets its contract. Assumes nothing.
 use native.Mathlib.Omega.{arith}
-use Rattle.base.proofs.Kept.{sound-long}
+use Rattle.base.proofs.StoredLaws.{stored-long}
 use Rattle.conditions.proofs.ConditionLaws.{rows-rise, end-placed}
 use Rattle.conditions.proofs.end_row.Statement.{statement}
 use Rattle.conditions.proofs.end_row.Tie as tie
 
 end-count-requires : tie.Need-end-count-requires
-end-count-requires c κs = sound-long (c .before .pre .0)
+end-count-requires c κs = stored-long (c .before .pre .0)
 
 end-row-requires : tie.Need-end-row-requires
 end-row-requires c κs =
     let x = c .before .before .pre in (
-      (sound-long (x .0), c .end-count .ensures .fits),
+      (stored-long (x .0), c .end-count .ensures .fits),
       ((x .1 .0, (x .1 .1 .0, (omega (arith, x .1 .1 .1 .0), x .1 .1 .1 .1))), rows-rise (x .0) (c .end-count .ensures)),
     )
 

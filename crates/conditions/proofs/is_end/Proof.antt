@@ -1,12 +1,12 @@
 -- `change::conditions::is_end` meets its contract. Assumes nothing.
-use borrow.Author.Needs.{needs}
 use Rattle.base.proofs.Kept.{sound-long}
+use Rattle.base.proofs.StoredLaws.{sound-stored}
 use Rattle.conditions.proofs.ConditionLaws.{end-place-has}
 use Rattle.conditions.proofs.is_end.Statement.{statement}
 use Rattle.conditions.proofs.is_end.Tie as tie
 
 end-row-requires : tie.Need-end-row-requires
-end-row-requires c κs = search needs
+end-row-requires c κs = (sound-stored (c .before .pre .0), c .before .pre .1)
 
 end-count-requires : tie.Need-end-count-requires
 end-count-requires c κs = sound-long (c .before .before .pre .0)

@@ -36,7 +36,7 @@ side-is : (s : Side) {k : ℕ} → k ≡ side-code s → read-side k ≡ s
 unfolding read-end end-row
 side-is s e = ap read-side e ∙ ap (λ (x : End). x .side) (end-back (record { sds = 0; link = 0; side = s; object = 0 }))
 
-one-end : (d l : ℕ) (s : Side) (o : ℕ) (x : End) → is-end d l s o x ≡ true → x ≡ record { sds = d; link = l; side = s; object = o }
+pub one-end : (d l : ℕ) (s : Side) (o : ℕ) (x : End) → is-end d l s o x ≡ true → x ≡ record { sds = d; link = l; side = s; object = o }
 one-end d l s o x e =
     let k = side-code s in
     let c = side-code (x .side) in

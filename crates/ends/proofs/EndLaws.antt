@@ -3,12 +3,12 @@ use Prim.Native.Nat.{ℕ, zero, suc, _+_, _-_, _≤_, _<_}
 use native.Mathlib.Omega.{arith}
 use mathlib.Core.Path.{_≡_, refl, sym, ap, _∙_, subst}
 use mathlib.Core.List.{List, [], _∷_, _++_, map}
-use mathlib.Core.Bool.{Bool, true, false, not, cond, _&&_, _||_, true≢false}
+use mathlib.Core.Bool.{Bool, true, false, not, cond, _&&_, _||_, true≢false, or-false}
 use lib.Dec.{ltb, eqb}
 use lib.ListN.{length, drop}
-use borrow.Author.Tests.{eqb-true, eq-eqb, ne-eqb, ltb-false}
+use borrow.Author.Tests.{eq-eqb, ne-eqb, ltb-true, ltb-false, lt-ltb, le-ltb}
 use Rattle.rules.specs.declared.Answer.{Answer}
-use Rattle.rules.specs.01-Lists.{all, put}
+use Rattle.rules.specs.01-Lists.{any, all, without, put}
 use Rattle.rules.specs.03-Names.{Name}
 use Rattle.rules.specs.04-Schema.{Schema, Side, End, bears, kind-of, is-link, is-object, reverse, with-reverse, type-named}
 use Rattle.rules.specs.04-Schema.{side-code, other-side, is-end, has-end, end-before}
@@ -18,25 +18,28 @@ use Rattle.rules.specs.06-Good.{Good}
 use Rattle.rules.specs.07-Picture.{Sound, picture}
 use Rattle.rules.specs.09-Refusals.{Outcome, Refusals, verdict, refusal, no-such-name, no-link, no-object, ends-full}
 use Rattle.rules.specs.09-Refusals.Outcome.{refused, done}
-use Rattle.rules.specs.10-Changes.{with-ends, put-all, both-ends, end-refusals, add-end}
+use Rattle.rules.specs.10-Changes.{with-ends, put-all, both-ends, end-refusals, add-end, is-one-of, remove-end}
 use Rattle.rules.specs.12-Contracts.{Kept}
-use Rattle.rules.proofs.Bools.{or-left, or-right, and-both}
-use Rattle.rules.proofs.01-Lists.{any-where}
-use Rattle.rules.proofs.Edits.{put-long, put-none}
+use Rattle.rules.proofs.Bools.{or-left, or-right}
+use Rattle.rules.proofs.01-Lists.{any-at, any-where}
+use Rattle.rules.proofs.Edits.{put-long, put-none, without-keeps, without-same, without-twice}
 use Rattle.rules.proofs.07-Picture.{read-side}
 use Rattle.rules.proofs.09-Refusals.{Left, told, told-stops, told-passes}
 use Rattle.base.specs.Rows.{type-at, Reads, Counted}
 use Rattle.base.specs.Back.{schema-of, end-count}
-use Rattle.base.specs.Stored.{Shows}
+use Rattle.base.specs.Stored.{Shows, Stored, less-row}
 use Rattle.base.proofs.Back.{sound-good}
 use Rattle.base.proofs.Kept.{kept-refused}
 use Rattle.base.proofs.Shown.{ends-long}
-use Rattle.base.proofs.StoredLaws.{shows-schema}
+use Rattle.base.proofs.StoredLaws.{sound-stored, shows-schema, shows-stored, shows-next}
+use Rattle.base.proofs.TakenLaws.{one-end, end-without}
 use Rattle.base.proofs.KindBytes.{object-byte, link-byte}
 use Rattle.conditions.proofs.ReverseLaws.{one-is, none-is}
 use Rattle.ends.specs.declared.Aim.{Aim}
 use Rattle.ends.specs.Ends.{Through, Aimed}
 use Rattle.conditions.specs.Reverse.{one-or-none, Reverse-of}
+use Rattle.conditions.specs.Conditions.{End-place}
+use Rattle.conditions.proofs.ConditionLaws.{end-place-has}
 use Rattle.conditions.proofs.NameLaws.{name-there, name-missing}
 
 -- ---- the tests, one after the other
@@ -166,13 +169,7 @@ module _ (b : List ℕ) {r k : ℕ} (c : Counted (end-count b) 512 k) where
       let many : k + 1 ≡ length ((schema-of b) .ends) + 1 = omega (arith, c .is, ends-long b) in
       ap (ltb 512) many ∙ ap (λ (l : List ℕ). ltb 512 (length ((schema-of b) .ends) + suc (length l))) (sym (none-is h))
 
--- ---- an end put in
-
-turned : (x y : Side) → side-code x ≡ side-code (other-side y) → other-side x ≡ y
-turned origin origin e = absurd (omega arith)
-turned origin destination e = refl
-turned destination origin e = refl
-turned destination destination e = absurd (omega arith)
+-- ---- an end and its mirror
 
 pub other-is : (x : ℕ) → x < 2 → read-side (1 - x) ≡ other-side (read-side x)
 unfolding read-side
@@ -180,29 +177,39 @@ other-is zero h = refl
 other-is (suc zero) h = refl
 other-is (suc (suc x)) h = absurd (omega arith)
 
--- where it is no end of a link type, it is none of the reverse
-mirror-free : {s : Schema} → Good s → (d l c r o : ℕ) (side : Side) → kind-of s l ≡ paired c r → has-end s d l side o ≡ false
-    → has-end s d r (other-side side) o ≡ false
-unfolding has-end
-mirror-free {s} good d l c r o side k e = go (has-end s d r (other-side side) o) refl
-  where
-    found : has-end s d r (other-side side) o ≡ true → has-end s d l side o ≡ true
-    found f =
-        let (x, i, q) = any-where (is-end d r (other-side side) o) (s .ends) f in
-        let (p1, q1) = and-both (eqb (x .sds) d) (eqb (x .link) r && (eqb (side-code (x .side)) (side-code (other-side side)) && eqb (x .object) o)) q in
-        let (p2, q2) = and-both (eqb (x .link) r) (eqb (side-code (x .side)) (side-code (other-side side)) && eqb (x .object) o) q1 in
-        let (p3, p4) = and-both (eqb (side-code (x .side)) (side-code (other-side side))) (eqb (x .object) o) q2 in
-        let (c′, back) = good .reverse-in-turn l c r k in
-        let m = good .mirrored x i c′ l (ap (kind-of s) (eqb-true (x .link) r p2) ∙ back) in
-        let same : other-side (x .side) ≡ side = turned (x .side) side (eqb-true (side-code (x .side)) (side-code (other-side side)) p3) in
-        (λ j. has-end s (sym (eqb-true (x .sds) d p1) j) l (sym same j) (sym (eqb-true (x .object) o p4) j)) ∙ m
-
-    go : (t : Bool) → has-end s d r (other-side side) o ≡ t → t ≡ false
-    go true f = absurd (true≢false (sym (found f) ∙ e))
-    go false f = refl
+turned-twice : (x : Side) → other-side (other-side x) ≡ x
+turned-twice origin = refl
+turned-twice destination = refl
 
 abbrev end-of : ℕ → ℕ → Side → ℕ → End
 end-of d l side o = record { sds = d; link = l; side = side; object = o }
+
+other-link : (d l r o : ℕ) (x y : Side) → (l ≡ r → ⊥) → is-end d r y o (end-of d l x o) ≡ false
+other-link d l r o x y n = rw (ne-eqb l r n, eq-eqb d d refl)
+
+-- an end of a link type is one of its reverse, on the other side
+mirror-there : {s : Schema} → Good s → (d l c r o : ℕ) (side : Side) → kind-of s l ≡ paired c r → has-end s d l side o ≡ true
+    → has-end s d r (other-side side) o ≡ true
+unfolding has-end
+mirror-there {s} good d l c r o side pair e =
+    let (x, i, q) = any-where (is-end d l side o) (s .ends) e in
+    let it = one-end d l side o x q in
+    subst (λ (y : End). has-end s (y .sds) r (other-side (y .side)) (y .object) ≡ true) it
+    (good .mirrored x i c r (ap (λ (y : End). kind-of s (y .link)) it ∙ pair))
+
+-- and where it is none, it is none of the reverse
+mirror-free : {s : Schema} → Good s → (d l c r o : ℕ) (side : Side) → kind-of s l ≡ paired c r → has-end s d l side o ≡ false
+    → has-end s d r (other-side side) o ≡ false
+mirror-free {s} good d l c r o side pair e = go (has-end s d r (other-side side) o) refl
+  where
+    go : (t : Bool) → has-end s d r (other-side side) o ≡ t → t ≡ false
+    go true f =
+        let (c′, back) = good .reverse-in-turn l c r pair in
+        let there = mirror-there good d r c′ l o (other-side side) back f in
+        absurd (true≢false (sym there ∙ ap (λ (x : Side). has-end s d l x o) (turned-twice side) ∙ e))
+    go false f = refl
+
+-- ---- an end put in
 
 abbrev pub added : Side → ℕ → ℕ → ℕ → Schema → Schema
 added side d l o s = with-ends s (put-all end-before (both-ends d l side o s) (s .ends))
@@ -257,10 +264,8 @@ module _ (b : List ℕ) {l r : ℕ} (rev : Reverse-of (schema-of b) l r) (room :
           let (c, pair) = rev .pair k in
           ap (λ (s : Schema). has-end s d r (other-side side) o) (shows-schema out)
           ∙ put-none end-before (is-end d r (other-side side) o) (end-of d l side o) ((schema-of b) .ends)
-          (apart (ne-eqb l r (λ q. sound-good sound .reverse-different l c r pair (sym q)))) (mirror-free (sound-good sound) d l c r o side pair e)
-        where
-          apart : eqb l r ≡ false → is-end d r (other-side side) o (end-of d l side o) ≡ false
-          apart q = rw (q, eq-eqb d d refl)
+          (other-link d l r o side (other-side side) (λ q. sound-good sound .reverse-different l c r pair (sym q)))
+          (mirror-free (sound-good sound) d l c r o side pair e)
 
       added-two : {b₂ : List ℕ} → Shows b₂ (with-ends (schema-of b₁) (put end-before (end-of d r (other-side side) o) ((schema-of b₁) .ends)))
           → b₂ ≡ picture (added side d l o (schema-of b))
@@ -281,3 +286,95 @@ module _ (b : List ℕ) {l r : ℕ} (rev : Reverse-of (schema-of b) l r) (room :
     added-both {b₂} out₂ =
         added-two d o (read-side x) out k
         (subst (λ (z : Side). Shows b₂ (with-ends (schema-of b₁) (put end-before (end-of d r z o) ((schema-of b₁) .ends)))) (other-is x small) out₂)
+
+-- ---- an end taken out
+
+abbrev pub removed : Side → ℕ → ℕ → ℕ → Schema → Schema
+removed side d l o s = with-ends s (without (is-one-of (both-ends d l side o s)) (s .ends))
+
+abbrev pub remove-rest : Side → ℕ → ℕ → ℕ → Schema → Refusals
+remove-rest side d l o s = (13, not (has-end s d l side o)) ∷ []
+
+pub remove-left : (side : Side) (d : ℕ) (n m : Name) (s : Schema) → Left (remove-end side d n m s)
+    (end-refusals d n m s ++ remove-rest side d (type-named s d n) (type-named s d m) s) (done 0 0 0 (removed side d (type-named s d n) (type-named s d m) s))
+unfolding remove-end
+remove-left side d n m s = record { is = refl }
+
+-- the test that is left, of the types that were found
+pub remove-tests : {b : List ℕ} {d : ℕ} {n m : Name} {v : Aim} → Aimed b d n m v → v .no ≡ 0 → (side : Side)
+    → Left (remove-end side d n m (schema-of b)) (remove-rest side d (v .link) (v .object) (schema-of b))
+    (done 0 0 0 (removed side d (v .link) (v .object) (schema-of b)))
+remove-tests {b} {d} {n} {m} {v} aimed z side =
+    let th = aimed .through z in
+    let s = schema-of b in
+    let left = aimed-passes aimed z (remove-rest side d (type-named s d n) (type-named s d m) s) (remove-left side d n m s) in
+    record {
+      is = left .is ∙ (λ i. verdict (remove-rest side d (sym (th .link-named) i) (sym (th .object-named) i) s)
+          (done 0 0 0 (removed side d (sym (th .link-named) i) (sym (th .object-named) i) s)));
+    }
+
+module _ {b : List ℕ} {d l o row k : ℕ} {side : Side} (count : Counted (end-count b) 512 k) (place : End-place b d l side o row) where
+  pub row-none : k ≤ row → not (has-end (schema-of b) d l side o) ≡ true
+  row-none h = ap not (sym (end-place-has (count .is) place) ∙ le-ltb row k h)
+
+  pub row-some : row < k → has-end (schema-of b) d l side o ≡ true
+  row-some h = sym (end-place-has (count .is) place) ∙ lt-ltb row k h
+
+-- without one end, or without it and its mirror
+module _ (s : Schema) (d l o : ℕ) (side : Side) where
+  abbrev less-one : Schema
+  less-one = with-ends s (without (is-end d l side o) (s .ends))
+
+  removed-alone : reverse s l ≡ [] → less-one ≡ removed side d l o s
+  unfolding both-ends any
+  removed-alone e =
+      ap (with-ends s) (without-same (is-end d l side o) (is-one-of (end-of d l side o ∷ [])) (s .ends) (λ x i. sym (or-false (is-end d l side o x))))
+      ∙ ap (λ (ls : List ℕ). with-ends s (without (is-one-of (end-of d l side o ∷ map (λ y. end-of d y (other-side side) o) ls)) (s .ends))) (sym e)
+
+  removed-pair : (r : ℕ) → reverse s l ≡ r ∷ [] → with-ends less-one (without (is-end d r (other-side side) o) (less-one .ends)) ≡ removed side d l o s
+  unfolding both-ends any
+  removed-pair r e =
+      ap (with-ends s) (without-twice (is-end d l side o) (is-end d r (other-side side) o) (s .ends)
+      ∙ without-same (λ x. is-end d l side o x || is-end d r (other-side side) o x) (is-one-of (end-of d l side o ∷ end-of d r (other-side side) o ∷ [])) (s .ends)
+      (λ x i. ap (λ (t : Bool). is-end d l side o x || t) (sym (or-false (is-end d r (other-side side) o x)))))
+      ∙ ap (λ (ls : List ℕ). with-ends s (without (is-one-of (end-of d l side o ∷ map (λ y. end-of d y (other-side side) o) ls)) (s .ends))) (sym e)
+
+  -- an end of another link type stays
+  other-stays : (r : ℕ) (x : Side) → (r ≡ l → ⊥) → has-end s d r x o ≡ true → has-end less-one d r x o ≡ true
+  unfolding has-end
+  other-stays r x n e =
+      let (y, i, q) = any-where (is-end d r x o) (s .ends) e in
+      any-at (is-end d r x o) (without-keeps (is-end d l side o) (s .ends) i (ap (is-end d l side o) (one-end d r x o y q) ∙ other-link d r l o x side n)) q
+
+-- the bytes without the row of an end are without that end
+less-end : {b b₁ : List ℕ} {d l o row : ℕ} {side : Side} → Stored b → End-place b d l side o row → row < end-count b
+    → Shows b₁ (with-ends (schema-of b) (less-row row ((schema-of b) .ends))) → Shows b₁ (less-one (schema-of b) d l o side)
+less-end {b} {b₁} {d} {l} {o} {row} {side} stored place h out =
+    subst (λ (es : List End). Shows b₁ (with-ends (schema-of b) es)) (sym (end-without stored row d l side o h (place .found h))) out
+
+module _ {b : List ℕ} (sound : Sound b) (x : ℕ) {d l o row : ℕ} (place : End-place b d l (read-side x) o row) (h : row < end-count b) {b₁ : List ℕ}
+    (out : Shows b₁ (with-ends (schema-of b) (less-row row ((schema-of b) .ends)))) {r : ℕ} (rev : Reverse-of (schema-of b) l r) where
+  first-gone : Shows b₁ (less-one (schema-of b) d l o (read-side x))
+  first-gone = less-end (sound-stored sound) place h out
+
+  pub removed-one : r ≡ 128 → b₁ ≡ picture (removed (read-side x) d l o (schema-of b))
+  removed-one e = first-gone .shown ∙ ap picture (removed-alone (schema-of b) d l o (read-side x) (rev .is ∙ none-is {r = r} (omega arith)))
+
+  module _ (small : x < 2) (k : r < 128) {m : ℕ} (mirror : End-place b₁ d r (read-side (1 - x)) o m) where
+    mirror-place : End-place b₁ d r (other-side (read-side x)) o m
+    mirror-place = subst (λ (z : Side). End-place b₁ d r z o m) (other-is x small) mirror
+
+    module _ (e : has-end (schema-of b) d l (read-side x) o ≡ true) where
+      pub mirror-row : m < end-count b₁
+      mirror-row =
+          let (c, pair) = rev .pair k in
+          let there = mirror-there (sound-good sound) d l c r o (read-side x) pair e in
+          let stays = other-stays (schema-of b) d l o (read-side x) r (other-side (read-side x)) (sound-good sound .reverse-different l c r pair) there in
+          ltb-true m (end-count b₁)
+          (end-place-has refl mirror-place ∙ ap (λ (s : Schema). has-end s d r (other-side (read-side x)) o) (shows-schema first-gone) ∙ stays)
+
+      pub removed-both : {b₂ : List ℕ} → Shows b₂ (with-ends (schema-of b₁) (less-row m ((schema-of b₁) .ends)))
+          → b₂ ≡ picture (removed (read-side x) d l o (schema-of b))
+      removed-both out₂ =
+          shows-next (λ s. less-one s d r o (other-side (read-side x))) first-gone (less-end (shows-stored first-gone) mirror-place mirror-row out₂) .shown
+          ∙ ap picture (removed-pair (schema-of b) d l o (read-side x) r (rev .is ∙ one-is k))

@@ -6,7 +6,7 @@ ghost use Prim.Native.Nat.{suc, _<_};
 ghost use lib.ListN.{length};
 ghost use Rattle.rules.specs.07-Picture.{base-length};
 ghost use Rattle.rules.specs.09-Refusals.{ends-full};
-ghost use Rattle.rules.specs.10-Changes.{add-end, apply-link, add-destination};
+ghost use Rattle.rules.specs.10-Changes.{add-end, remove-end, apply-link, unapply-link, add-destination, remove-destination};
 ghost use Rattle.rules.specs.12-Contracts.{Kept};
 ghost use Rattle.rules.proofs.07-Picture.{read-side};
 ghost use Rattle.base.specs.Back.{schema-of};
@@ -107,6 +107,29 @@ fn add_end(base: &mut [u8], sds: usize, link: &[u8], object: &[u8], side: usize)
     Answer::done(0, 0, 0)
 }
 
+// Object type o is no longer an end of link type l on that side, nor of its reverse on the other.
+fn remove_end(base: &mut [u8], sds: usize, link: &[u8], object: &[u8], side: usize) -> Answer
+    requires { ⌜ side < 2 ⌝ }
+    ensures { λ r. ⌜ Kept (now (base .entry)) (remove-end (read-side side) sds (now (link .entry)) (now (object .entry))) r (now (base .exit)) ⌝ }
+{
+    let aim = aimed_at(base, sds, link, object);
+    if aim.no != 0 {
+        return Answer::refused(aim.no);
+    }
+    let row = conditions::end_row(base, sds, aim.link, side, aim.object);
+    if base::used::end_count(base) <= row {
+        return Answer::refused(13);
+    }
+    let reverse = conditions::reverse_of(base, aim.link);
+    base::edit::take_end(base, row);
+    if reverse == Limits::TYPES {
+        return Answer::done(0, 0, 0);
+    }
+    let mirror = conditions::end_row(base, sds, reverse, 1 - side, aim.object);
+    base::edit::take_end(base, mirror);
+    Answer::done(0, 0, 0)
+}
+
 pub fn apply_link(base: &mut [u8], sds: usize, link: &[u8], object: &[u8]) -> Answer
     ensures { λ r. ⌜ Kept (now (base .entry)) (apply-link sds (now (link .entry)) (now (object .entry))) r (now (base .exit)) ⌝ }
 {
@@ -117,4 +140,16 @@ pub fn add_destination(base: &mut [u8], sds: usize, link: &[u8], object: &[u8]) 
     ensures { λ r. ⌜ Kept (now (base .entry)) (add-destination sds (now (link .entry)) (now (object .entry))) r (now (base .exit)) ⌝ }
 {
     add_end(base, sds, link, object, 1)
+}
+
+pub fn unapply_link(base: &mut [u8], sds: usize, link: &[u8], object: &[u8]) -> Answer
+    ensures { λ r. ⌜ Kept (now (base .entry)) (unapply-link sds (now (link .entry)) (now (object .entry))) r (now (base .exit)) ⌝ }
+{
+    remove_end(base, sds, link, object, 0)
+}
+
+pub fn remove_destination(base: &mut [u8], sds: usize, link: &[u8], object: &[u8]) -> Answer
+    ensures { λ r. ⌜ Kept (now (base .entry)) (remove-destination sds (now (link .entry)) (now (object .entry))) r (now (base .exit)) ⌝ }
+{
+    remove_end(base, sds, link, object, 1)
 }

@@ -11,7 +11,7 @@ use Rattle.rules.specs.04-Schema.{Schema}
 use Rattle.rules.specs.07-Picture.{Sound}
 use Rattle.rules.specs.09-Refusals.{Outcome, Refusals, verdict, refusal}
 use Rattle.rules.specs.12-Contracts.{Kept}
-use Rattle.rules.proofs.09-Refusals.{Left, told, told-stops, told-passes}
+use Rattle.rules.proofs.09-Refusals.{Left, ends, told, told-stops, told-passes}
 use Rattle.base.specs.Back.{schema-of}
 use Rattle.base.proofs.Kept.{kept-spoiled, kept-refused}
 use Rattle.conditions.specs.Tested.{Tested}
@@ -48,18 +48,28 @@ module _ {b : List ℕ} {whole : Refusals} where
   unfolding told
   come-through c = tested (c .sound) (sym (c .left))
 
+-- ---- the verdict of a call whose first conditions were told at once; rest is what it tests besides
+
+module _ {b : List ℕ} {cs : Refusals} {no : ℕ} {effect : Outcome Schema} (rest : Refusals) where
+  pub begun-stops : {rule : Schema → Outcome Schema} {a : Answer} → Tested b cs no → (no ≡ 0 → ⊥) → Left (rule (schema-of b)) (cs ++ rest) effect
+      → a ≡ refusal no → Kept b rule a b
+  begun-stops (spoiled n e) z l q = kept-spoiled n (q ∙ ap refusal e)
+  begun-stops (tested s e) z l q = kept-refused s (told-stops effect cs rest (l .is) (λ w. z (e ∙ w))) (q ∙ ap refusal e)
+
+  pub begun-passes : {o : Outcome Schema} → Tested b cs no → no ≡ 0 → all (λ c. ltb 0 (c .0)) cs ≡ true → Left o (cs ++ rest) effect
+      → Left o rest effect
+  begun-passes (spoiled n e) z h l = absurd (omega arith)
+  begun-passes (tested s e) z h l = record { is = told-passes effect cs rest h (l .is) (sym e ∙ z) }
+
 -- ---- the verdict of a call that has tested all of its conditions
 
-whole-left : {o effect : Outcome Schema} {cs : Refusals} → Left o cs effect → o ≡ verdict (cs ++ []) effect
-whole-left {o} {effect} {cs} l = l .is ∙ ap (λ (x : Refusals). verdict x effect) (sym (append-nil cs))
+whole-left : {o effect : Outcome Schema} {cs : Refusals} → Left o cs effect → Left o (cs ++ []) effect
+whole-left {o} {effect} {cs} l = record { is = l .is ∙ ap (λ (x : Refusals). verdict x effect) (sym (append-nil cs)) }
 
 module _ {b : List ℕ} {cs : Refusals} {no : ℕ} {effect : Outcome Schema} where
   pub tested-stops : {rule : Schema → Outcome Schema} {a : Answer} → Tested b cs no → (no ≡ 0 → ⊥) → Left (rule (schema-of b)) cs effect
       → a ≡ refusal no → Kept b rule a b
-  tested-stops (spoiled n e) z l q = kept-spoiled n (q ∙ ap refusal e)
-  tested-stops (tested s e) z l q = kept-refused s (told-stops effect cs [] (whole-left l) (λ w. z (e ∙ w))) (q ∙ ap refusal e)
+  tested-stops t z l q = begun-stops [] t z (whole-left l) q
 
   pub tested-passes : {o : Outcome Schema} → Tested b cs no → no ≡ 0 → all (λ c. ltb 0 (c .0)) cs ≡ true → Left o cs effect → o ≡ effect
-  unfolding verdict
-  tested-passes (spoiled n e) z h l = absurd (omega arith)
-  tested-passes (tested s e) z h l = told-passes effect cs [] h (whole-left l) (sym e ∙ z)
+  tested-passes t z h l = ends (begun-passes [] t z h (whole-left l))

@@ -3,83 +3,52 @@ use Prim.Native.Nat.{ℕ, zero, suc, _+_, _-_, _≤_, _<_}
 use native.Mathlib.Omega.{arith}
 use mathlib.Core.Path.{_≡_, refl, sym, ap, _∙_, subst}
 use mathlib.Core.List.{List, [], _∷_, _++_, map}
-use mathlib.Core.Bool.{Bool, true, false, not, cond, _&&_, _||_, true≢false, or-false}
-use lib.Dec.{ltb, eqb}
+use mathlib.Core.Bool.{Bool, true, false, not, _||_, true≢false, or-false}
+use lib.Dec.{ltb}
 use lib.ListN.{length, drop}
 use borrow.Author.Tests.{eq-eqb, ne-eqb, ltb-true, ltb-false, lt-ltb, le-ltb}
-use Rattle.rules.specs.declared.Answer.{Answer}
 use Rattle.rules.specs.01-Lists.{any, all, without, put}
 use Rattle.rules.specs.03-Names.{Name}
 use Rattle.rules.specs.04-Schema.{Schema, Side, End, bears, kind-of, is-link, is-object, reverse, with-reverse, type-named}
-use Rattle.rules.specs.04-Schema.{side-code, other-side, is-end, has-end, end-before}
+use Rattle.rules.specs.04-Schema.{other-side, is-end, has-end, end-before}
 use Rattle.rules.specs.04-Schema.Kind.{paired}
 use Rattle.rules.specs.04-Schema.Side.{origin, destination}
 use Rattle.rules.specs.06-Good.{Good}
 use Rattle.rules.specs.07-Picture.{Sound, picture}
-use Rattle.rules.specs.09-Refusals.{Outcome, Refusals, verdict, refusal, no-such-name, no-link, no-object, ends-full}
-use Rattle.rules.specs.09-Refusals.Outcome.{refused, done}
+use Rattle.rules.specs.09-Refusals.{Outcome, Refusals, verdict, no-such-name, no-link, no-object, ends-full}
+use Rattle.rules.specs.09-Refusals.Outcome.{done}
 use Rattle.rules.specs.10-Changes.{with-ends, put-all, both-ends, end-refusals, add-end, is-one-of, remove-end}
-use Rattle.rules.specs.12-Contracts.{Kept}
 use Rattle.rules.proofs.Bools.{or-left, or-right}
 use Rattle.rules.proofs.01-Lists.{any-at, any-where}
 use Rattle.rules.proofs.Edits.{put-long, put-none, without-keeps, without-same, without-twice}
 use Rattle.rules.proofs.07-Picture.{read-side}
-use Rattle.rules.proofs.09-Refusals.{Left, told, told-stops, told-passes}
+use Rattle.rules.proofs.09-Refusals.{Left}
 use Rattle.base.specs.Rows.{type-at, Reads, Counted}
 use Rattle.base.specs.Back.{schema-of, end-count}
 use Rattle.base.specs.Stored.{Shows, Stored, less-row}
 use Rattle.base.proofs.Back.{sound-good}
-use Rattle.base.proofs.Kept.{kept-refused}
 use Rattle.base.proofs.Shown.{ends-long}
 use Rattle.base.proofs.StoredLaws.{sound-stored, shows-schema, shows-stored, shows-next}
 use Rattle.base.proofs.TakenLaws.{one-end, end-without}
 use Rattle.base.proofs.KindBytes.{object-byte, link-byte}
 use Rattle.conditions.proofs.ReverseLaws.{one-is, none-is}
 use Rattle.ends.specs.declared.Aim.{Aim}
-use Rattle.ends.specs.Ends.{Through, Aimed}
+use Rattle.ends.specs.Ends.{Aimed}
+use Rattle.conditions.specs.Tested.{Tested}
 use Rattle.conditions.specs.Reverse.{one-or-none, Reverse-of}
 use Rattle.conditions.specs.Conditions.{End-place}
+use Rattle.conditions.proofs.TestedLaws.{Come, begun-passes}
 use Rattle.conditions.proofs.ConditionLaws.{end-place-has}
 use Rattle.conditions.proofs.NameLaws.{name-there, name-missing}
 
 -- ---- the tests, one after the other
 
-module _ (b : List ℕ) (d : ℕ) (n m : Name) where
-  -- the base is sound, and the conditions cs are left to tell
-  pub record Come (cs : Refusals) : Type 0 where
-    pub sound : Sound b
-    pub left : told (end-refusals d n m (schema-of b)) ≡ told cs
+-- the first k conditions have failed
+abbrev pub Past : List ℕ → ℕ → Name → Name → ℕ → Type 0
+Past b d n m k = Come b (end-refusals d n m (schema-of b)) (drop k (end-refusals d n m (schema-of b)))
 
-  -- the first k conditions have failed
-  abbrev pub Past : ℕ → Type 0
-  Past k = Come (drop k (end-refusals d n m (schema-of b)))
-
-  pub come-first : Sound b → Past 0
-  come-first s = record { sound = s; left = refl }
-
-module _ {b : List ℕ} {d : ℕ} {n m : Name} where
-  pub come-next : {k : ℕ} {x : Bool} {cs : Refusals} → Come b d n m ((k, x) ∷ cs) → x ≡ false → Come b d n m cs
-  unfolding told
-  come-next c e = record { sound = c .sound; left = c .left ∙ rw e }
-
-  module _ {v : Aim} where
-    pub aim-spoiled : (Sound b → ⊥) → v .no ≡ 1 → Aimed b d n m v
-    aim-spoiled o e = record { spoiled = λ _. e; told = λ s. absurd (o s); through = λ z. absurd (omega arith) }
-
-    pub aim-refused : {k : ℕ} {x : Bool} {cs : Refusals} → Come b d n m ((k, x) ∷ cs) → x ≡ true → 0 < k → v .no ≡ k → Aimed b d n m v
-    unfolding told
-    aim-refused {k} {x} {cs} c e h r = record {
-      spoiled = λ o. absurd (o (c .sound));
-      told = λ s. r ∙ sym (c .left ∙ here);
-      through = λ z. absurd (omega arith);
-    }
-      where
-        here : cond x k (told cs) ≡ k
-        here = rw e
-
-    pub aim-through : Past b d n m 5 → v .no ≡ 0 → Through b d n m v → Aimed b d n m v
-    unfolding told
-    aim-through c e th = record { spoiled = λ o. absurd (o (c .sound)); told = λ s. e ∙ sym (c .left); through = λ z. th }
+pub not-aimed : {b : List ℕ} {d : ℕ} {n m : Name} {v : Aim} → Tested b (end-refusals d n m (schema-of b)) (v .no) → (v .no ≡ 0 → ⊥) → Aimed b d n m v
+not-aimed t z = record { told = t; through = λ e. absurd (z e) }
 
 -- ---- what the tests of the two types say
 
@@ -132,27 +101,16 @@ module _ (b : List ℕ) (d : ℕ) (n m : Name) where
       neither : {p q : Bool} → p ≡ false → q ≡ false → p || q ≡ false
       neither e f = rw (e, f)
 
--- ---- the verdict of a call whose refusals begin with these
+-- ---- what a call tests besides, and its effect, said of the types that were found
 
-module _ {b : List ℕ} {d : ℕ} {n m : Name} {v : Aim} (aimed : Aimed b d n m v) where
-  -- rest is what the call tests besides
-  pub aimed-refused : (v .no ≡ 0 → ⊥) → {rule : Schema → Outcome Schema} {effect : Outcome Schema} (rest : Refusals)
-      → Left (rule (schema-of b)) (end-refusals d n m (schema-of b) ++ rest) effect → {a : Answer} → a ≡ refusal (v .no) → Kept b rule a b
-  aimed-refused z {rule} {effect} rest left e = record {
-    spoiled = λ o. (e ∙ ap refusal (aimed .spoiled o), refl);
-    kept = λ s g p.
-        let sound : Sound b = record { schema = s; good = g; shown = p } in
-        kept-refused {rule = rule} sound
-        (told-stops effect (end-refusals d n m (schema-of b)) rest (left .is) (λ q. z (aimed .told sound ∙ q)) ∙ ap refused (sym (aimed .told sound))) e
-        .kept s g p;
-  }
-
-  pub aimed-passes : (z : v .no ≡ 0) {o effect : Outcome Schema} (rest : Refusals) → Left o (end-refusals d n m (schema-of b) ++ rest) effect
-      → Left o rest effect
-  unfolding all
-  aimed-passes z {o} {effect} rest left = record {
-    is = told-passes effect (end-refusals d n m (schema-of b)) rest refl (left .is) (sym (aimed .told (aimed .through z .sound)) ∙ z);
-  }
+aimed-passes : {b : List ℕ} {d : ℕ} {n m : Name} {v : Aim} → Aimed b d n m v → v .no ≡ 0 → {o : Outcome Schema}
+    (rest : ℕ → ℕ → Refusals) (effect : ℕ → ℕ → Outcome Schema) → let l = type-named (schema-of b) d n in let t = type-named (schema-of b) d m in
+    Left o (end-refusals d n m (schema-of b) ++ rest l t) (effect l t) → Left o (rest (v .link) (v .object)) (effect (v .link) (v .object))
+unfolding all
+aimed-passes {b} {d} {n} {m} aimed z {o} rest effect left =
+    let th = aimed .through z in
+    let passed = begun-passes (rest (type-named (schema-of b) d n) (type-named (schema-of b) d m)) (aimed .told) z refl left in
+    record { is = passed .is ∙ (λ i. verdict (rest (sym (th .link-named) i) (sym (th .object-named) i)) (effect (sym (th .link-named) i) (sym (th .object-named) i))) }
 
 -- ---- room for the ends of a link type and its reverse
 
@@ -226,14 +184,8 @@ add-left side d n m s = record { is = refl }
 pub add-tests : {b : List ℕ} {d : ℕ} {n m : Name} {v : Aim} → Aimed b d n m v → v .no ≡ 0 → (side : Side)
     → Left (add-end side d n m (schema-of b)) (add-rest side d (v .link) (v .object) (schema-of b))
     (done 0 0 0 (added side d (v .link) (v .object) (schema-of b)))
-add-tests {b} {d} {n} {m} {v} aimed z side =
-    let th = aimed .through z in
-    let s = schema-of b in
-    let left = aimed-passes aimed z (add-rest side d (type-named s d n) (type-named s d m) s) (add-left side d n m s) in
-    record {
-      is = left .is ∙ (λ i. verdict (add-rest side d (sym (th .link-named) i) (sym (th .object-named) i) s)
-          (done 0 0 0 (added side d (sym (th .link-named) i) (sym (th .object-named) i) s)));
-    }
+add-tests {b} {d} {n} {m} aimed z side =
+    aimed-passes aimed z (λ l o. add-rest side d l o (schema-of b)) (λ l o. done 0 0 0 (added side d l o (schema-of b))) (add-left side d n m (schema-of b))
 
 pub full-is : {s : Schema} {l r : ℕ} → Reverse-of s l r → ends-full s (suc (length (one-or-none r))) ≡ ends-full s (length (with-reverse s l))
 full-is {s} rev = ap (λ (l : List ℕ). ends-full s (suc (length l))) (sym (rev .is))
@@ -304,14 +256,8 @@ remove-left side d n m s = record { is = refl }
 pub remove-tests : {b : List ℕ} {d : ℕ} {n m : Name} {v : Aim} → Aimed b d n m v → v .no ≡ 0 → (side : Side)
     → Left (remove-end side d n m (schema-of b)) (remove-rest side d (v .link) (v .object) (schema-of b))
     (done 0 0 0 (removed side d (v .link) (v .object) (schema-of b)))
-remove-tests {b} {d} {n} {m} {v} aimed z side =
-    let th = aimed .through z in
-    let s = schema-of b in
-    let left = aimed-passes aimed z (remove-rest side d (type-named s d n) (type-named s d m) s) (remove-left side d n m s) in
-    record {
-      is = left .is ∙ (λ i. verdict (remove-rest side d (sym (th .link-named) i) (sym (th .object-named) i) s)
-          (done 0 0 0 (removed side d (sym (th .link-named) i) (sym (th .object-named) i) s)));
-    }
+remove-tests {b} {d} {n} {m} aimed z side =
+    aimed-passes aimed z (λ l o. remove-rest side d l o (schema-of b)) (λ l o. done 0 0 0 (removed side d l o (schema-of b))) (remove-left side d n m (schema-of b))
 
 module _ {b : List ℕ} {d l o row k : ℕ} {side : Side} (count : Counted (end-count b) 512 k) (place : End-place b d l side o row) where
   pub row-none : k ≤ row → not (has-end (schema-of b) d l side o) ≡ true

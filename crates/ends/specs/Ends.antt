@@ -7,8 +7,8 @@ use Rattle.rules.specs.03-Names.{Name}
 use Rattle.rules.specs.04-Schema.{used-sds, kind-of, is-link, type-named}
 use Rattle.rules.specs.07-Picture.{Sound}
 use Rattle.rules.specs.10-Changes.{end-refusals}
-use Rattle.rules.proofs.09-Refusals.{told}
 use Rattle.base.specs.Back.{schema-of}
+use Rattle.conditions.specs.Tested.{Tested}
 use Rattle.ends.specs.declared.Aim.{Aim}
 
 -- what a call goes on with where nothing refuses
@@ -23,6 +23,5 @@ pub record Through (b : List ℕ) (d : ℕ) (n m : Name) (v : Aim) : Type 0 wher
   pub object-named : v .object ≡ type-named (schema-of b) d m
 
 pub record Aimed (b : List ℕ) (d : ℕ) (n m : Name) (v : Aim) : Type 0 where
-  pub spoiled : (Sound b → ⊥) → v .no ≡ 1
-  pub told : Sound b → v .no ≡ told (end-refusals d n m (schema-of b))
+  pub told : Tested b (end-refusals d n m (schema-of b)) (v .no)
   pub through : v .no ≡ 0 → Through b d n m v

@@ -10,8 +10,9 @@ use Rattle.base.specs.Back.{schema-of}
 use Rattle.base.proofs.SdsShown.{used-below}
 use Rattle.base.proofs.Kept.{sound-long, kept-refused, kept-done}
 use Rattle.base.proofs.StoredLaws.{sound-stored, shows-stored}
+use Rattle.conditions.proofs.TestedLaws.{begun-stops}
 use Rattle.ends.specs.Ends.{Through}
-use Rattle.ends.proofs.EndLaws.{aimed-refused, add-left, add-tests, full-is, room-first, room-second, second-free, added-one, added-both}
+use Rattle.ends.proofs.EndLaws.{add-left, add-tests, full-is, room-first, room-second, second-free, added-one, added-both}
 use Rattle.ends.proofs.add_end.Statement.{statement}
 use Rattle.ends.proofs.add_end.Tie as tie
 
@@ -37,7 +38,7 @@ same-length : tie.Need-same-length
 same-length c = search needs
 
 returns : tie.Need-returns
-returns c = aimed-refused (c .before .before .before .aimed-at .ensures) (c .before .if1 .taken) _ (add-left _ _ _ _ _) (c .refused .ensures)
+returns c = begun-stops _ (c .before .before .before .aimed-at .ensures .told) (c .before .if1 .taken) (add-left _ _ _ _ _) (c .refused .ensures)
 
 is-end-requires : tie.Need-is-end-requires
 is-end-requires c κs =

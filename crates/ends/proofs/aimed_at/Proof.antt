@@ -1,7 +1,7 @@
 use borrow.Author.Needs.{needs}
-use Prim.Native.Nat.{ℕ, _<_}
+use Prim.Native.Nat.{_<_}
 use native.Mathlib.Omega.{arith}
-use mathlib.Core.Path.{_≡_, refl, sym, _∙_}
+use mathlib.Core.Path.{_≡_, sym, _∙_}
 use mathlib.Core.Bool.{true}
 use borrow.Author.Tests.{not-true, not-false}
 use Rattle.rules.specs.03-Names.{well-formed}
@@ -10,13 +10,15 @@ use Rattle.base.specs.Back.{schema-of}
 use Rattle.base.proofs.SdsShown.{known, unknown}
 use Rattle.base.proofs.Kept.{sound-long}
 use Rattle.conditions.proofs.NameLaws.{formed-passes, malformed-stops, system-stops, system-passes, one-malformed, other-malformed, none-malformed, borne, not-borne}
-use Rattle.ends.proofs.EndLaws.{Past, come-first, come-next, aim-spoiled, aim-refused, aim-through, both-there, one-missing, other-missing}
+use Rattle.conditions.specs.Tested.Tested.{spoiled}
+use Rattle.conditions.proofs.TestedLaws.{come-first, come-next, come-stops, come-through}
+use Rattle.ends.proofs.EndLaws.{Past, not-aimed, both-there, one-missing, other-missing}
 use Rattle.ends.proofs.EndLaws.{link-is, no-link-there, no-object-there, both-kinds}
 use Rattle.ends.proofs.aimed_at.Statement.{statement}
 use Rattle.ends.proofs.aimed_at.Tie as tie
 
 past-0 : (c : tie.Else1) → let x = c .before .before .before .before .before .args in Past (x .base .now) (x .sds) (x .link .now) (x .object .now) 0
-past-0 c = come-first _ _ _ _ (c .before .is-sound .ensures .holds (not-false _ (c .if1 .left)))
+past-0 c = come-first (c .before .is-sound .ensures .holds (not-false _ (c .if1 .left)))
 
 used-2 : (c : tie.Else2) → let x = c .before .before .before .before .before .before .before .args in used-sds (schema-of (x .base .now)) (x .sds) ≡ true
 used-2 c = sym (c .before .is-sds .ensures) ∙ not-false _ (c .if2 .left)
@@ -69,7 +71,9 @@ refused-requires : tie.Need-refused-requires
 refused-requires c κs = search needs
 
 returns : tie.Need-returns
-returns c = aim-spoiled (c .before .before .is-sound .ensures .fails (not-true _ (c .before .if1 .taken))) (c .refused .ensures)
+returns c =
+    not-aimed (spoiled (c .before .before .is-sound .ensures .fails (not-true _ (c .before .if1 .taken))) (c .refused .ensures))
+    (λ z. omega (arith, c .refused .ensures))
 
 is-sds-requires : tie.Need-is-sds-requires
 is-sds-requires c κs = sound-long (past-0 c .sound)
@@ -78,15 +82,17 @@ refused-requires-2 : tie.Need-refused-requires-2
 refused-requires-2 c κs = search needs
 
 returns-2 : tie.Need-returns-2
-returns-2 c = aim-refused (past-0 (c .before .before .before))
+returns-2 c = not-aimed (come-stops (past-0 (c .before .before .before))
     (unknown _ (sound-long (past-0 (c .before .before .before) .sound)) _
-    (sym (c .before .before .is-sds .ensures) ∙ not-true _ (c .before .if2 .taken))) (omega arith) (c .refused2 .ensures)
+    (sym (c .before .before .is-sds .ensures) ∙ not-true _ (c .before .if2 .taken))) (c .refused2 .ensures))
+    (λ z. omega (arith, c .refused2 .ensures))
 
 refused-requires-3 : tie.Need-refused-requires-3
 refused-requires-3 c κs = search needs
 
 returns-3 : tie.Need-returns-3
-returns-3 c = aim-refused (past-1 (c .before .before)) (system-stops _ (c .before .if3 .taken)) (omega arith) (c .refused3 .ensures)
+returns-3 c = not-aimed (come-stops (past-1 (c .before .before)) (system-stops _ (c .before .if3 .taken)) (c .refused3 .ensures))
+    (λ z. omega (arith, c .refused3 .ensures))
 
 is-well-formed-requires : tie.Need-is-well-formed-requires
 is-well-formed-requires c κs = search needs
@@ -95,9 +101,9 @@ refused-requires-4 : tie.Need-refused-requires-4
 refused-requires-4 c κs = search needs
 
 returns-4 : tie.Need-returns-4
-returns-4 c = aim-refused (past-2 (c .before .before .before))
-    (one-malformed _ _ (malformed-stops _ (sym (c .before .before .is-well-formed .ensures) ∙ not-true _ (c .before .if4 .taken)))) (omega arith)
-    (c .refused4 .ensures)
+returns-4 c = not-aimed (come-stops (past-2 (c .before .before .before))
+    (one-malformed _ _ (malformed-stops _ (sym (c .before .before .is-well-formed .ensures) ∙ not-true _ (c .before .if4 .taken)))) (c .refused4 .ensures))
+    (λ z. omega (arith, c .refused4 .ensures))
 
 is-well-formed-requires-2 : tie.Need-is-well-formed-requires-2
 is-well-formed-requires-2 c κs = search needs
@@ -106,9 +112,9 @@ refused-requires-5 : tie.Need-refused-requires-5
 refused-requires-5 c κs = search needs
 
 returns-5 : tie.Need-returns-5
-returns-5 c = aim-refused (past-2 (c .before .before .before .before .before))
-    (other-malformed _ _ (malformed-stops _ (sym (c .before .before .is-well-formed2 .ensures) ∙ not-true _ (c .before .if5 .taken)))) (omega arith)
-    (c .refused5 .ensures)
+returns-5 c = not-aimed (come-stops (past-2 (c .before .before .before .before .before))
+    (other-malformed _ _ (malformed-stops _ (sym (c .before .before .is-well-formed2 .ensures) ∙ not-true _ (c .before .if5 .taken)))) (c .refused5 .ensures))
+    (λ z. omega (arith, c .refused5 .ensures))
 
 type-in-requires : tie.Need-type-in-requires
 type-in-requires c κs = past-3 c .sound
@@ -117,8 +123,9 @@ refused-requires-6 : tie.Need-refused-requires-6
 refused-requires-6 c κs = search needs
 
 returns-6 : tie.Need-returns-6
-returns-6 c = aim-refused (past-3 (c .before .before .before))
-    (one-missing _ _ _ _ (not-borne (c .before .before .type-in .ensures) (c .before .if6 .taken))) (omega arith) (c .refused6 .ensures)
+returns-6 c = not-aimed (come-stops (past-3 (c .before .before .before))
+    (one-missing _ _ _ _ (not-borne (c .before .before .type-in .ensures) (c .before .if6 .taken))) (c .refused6 .ensures))
+    (λ z. omega (arith, c .refused6 .ensures))
 
 type-in-requires-2 : tie.Need-type-in-requires-2
 type-in-requires-2 c κs = past-3 (c .before .before) .sound
@@ -127,8 +134,9 @@ refused-requires-7 : tie.Need-refused-requires-7
 refused-requires-7 c κs = search needs
 
 returns-7 : tie.Need-returns-7
-returns-7 c = aim-refused (past-3 (c .before .before .before .before .before))
-    (other-missing _ _ _ _ (not-borne (c .before .before .type-in2 .ensures) (c .before .if7 .taken))) (omega arith) (c .refused7 .ensures)
+returns-7 c = not-aimed (come-stops (past-3 (c .before .before .before .before .before))
+    (other-missing _ _ _ _ (not-borne (c .before .before .type-in2 .ensures) (c .before .if7 .taken))) (c .refused7 .ensures))
+    (λ z. omega (arith, c .refused7 .ensures))
 
 kind-requires : tie.Need-kind-requires
 kind-requires c κs = (sound-long (past-4 c .sound), type-6 (c .before .before) .0)
@@ -139,7 +147,8 @@ refused-requires-8 c κs = search needs
 returns-8 : tie.Need-returns-8
 returns-8 c =
     let (h, e) = type-6 (c .before .before .before .before .before) in
-    aim-refused (past-4 (c .before .before .before)) (no-link-there _ _ _ _ h e (c .before .before .kind .ensures) (c .before .if8 .taken)) (omega arith) (c .refused8 .ensures)
+    not-aimed (come-stops (past-4 (c .before .before .before)) (no-link-there _ _ _ _ h e (c .before .before .kind .ensures) (c .before .if8 .taken)) (c .refused8 .ensures))
+    (λ z. omega (arith, c .refused8 .ensures))
 
 kind-requires-2 : tie.Need-kind-requires-2
 kind-requires-2 c κs = (sound-long (past-4 (c .before .before) .sound), type-7 (c .before .before) .0)
@@ -150,25 +159,29 @@ refused-requires-9 c κs = search needs
 returns-9 : tie.Need-returns-9
 returns-9 c =
     let (h, e) = type-7 (c .before .before .before .before .before) in
-    aim-refused (past-4 (c .before .before .before .before .before))
-    (no-object-there _ _ _ _ h e (c .before .before .kind2 .ensures) (c .before .if9 .taken)) (omega arith) (c .refused9 .ensures)
+    not-aimed (come-stops (past-4 (c .before .before .before .before .before))
+    (no-object-there _ _ _ _ h e (c .before .before .kind2 .ensures) (c .before .if9 .taken)) (c .refused9 .ensures))
+    (λ z. omega (arith, c .refused9 .ensures))
 
 returns-10 : tie.Need-returns-10
 returns-10 c =
     let l = type-6 (c .before .before .before .before .before .before) in
     let o = type-7 (c .before .before .before .before) in
     let past = past-4 (c .before .before .before .before) in
-    aim-through (come-next past (both-kinds _ _ _ _ l o (c .before .before .before .kind .ensures) (c .before .before .if8 .left)
-    (c .before .kind2 .ensures) (c .if9 .left))) refl (record {
-      sound = past .sound;
-      used = used-2 (c .before .before .before .before .before .before .before .before .before .before .before .before .before);
-      outside = c .before .before .before .before .before .before .before .before .before .before .before .before .if3 .left;
-      link-below = l .0;
-      link-named = l .1;
-      link-kind = link-is (l .0) (c .before .before .before .kind .ensures) (c .before .before .if8 .left);
-      object-below = o .0;
-      object-named = o .1;
-    })
+    record {
+      told = come-through (come-next past (both-kinds _ _ _ _ l o (c .before .before .before .kind .ensures) (c .before .before .if8 .left)
+          (c .before .kind2 .ensures) (c .if9 .left)));
+      through = λ _. record {
+        sound = past .sound;
+        used = used-2 (c .before .before .before .before .before .before .before .before .before .before .before .before .before);
+        outside = c .before .before .before .before .before .before .before .before .before .before .before .before .if3 .left;
+        link-below = l .0;
+        link-named = l .1;
+        link-kind = link-is (l .0) (c .before .before .before .kind .ensures) (c .before .before .if8 .left);
+        object-below = o .0;
+        object-named = o .1;
+      };
+    }
 
 pub aimed-at-spec : {M : Type 1} → statement M
 aimed-at-spec =

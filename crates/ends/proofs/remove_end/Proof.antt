@@ -10,8 +10,9 @@ use Rattle.base.specs.Back.{schema-of, end-count}
 use Rattle.base.proofs.SdsShown.{used-below}
 use Rattle.base.proofs.Kept.{sound-long, kept-refused, kept-done}
 use Rattle.base.proofs.StoredLaws.{sound-stored, shows-stored}
+use Rattle.conditions.proofs.TestedLaws.{begun-stops}
 use Rattle.ends.specs.Ends.{Through}
-use Rattle.ends.proofs.EndLaws.{aimed-refused, remove-left, remove-tests, row-none, row-some, removed-one, mirror-row, removed-both}
+use Rattle.ends.proofs.EndLaws.{remove-left, remove-tests, row-none, row-some, removed-one, mirror-row, removed-both}
 use Rattle.ends.proofs.remove_end.Statement.{statement}
 use Rattle.ends.proofs.remove_end.Tie as tie
 
@@ -25,7 +26,8 @@ sds-1 c = used-below _ (sound-long (through-1 c .sound)) _ (through-1 c .used)
 row-2 : (c : tie.Else2) → c .before .before .before .end-row .result < end-count (c .before .before .before .before .before .before .before .before .before .before .before .before .args .base .now)
 row-2 c = omega (arith, c .before .end-count .ensures .is, c .if2 .left)
 
-there-2 : (c : tie.Else2) → let x = c .before .before .before .before .before .before .before .before .before .before .before .before .args in has-end (schema-of (x .base .now)) (x .sds) (c .before .before .before .before .before .before .before .aimed-at .result .link)
+there-2 : (c : tie.Else2) → let x = c .before .before .before .before .before .before .before .before .before .before .before .before .args in
+    has-end (schema-of (x .base .now)) (x .sds) (c .before .before .before .before .before .before .before .aimed-at .result .link)
     (read-side (x .side)) (c .before .before .before .before .before .before .before .aimed-at .result .object) ≡ true
 there-2 c = row-some (c .before .end-count .ensures) (c .before .before .before .end-row .ensures) (c .if2 .left)
 
@@ -39,7 +41,7 @@ same-length : tie.Need-same-length
 same-length c = search needs
 
 returns : tie.Need-returns
-returns c = aimed-refused (c .before .before .before .aimed-at .ensures) (c .before .if1 .taken) _ (remove-left _ _ _ _ _) (c .refused .ensures)
+returns c = begun-stops _ (c .before .before .before .aimed-at .ensures .told) (c .before .if1 .taken) (remove-left _ _ _ _ _) (c .refused .ensures)
 
 end-row-requires : tie.Need-end-row-requires
 end-row-requires c κs =
@@ -59,7 +61,9 @@ same-length-2 c = search needs
 
 returns-2 : tie.Need-returns-2
 returns-2 c =
-    kept-refused (through-1 (c .before .before .before .before .before .before) .sound) (stops (remove-tests (c .before .before .before .before .before .before .before .before .aimed-at .ensures) (c .before .before .before .before .before .before .if1 .left) _)
+    kept-refused (through-1 (c .before .before .before .before .before .before) .sound) (stops (remove-tests
+    (c .before .before .before .before .before .before .before .before .aimed-at .ensures)
+    (c .before .before .before .before .before .before .if1 .left) _)
     (row-none (c .before .before .end-count .ensures) (c .before .before .before .before .end-row .ensures) (c .before .if2 .taken))) (c .refused2 .ensures)
 
 reverse-of-requires : tie.Need-reverse-of-requires
@@ -78,9 +82,13 @@ returns-3 : tie.Need-returns-3
 returns-3 c =
     let th = through-1 (c .before .before .before .before .before .before .before .before .before .before .before .before .before) in
     kept-done (th .sound)
-    (ends (passes (remove-tests (c .before .before .before .before .before .before .before .before .before .before .before .before .before .before .before .aimed-at .ensures) (c .before .before .before .before .before .before .before .before .before .before .before .before .before .if1 .left) _) (ap not (there-2 (c .before .before .before .before .before .before .before .before)))))
+    (ends (passes (remove-tests (c .before .before .before .before .before .before .before .before .before .before .before .before .before .before
+    .before .aimed-at .ensures) (c .before .before .before .before .before .before .before .before .before .before .before .before .before .if1
+    .left) _) (ap not (there-2 (c .before .before .before .before .before .before .before .before)))))
     (c .done .ensures)
-    (removed-one (th .sound) _ (c .before .before .before .before .before .before .before .before .before .before .before .end-row .ensures) (row-2 (c .before .before .before .before .before .before .before .before)) (c .before .before .before .before .take-end .ensures) (c .before .before .before .before .before .before .reverse-of .ensures) (c .before .if3 .taken))
+    (removed-one (th .sound) _ (c .before .before .before .before .before .before .before .before .before .before .before .end-row .ensures) (row-2
+    (c .before .before .before .before .before .before .before .before)) (c .before .before .before .before .take-end .ensures)
+    (c .before .before .before .before .before .before .reverse-of .ensures) (c .before .if3 .taken))
 
 sub-end-row : tie.Need-sub-end-row
 sub-end-row c = search needs
@@ -100,8 +108,12 @@ take-end-requires-2 c κs =
     let rev = c .before .before .before .before .before .before .before .before .reverse-of .ensures in
     let out = c .before .before .before .before .before .before .take-end .ensures in (
       shows-stored out,
-      mirror-row (through-1 (c .before .before .before .before .before .before .before .before .before .before .before .before .before .before .before) .sound) _ (c .before .before .before .before .before .before .before .before .before .before .before .before .before .end-row .ensures) (row-2 (c .before .before .before .before .before .before .before .before .before .before)) out rev
-          (c .before .before .before .before .before .before .before .before .before .before .before .before .before .before .before .before .before .before .before .before .before .before .pre) (omega (arith, rev .fits, c .before .before .before .if3 .left)) (c .before .end-row2 .ensures) (there-2 (c .before .before .before .before .before .before .before .before .before .before)),
+      mirror-row (through-1 (c .before .before .before .before .before .before .before .before .before .before .before .before .before .before
+          .before) .sound) _ (c .before .before .before .before .before .before .before .before .before .before .before .before .before .end-row
+          .ensures) (row-2 (c .before .before .before .before .before .before .before .before .before .before)) out rev
+          (c .before .before .before .before .before .before .before .before .before .before .before .before .before .before .before .before .before
+          .before .before .before .before .before .pre) (omega (arith, rev .fits, c .before .before .before .if3 .left))
+          (c .before .end-row2 .ensures) (there-2 (c .before .before .before .before .before .before .before .before .before .before)),
     )
 
 done-requires-2 : tie.Need-done-requires-2
@@ -115,10 +127,20 @@ returns-4 c =
     let th = through-1 (c .before .before .before .before .before .before .before .before .before .before .before .before .before .before .before .before .before .before .before) in
     let rev = c .before .before .before .before .before .before .before .before .before .before .before .before .reverse-of .ensures in
     kept-done (th .sound)
-    (ends (passes (remove-tests (c .before .before .before .before .before .before .before .before .before .before .before .before .before .before .before .before .before .before .before .before .before .aimed-at .ensures) (c .before .before .before .before .before .before .before .before .before .before .before .before .before .before .before .before .before .before .before .if1 .left) _) (ap not (there-2 (c .before .before .before .before .before .before .before .before .before .before .before .before .before .before)))))
+    (ends (passes (remove-tests (c .before .before .before .before .before .before .before .before .before .before .before .before .before .before
+    .before .before .before .before .before .before .before .aimed-at .ensures)
+    (c .before .before .before .before .before .before .before .before .before .before .before .before .before .before .before .before .before
+    .before .before .if1 .left) _) (ap not (there-2 (c .before .before .before .before .before .before .before .before .before .before .before
+    .before .before .before)))))
     (c .done2 .ensures)
-    (removed-both (th .sound) _ (c .before .before .before .before .before .before .before .before .before .before .before .before .before .before .before .before .before .end-row .ensures) (row-2 (c .before .before .before .before .before .before .before .before .before .before .before .before .before .before)) (c .before .before .before .before .before .before .before .before .before .before .take-end .ensures) rev
-    (c .before .before .before .before .before .before .before .before .before .before .before .before .before .before .before .before .before .before .before .before .before .before .before .before .before .before .pre) (omega (arith, rev .fits, c .before .before .before .before .before .before .before .if3 .left)) (c .before .before .before .before .before .end-row2 .ensures) (there-2 (c .before .before .before .before .before .before .before .before .before .before .before .before .before .before)) (c .before .before .before .take-end2 .ensures))
+    (removed-both (th .sound) _ (c .before .before .before .before .before .before .before .before .before .before .before .before .before .before
+    .before .before .before .end-row .ensures) (row-2 (c .before .before .before .before .before .before .before .before .before .before .before
+    .before .before .before)) (c .before .before .before .before .before .before .before .before .before .before .take-end .ensures) rev
+    (c .before .before .before .before .before .before .before .before .before .before .before .before .before .before .before .before .before
+    .before .before .before .before .before .before .before .before .before .pre) (omega
+    (arith, rev .fits, c .before .before .before .before .before .before .before .if3 .left))
+    (c .before .before .before .before .before .end-row2 .ensures) (there-2 (c .before .before .before .before .before .before .before .before
+    .before .before .before .before .before .before)) (c .before .before .before .take-end2 .ensures))
 
 pub remove-end-spec : {M : Type 1} → statement M
 remove-end-spec =

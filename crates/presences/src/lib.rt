@@ -1,3 +1,4 @@
-// The presences of types in SDSs: renamed, and removed.
+// The presences of types in SDSs: imported, removed and renamed.
+pub mod import;
 pub mod remove;
 pub mod rename;

@@ -1,0 +1,12 @@
+use Rattle.presences.proofs.ImportLaws.{blank-idle, given-idle}
+use Rattle.presences.proofs.import.is_idle.Statement.{statement}
+use Rattle.presences.proofs.import.is_idle.Tie as tie
+
+returns : tie.Need-returns
+returns c = blank-idle (c .before .args .name .now) _ (c .if1 .taken)
+
+returns-2 : tie.Need-returns-2
+returns-2 c = given-idle (c .before .args .name .now) (c .before .args .reverse) (c .if1 .left)
+
+pub is-idle-spec : {M : Type 1} → statement M
+is-idle-spec = tie.close (tie.spec returns returns-2)

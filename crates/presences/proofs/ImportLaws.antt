@@ -77,6 +77,10 @@ idle-is {s} n e rev q = ap (λ (l : List ℕ). not (blank n) && eqb (length l) 0
 
 -- ---- what is tested before the names are filled in
 
+-- what was tested of the type that was found
+pub of-named : {t t′ : ℕ} {x : Bool} (p : ℕ → Bool) → t ≡ t′ → x ≡ p t → p t′ ≡ x
+of-named p e q = ap p (sym e) ∙ sym q
+
 abbrev pub Past : List ℕ → ℕ → ℕ → Name → Name → Name → ℕ → Type 0
 Past b target source n new new-reverse k =
     Come b (first-refusals target source n new new-reverse (schema-of b)) (drop k (first-refusals target source n new new-reverse (schema-of b)))

@@ -1,114 +1,119 @@
 use borrow.Author.Needs.{needs}
+use mathlib.Core.Path.{_≡_, ap, _∙_}
+use Rattle.rules.specs.03-Names.{well-formed}
+use Rattle.base.proofs.Back.{sound-good}
+use Rattle.conditions.proofs.TestedLaws.{tested-stops}
+use Rattle.presences.specs.Import.{Importable}
+use Rattle.presences.proofs.ImportLaws.{import-left, import-one, import-both, reverse-below, reverse-there, filled-formed, cut-is}
 use Rattle.presences.proofs.import.import.Statement.{statement}
 use Rattle.presences.proofs.import.import.Tie as tie
-use Rattle.presences.proofs.import.import.Reads as reads
-use Rattle.presences.proofs.import.import.Lts as lts
-use Rattle.names.proofs.name_length.Reads as name-length-reads
-use Rattle.presences.proofs.import.enter_both.Reads as enter-both-reads
-use Rattle.presences.proofs.import.enter_one.Reads as enter-one-reads
-use Rattle.presences.proofs.import.filled.Reads as filled-reads
-use Rattle.presences.proofs.import.named_by.Reads as named-by-reads
-use Rattle.rules.proofs.Answer.refused.Reads as refused-reads
 
--- src/import.rt:190:9
+ready-1 : (c : tie.Else1) → let x = c .before .before .before .before .before .before .before .before .args in let v = c .before .before .named-by .result in
+    Importable (x .base .now) (x .target) (x .source) (x .name .now) (x .new .now) (x .new-reverse .now) (v .t) (v .reverse)
+ready-1 c = c .before .before .named-by .ensures .ready (c .if1 .left)
+
 named-by-requires : tie.Need-named-by-requires
 named-by-requires c κs = search needs
 
--- src/import.rt:192:9
 refused-requires : tie.Need-refused-requires
 refused-requires c κs = search needs
 
--- src/import.rt:192:9
 same-length : tie.Need-same-length
 same-length c = search needs
 
--- src/import.rt:192:9
 returns : tie.Need-returns
-returns c = ?
+returns c = tested-stops (c .before .before .before .named-by .ensures .told) (c .before .if1 .taken) (import-left _ _ _ _ _ _) (c .refused .ensures)
 
--- src/import.rt:194:17
 filled-requires : tie.Need-filled-requires
-filled-requires c κs = ?
+filled-requires c κs = let r = ready-1 (c .before) in (r .sound, (r .there, r .formed))
 
--- src/import.rt:195:32
 slice-aggregate-name-length : tie.Need-slice-aggregate-name-length
 slice-aggregate-name-length c = search needs
 
--- src/import.rt:195:9
 name-length-requires : tie.Need-name-length-requires
 name-length-requires c κs = search needs
 
--- src/import.rt:197:40
 sub-enter-one : tie.Need-sub-enter-one
 sub-enter-one c = search needs
 
--- src/import.rt:197:40
 part-enter-one-start : tie.Need-part-enter-one-start
 part-enter-one-start c = search needs
 
--- src/import.rt:197:40
 part-enter-one-end : tie.Need-part-enter-one-end
 part-enter-one-end c = search needs
 
--- src/import.rt:197:9
 enter-one-requires : tie.Need-enter-one-requires
-enter-one-requires c κs = ?
+enter-one-requires c κs =
+    let x = c .before .before .before .before .before .before .before .before .before .before .before .before .before .before .before .before .before .args in
+    let v = c .before .before .before .before .before .before .before .before .before .before .before .named-by .result in
+    let r = ready-1 (c .before .before .before .before .before .before .before .before .before) in
+    (r .sound, ((r .small, r .below), ap well-formed (cut-is (c .before .before .before .before .before .name-length .ensures) ∙ c .before .before .before .before .before .before .before .filled .ensures)
+    ∙ filled-formed (sound-good (r .sound)) (x .source) (v .t) (x .new .now) (r .there) (r .formed)))
 
--- src/import.rt:197:9
 same-length-2 : tie.Need-same-length-2
 same-length-2 c = search needs
 
--- src/import.rt:197:9
 returns-2 : tie.Need-returns-2
-returns-2 c = ?
+returns-2 c = import-one (c .before .before .before .before .before .before .before .before .before .before .before .before .before .before .named-by .ensures) (c .before .before .before .before .before .before .before .before .before .before .before .before .if1 .left) (c .before .before .before .before .before .before .if2 .taken)
+    (cut-is (c .before .before .before .before .before .before .before .before .name-length .ensures) ∙ c .before .before .before .before .before .before .before .before .before .before .filled .ensures) (c .before .before .enter-one .ensures)
 
--- src/import.rt:199:18
 filled-requires-2 : tie.Need-filled-requires-2
-filled-requires-2 c κs = ?
+filled-requires-2 c κs =
+    let r = ready-1 (c .before .before .before .before .before .before .before) in
+    (r .sound, (reverse-there (c .before .before .before .before .before .before .before .before .before .named-by .ensures) (c .before .before .before .before .before .before .before .if1 .left) (c .before .if2 .left), r .formed-reverse))
 
--- src/import.rt:200:32
 slice-aggregate-name-length-2 : tie.Need-slice-aggregate-name-length-2
 slice-aggregate-name-length-2 c = search needs
 
--- src/import.rt:200:9
 name-length-requires-2 : tie.Need-name-length-requires-2
 name-length-requires-2 c κs = search needs
 
--- src/import.rt:201:30
 sub-enter-both : tie.Need-sub-enter-both
 sub-enter-both c = search needs
 
--- src/import.rt:201:30
 part-enter-both-start : tie.Need-part-enter-both-start
 part-enter-both-start c = search needs
 
--- src/import.rt:201:30
 part-enter-both-end : tie.Need-part-enter-both-end
 part-enter-both-end c = search needs
 
--- src/import.rt:201:53
 sub-enter-both-2 : tie.Need-sub-enter-both-2
 sub-enter-both-2 c = search needs
 
--- src/import.rt:201:53
 part-enter-both-start-2 : tie.Need-part-enter-both-start-2
 part-enter-both-start-2 c = search needs
 
--- src/import.rt:201:53
 part-enter-both-end-2 : tie.Need-part-enter-both-end-2
 part-enter-both-end-2 c = search needs
 
--- src/import.rt:201:5
 enter-both-requires : tie.Need-enter-both-requires
-enter-both-requires c κs = ?
+enter-both-requires c κs =
+    let x = c .before .before .before .before .before .before .before .before .before .before .before .before .before .before .before .before .before .before .before .before .before .before .before .args in
+    let v = c .before .before .before .before .before .before .before .before .before .before .before .before .before .before .before .before .before .named-by .result in
+    let named = c .before .before .before .before .before .before .before .before .before .before .before .before .before .before .before .before .before .named-by .ensures in
+    let z = c .before .before .before .before .before .before .before .before .before .before .before .before .before .before .before .if1 .left in
+    let e = c .before .before .before .before .before .before .before .before .before .if2 .left in
+    let r = ready-1 (c .before .before .before .before .before .before .before .before .before .before .before .before .before .before .before) in
+    let good = sound-good (r .sound) in (
+      r .sound,
+      (
+        (r .small, (r .below, reverse-below named z e)),
+        (
+          ap well-formed (cut-is (c .before .before .before .before .before .before .before .before .before .before .before .name-length .ensures) ∙ c .before .before .before .before .before .before .before .before .before .before .before .before .before .filled .ensures)
+              ∙ filled-formed good (x .source) (v .t) (x .new .now) (r .there) (r .formed),
+          ap well-formed (cut-is (c .before .before .before .before .before .name-length2 .ensures) ∙ c .before .before .before .before .before .before .before .filled2 .ensures)
+              ∙ filled-formed good (x .source) (v .reverse) (x .new-reverse .now) (reverse-there named z e) (r .formed-reverse),
+        ),
+      ),
+    )
 
--- src/import.rt:180:1
 same-length-3 : tie.Need-same-length-3
 same-length-3 c = search needs
 
--- src/import.rt:180:1
 returns-3 : tie.Need-returns-3
-returns-3 c = ?
+returns-3 c = import-both (c .before .before .before .before .before .before .before .before .before .before .before .before .before .before .before .before .before .before .before .before .named-by .ensures) (c .before .before .before .before .before .before .before .before .before .before .before .before .before .before .before .before .before .before .if1 .left) (c .before .before .before .before .before .before .before .before .before .before .before .before .if2 .left)
+    (cut-is (c .before .before .before .before .before .before .before .before .before .before .before .before .before .before .name-length .ensures) ∙ c .before .before .before .before .before .before .before .before .before .before .before .before .before .before .before .before .filled .ensures) (cut-is (c .before .before .before .before .before .before .before .before .name-length2 .ensures) ∙ c .before .before .before .before .before .before .before .before .before .before .filled2 .ensures)
+    (c .before .before .enter-both .ensures)
 
 pub import-spec : {M : Type 1} → statement M
 import-spec =

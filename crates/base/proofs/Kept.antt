@@ -1,6 +1,6 @@
 -- A call keeps its contract where it does what its rule says of the schema that the bytes show. Assumes nothing.
 use Prim.Native.Nat.{ℕ, _<_}
-use mathlib.Core.Path.{_≡_, refl, sym, ap, _∙_}
+use mathlib.Core.Path.{_≡_, refl, sym, ap, _∙_, subst}
 use mathlib.Core.List.{List}
 use lib.ListN.{length, set}
 use Rattle.rules.specs.declared.Answer.{Answer}
@@ -43,6 +43,17 @@ module _ {b : List ℕ} {rule : Schema → Outcome Schema} {a : Answer} where
   pub kept-done : {after : List ℕ} {x y z : ℕ} {next : Schema} → Sound b → rule (schema-of b) ≡ done x y z next → a ≡ success x y z
       → after ≡ picture next → Kept b rule a after
   kept-done s₀ r e f = kept-as s₀ r e f
+
+-- a call that keeps a rule keeps any other that says the same of that schema
+pub kept-like : {b after : List ℕ} {rule other : Schema → Outcome Schema} {a : Answer} → rule (schema-of b) ≡ other (schema-of b) → Kept b other a after
+    → Kept b rule a after
+kept-like {b} {rule = rule} {other = other} e k = record {
+  spoiled = k .spoiled;
+  kept = λ s g p.
+      let same : rule s ≡ other s = subst (λ (x : Schema). rule x ≡ other x) (shown-by g p) e in
+      let (x, y) = k .kept s g p in
+      (x ∙ ap answer-of (sym same), y ∙ ap (base-after b) (sym same));
+}
 
 module _ {b : List ℕ} {rule : Schema → Outcome (List ℕ)} {a : Answer} where
   pub listed-spoiled : {out : List ℕ} → (Sound b → ⊥) → a ≡ refusal 1 → Listed b rule a out out

@@ -36,7 +36,7 @@ written-past p q r at m e =
     rw (far, drop-append-add p q (m + length r), e, take-append-add p q m) (append-assoc p (take m q) (r ++ drop (m + length r) q))
 
 -- over p
-written-over : (p q r : List ℕ) → length p ≡ length r → written (p ++ q) 0 r ≡ r ++ q
+pub written-over : (p q r : List ℕ) → length p ≡ length r → written (p ++ q) 0 r ≡ r ++ q
 unfolding written
 written-over p q r e = ap (λ (x : List ℕ). r ++ x) (drop-at p q (0 + length r) (omega (arith, e)))
 

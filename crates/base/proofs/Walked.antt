@@ -8,13 +8,16 @@ use lib.Dec.{ltb, eqb}
 use lib.ListN.{getD}
 use borrow.Author.Tests.{ltb-true, ltb-false, eqb-true, eq-eqb}
 use Rattle.rules.specs.01-Lists.{_∈_, any}
-use Rattle.rules.specs.04-Schema.{Presence, Application, End, holds-type}
+use Rattle.rules.specs.04-Schema.{Presence, Application, End, system-presence, holds-type, present, local-name}
+use Rattle.rules.specs.11-Asks.{place}
 use Rattle.rules.proofs.Bools.{and-both, and-of}
 use Rattle.rules.proofs.01-Lists.{any-at, any-none}
-use Rattle.base.specs.Rows.{presence-at}
+use Rattle.rules.proofs.07-Picture.{strip}
+use Rattle.rules.proofs.11-Asks.{place-is, local-at}
+use Rattle.base.specs.Rows.{presence-at, part}
 use Rattle.base.specs.Back.{schema-of, presence-count, application-count, end-count, presence-shown, application-shown, end-shown}
 use Rattle.base.specs.Found.{Row-of, Presence-row, First-row}
-use Rattle.base.proofs.Shown.{presence-there, presence-in, application-there, application-in, end-there, end-in}
+use Rattle.base.proofs.Shown.{presences-long, presence-is, presence-there, presence-in, application-there, application-in, end-there, end-in}
 
 -- ---- any table: `there` and `only` say that its n rows show the list
 
@@ -91,3 +94,22 @@ module _ (b : List ℕ) where
 
     pub presence-first : {n r : ℕ} → Presence-row b n d t r → First-row n (λ i. holds-type d t (presence-shown b i)) r
     presence-first p = record { fits = p .fits; others = λ i h. not-row i (p .others i h); found = λ h. row-holds _ (p .found h) }
+
+    module _ {r : ℕ} (p : Presence-row b (presence-count b) d t r) where
+      -- a type that is in the SDS has a row
+      pub row-below : present (schema-of b) d t ≡ true → r < presence-count b
+      unfolding present
+      row-below e = ltb-true r (presence-count b) (first-presence (holds-type d t) (presence-first p) ∙ e)
+
+      -- with its local name
+      pub row-name : present (schema-of b) d t ≡ true → strip (part b (presence-at r + 1) 16) ≡ local-name (schema-of b) d t
+      row-name e =
+          let h = row-below e in
+          let f = presence-first p in
+          let ps = (schema-of b) .presences in
+          let at : place (holds-type d t) ps ≡ r
+          = place-is (holds-type d t) system-presence ps r (omega (arith, presences-long b))
+          (λ i k. ap (holds-type d t) (presence-is b i system-presence (omega arith)) ∙ f .others i k)
+          (ap (holds-type d t) (presence-is b r system-presence h) ∙ f .found h) in
+          sym (local-at (schema-of b) d t e .1 ∙ ap (λ (k : ℕ). (getD ps k system-presence) .name) at
+          ∙ ap (λ (q : Presence). q .name) (presence-is b r system-presence h))

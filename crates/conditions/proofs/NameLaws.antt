@@ -2,11 +2,13 @@
 use Prim.Native.Nat.{ℕ}
 use native.Mathlib.Omega.{arith}
 use mathlib.Core.Path.{_≡_, refl, ap}
+use mathlib.Core.List.{[], _∷_}
 use mathlib.Core.Bool.{Bool, true, false, not, _||_}
 use borrow.Author.Tests.{eq-eqb, ne-eqb}
-use Rattle.rules.specs.03-Names.{Name, well-formed}
+use Rattle.rules.specs.01-Lists.{any}
+use Rattle.rules.specs.03-Names.{Name, well-formed, same-name}
 use Rattle.rules.specs.04-Schema.{Schema, bears}
-use Rattle.rules.specs.09-Refusals.{system-sds, malformed, no-such-name}
+use Rattle.rules.specs.09-Refusals.{system-sds, malformed, no-such-name, names-taken}
 use Rattle.rules.proofs.Bools.{or-left, or-right}
 use Rattle.working.specs.Listed.{Named-in}
 
@@ -58,3 +60,31 @@ name-there s d n e = ap not e
 pub name-missing : (s : Schema) (d : ℕ) (n : Name) → bears s d n ≡ false → no-such-name s d n ≡ true
 unfolding no-such-name
 name-missing s d n e = ap not e
+
+-- ---- new names: one, or the two of a call
+
+module _ (s : Schema) (d : ℕ) (n : Name) where
+  pub one-taken : bears s d n ≡ true → names-taken s d (n ∷ []) ≡ true
+  unfolding names-taken any
+  one-taken e = rw e
+
+  pub one-free : bears s d n ≡ false → names-taken s d (n ∷ []) ≡ false
+  unfolding names-taken any
+  one-free e = rw e
+
+  module _ (m : Name) where
+    pub first-taken : bears s d n ≡ true → names-taken s d (n ∷ m ∷ []) ≡ true
+    unfolding names-taken any
+    first-taken e = rw e
+
+    pub second-taken : bears s d n ≡ false → bears s d m ≡ true → names-taken s d (n ∷ m ∷ []) ≡ true
+    unfolding names-taken any
+    second-taken e f = rw (e, f)
+
+    pub two-alike : bears s d n ≡ false → bears s d m ≡ false → same-name n m ≡ true → names-taken s d (n ∷ m ∷ []) ≡ true
+    unfolding names-taken any
+    two-alike e f g = rw (e, f, g)
+
+    pub both-free : bears s d n ≡ false → bears s d m ≡ false → same-name n m ≡ false → names-taken s d (n ∷ m ∷ []) ≡ false
+    unfolding names-taken any
+    both-free e f g = rw (e, f, g)

@@ -1,49 +1,48 @@
 -- Import: its refusals test by test, the names that it fills in, and the presences that come into the target. Assumes nothing.
 use Prim.Native.Nat.{ℕ, _+_, _-_, _≤_, _<_}
 use native.Mathlib.Omega.{arith}
-use mathlib.Core.Path.{_≡_, refl, sym, ap, _∙_, subst}
-use mathlib.Core.List.{List, [], _∷_, _++_, map, append-nil}
+use mathlib.Core.Path.{_≡_, refl, sym, ap, _∙_}
+use mathlib.Core.List.{List, [], _∷_, map, append-nil}
 use mathlib.Core.Bool.{Bool, true, false, not, cond, _&&_, _||_, true≢false}
 use lib.Dec.{leb, ltb, eqb}
-use lib.ListN.{length, getD, take, drop, replicate, length-take, length-drop, drop-of-length-le}
+use lib.ListN.{length, getD, take, drop, replicate}
 use borrow.Author.Tests.{eq-eqb, ne-eqb, ltb-true, ltb-false, lt-ltb, le-ltb, le-leb, lt-leb}
 use Rattle.rules.specs.declared.Answer.{Answer}
-use Rattle.rules.specs.01-Lists.{_∈_, any, all, first, put}
+use Rattle.rules.specs.01-Lists.{all, first, put}
 use Rattle.rules.specs.03-Names.{Name, well-formed, blank, same-name}
-use Rattle.rules.specs.04-Schema.{Schema, Presence, system-presence, kind-of, reverse, holds-type, holds-name, present, bears, type-named, local-name}
+use Rattle.rules.specs.04-Schema.{Schema, Presence, reverse, holds-type, holds-name, present, bears, type-named, local-name}
 use Rattle.rules.specs.04-Schema.{presence-before}
 use Rattle.rules.specs.06-Good.{Good}
-use Rattle.rules.specs.07-Picture.{Sound, pad, picture, base-length}
-use Rattle.rules.specs.09-Refusals.{Outcome, Refusals, verdict, answer-of, unknown-sds, malformed, malformed-new, idle-reverse-name, names-taken, presences-full}
+use Rattle.rules.specs.07-Picture.{Sound, pad, picture}
+use Rattle.rules.specs.09-Refusals.{Outcome, verdict, unknown-sds, malformed, malformed-new, idle-reverse-name, names-taken, presences-full}
 use Rattle.rules.specs.09-Refusals.Outcome.{done}
 use Rattle.rules.specs.10-Changes.{with-presences, put-all, filled, imported, import}
-use Rattle.rules.specs.11-Asks.{place}
-use Rattle.rules.specs.12-Contracts.{Kept, base-after}
+use Rattle.rules.specs.12-Contracts.{Kept}
 use Rattle.rules.proofs.Bools.{and-of, and-rest, or-left, or-right, or-neither}
 use Rattle.rules.proofs.01-Lists.{any-at}
 use Rattle.rules.proofs.Edits.{put-long, put-none, first-in}
 use Rattle.rules.proofs.03-Names.{formed-long}
 use Rattle.rules.proofs.07-Picture.{strip, strip-pad}
 use Rattle.rules.proofs.09-Refusals.{Left}
-use Rattle.rules.proofs.11-Asks.{place-is, local-at}
 use Rattle.base.specs.Rows.{presence-at, part}
 use Rattle.base.specs.Back.{schema-of, presence-count}
 use Rattle.base.specs.Found.{Presence-row}
 use Rattle.base.specs.Stored.{Shows}
 use Rattle.base.specs.Table.{written}
-use Rattle.base.proofs.Back.{way-back, sound-good}
-use Rattle.base.proofs.Shown.{presences-long, presence-is}
-use Rattle.base.proofs.SdsWritten.{field-written}
+use Rattle.base.proofs.Back.{sound-good}
+use Rattle.base.proofs.Kept.{sound-long, kept-like}
+use Rattle.base.proofs.Shown.{presences-long}
+use Rattle.base.proofs.SdsWritten.{written-over, field-written}
+use Rattle.base.proofs.Scan.{length-part}
 use Rattle.base.proofs.StoredLaws.{shows-schema, shows-next}
-use Rattle.base.proofs.Walked.{presence-first}
+use Rattle.base.proofs.Walked.{row-below, row-name}
 use Rattle.names.specs.Field.{Stripped}
 use Rattle.conditions.specs.Reverse.{one-or-none, Reverse-of}
 use Rattle.conditions.specs.Tested.{Tested}
-use Rattle.conditions.proofs.ConditionLaws.{present-row}
 use Rattle.conditions.proofs.ReverseLaws.{one-is, none-is}
 use Rattle.conditions.proofs.TestedLaws.{Come, tested-passes}
 use Rattle.presences.specs.declared.import.Named.{Named}
-use Rattle.presences.specs.Import.{first-refusals, Importable, Chosen, presence-of, enter-refusals, enter}
+use Rattle.presences.specs.Import.{first-refusals, Chosen, presence-of, enter-refusals, enter}
 use Rattle.presences.proofs.HeldLaws.{bearer}
 
 -- ---- the tests of the names and of the reverse
@@ -146,66 +145,20 @@ given-filled s d t n field e h w =
     ap strip (w ∙ field-written [] [] n 16 0 refl (given-long n e h) ∙ append-nil (pad 16 n))
     ∙ strip-pad n (given-formed n e h) ∙ rw (ne-eqb (length n) 0 h)
 
--- a whole field written over another
-over-all : (l : List ℕ) → length l ≡ 16 → written (replicate 16 0) 0 l ≡ l
-unfolding written
-over-all l e = ap (λ (x : List ℕ). l ++ x) (drop-of-length-le (replicate 16 0) {i = 0 + length l} (omega (arith, e))) ∙ append-nil l
+module _ {b : List ℕ} {d t r : ℕ} (found : Presence-row b (presence-count b) d t r) (s : Sound b) (e : present (schema-of b) d t ≡ true) where
+  pub row-room : r < 512
+  row-room = omega (arith, row-below b d t found e, sound-good s .presence-room, presences-long b)
 
-module _ {b : List ℕ} {d t r : ℕ} (found : Presence-row b (presence-count b) d t r) where
-  -- a type that is there has a row
-  pub row-below : present (schema-of b) d t ≡ true → r < presence-count b
-  row-below e = ltb-true r (presence-count b) (present-row refl found ∙ e)
+  pub own-long : {own : Name} → own ≡ part b (presence-at r + 1) 16 → length own ≡ 16
+  own-long o = ap length o ∙ length-part b (presence-at r + 1) 16 (omega (arith, sound-long s, row-room))
 
-  -- the name in that row is its local name
-  name-in-row : present (schema-of b) d t ≡ true → strip (part b (presence-at r + 1) 16) ≡ local-name (schema-of b) d t
-  name-in-row e =
-      let h = row-below e in
-      let f = presence-first b d t found in
-      let ps = (schema-of b) .presences in
-      let at : place (holds-type d t) ps ≡ r
-      = place-is (holds-type d t) system-presence ps r (omega (arith, presences-long b))
-      (λ i k. ap (holds-type d t) (presence-is b i system-presence (omega arith)) ∙ f .others i k)
-      (ap (holds-type d t) (presence-is b r system-presence h) ∙ f .found h) in
-      sym (local-at (schema-of b) d t e .1 ∙ ap (λ (k : ℕ). (getD ps k system-presence) .name) at
-      ∙ ap (λ (p : Presence). p .name) (presence-is b r system-presence h))
+  -- the whole field of its name in the source is
+  pub own-filled : (n : Name) {own field : Name} → length n ≡ 0 → own ≡ part b (presence-at r + 1) 16 → field ≡ written (replicate 16 0) 0 own
+      → strip field ≡ filled (schema-of b) d t n
+  own-filled n {own} z o w =
+      ap strip (w ∙ written-over (replicate 16 0) [] own (sym (own-long o)) ∙ append-nil own ∙ o) ∙ row-name b d t found e ∙ rw (eq-eqb (length n) 0 z)
 
-  pub row-room : Sound b → present (schema-of b) d t ≡ true → r < 512
-  row-room s e = let h = row-below e in omega (arith, sound-good s .presence-room, presences-long b)
-
-  pub source-filled : Sound b → present (schema-of b) d t ≡ true → (n own field : Name) → length n ≡ 0 → own ≡ part b (presence-at r + 1) 16
-      → length own ≡ 16 → field ≡ written (replicate 16 0) 0 own → strip field ≡ filled (schema-of b) d t n
-  source-filled s e n own field z o l w = ap strip (w ∙ over-all own l ∙ o) ∙ name-in-row e ∙ rw (eq-eqb (length n) 0 z)
-
-pub field-long : (b : List ℕ) → length b ≡ base-length → (i : ℕ) → i < 512 → length (part b (presence-at i + 1) 16) ≡ 16
-field-long b l i h = length-take 16 (drop (presence-at i + 1) b) ∙ omega (arith, length-drop (presence-at i + 1) b)
-
--- ---- the names and the room in the target
-
-module _ (s : Schema) (d : ℕ) (n : Name) where
-  pub one-taken : bears s d n ≡ true → names-taken s d (n ∷ []) ≡ true
-  unfolding names-taken any
-  one-taken e = rw e
-
-  pub one-free : bears s d n ≡ false → names-taken s d (n ∷ []) ≡ false
-  unfolding names-taken any
-  one-free e = rw e
-
-  module _ (m : Name) where
-    pub first-taken : bears s d n ≡ true → names-taken s d (n ∷ m ∷ []) ≡ true
-    unfolding names-taken any
-    first-taken e = rw e
-
-    pub second-taken : bears s d n ≡ false → bears s d m ≡ true → names-taken s d (n ∷ m ∷ []) ≡ true
-    unfolding names-taken any
-    second-taken e f = rw (e, f)
-
-    pub two-alike : bears s d n ≡ false → bears s d m ≡ false → same-name n m ≡ true → names-taken s d (n ∷ m ∷ []) ≡ true
-    unfolding names-taken any
-    two-alike e f g = rw (e, f, g)
-
-    pub both-free : bears s d n ≡ false → bears s d m ≡ false → same-name n m ≡ false → names-taken s d (n ∷ m ∷ []) ≡ false
-    unfolding names-taken any
-    both-free e f g = rw (e, f, g)
+-- ---- the room for presences
 
 module _ (b : List ℕ) (more : ℕ) where
   pub no-room : 512 < presence-count b + more → presences-full (schema-of b) more ≡ true
@@ -265,17 +218,6 @@ pub import-left : (target source : ℕ) (n new new-reverse : Name) (s : Schema) 
     (rest-of target source new new-reverse s (type-named s source n) (reverse s (type-named s source n)))
 unfolding import imported verdict
 import-left target source n new new-reverse s = record { is = refl }
-
--- a call that keeps a rule keeps any that says the same of the schema
-kept-like : {b after : List ℕ} {rule other : Schema → Outcome Schema} {a : Answer} → rule (schema-of b) ≡ other (schema-of b) → Kept b other a after
-    → Kept b rule a after
-kept-like {b} {rule = rule} {other = other} e k = record {
-  spoiled = k .spoiled;
-  kept = λ s g p.
-      let same : rule s ≡ other s = subst (λ (x : Schema). rule x ≡ other x) (ap schema-of p ∙ way-back g) e in
-      let (x, y) = k .kept s g p in
-      (x ∙ ap answer-of (sym same), y ∙ ap (base-after b) (sym same));
-}
 
 module _ {b : List ℕ} {target source : ℕ} {n new new-reverse : Name} {v : Named} (chosen : Chosen b target source n new new-reverse v) (z : v .no ≡ 0) where
   left : import target source n new new-reverse (schema-of b) ≡ rest-of target source new new-reverse (schema-of b) (v .t) (one-or-none (v .reverse))

@@ -198,5 +198,12 @@ pub fn import(
     }
     let second = filled(base, source, named.reverse, new_reverse);
     let m = names::name_length(&second);
-    enter_both(base, target, &first[0..n], named.t, &second[0..m], named.reverse)
+    enter_both(
+        base,
+        target,
+        &first[0..n],
+        named.t,
+        &second[0..m],
+        named.reverse,
+    )
 }

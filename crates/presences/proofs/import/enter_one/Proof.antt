@@ -1,13 +1,24 @@
 use borrow.Author.Needs.{needs}
+use Prim.Native.Nat.{_+_, _≤_}
 use native.Mathlib.Omega.{arith}
+use mathlib.Core.Path.{_≡_}
+use mathlib.Core.Bool.{false}
+use Rattle.rules.specs.04-Schema.{bears}
+use Rattle.base.specs.Back.{schema-of, presence-count}
 use Rattle.rules.proofs.09-Refusals.{passes, stops, ends}
 use Rattle.base.proofs.Kept.{sound-long, kept-refused, kept-done}
 use Rattle.base.proofs.Shown.{presences-long}
 use Rattle.base.proofs.StoredLaws.{sound-stored}
-use Rattle.conditions.proofs.NameLaws.{borne, not-borne}
-use Rattle.presences.proofs.ImportLaws.{enter-left, one-taken, one-free, no-room, some-room, entered-one}
+use Rattle.conditions.proofs.NameLaws.{borne, not-borne, one-taken, one-free}
+use Rattle.presences.proofs.ImportLaws.{enter-left, no-room, some-room, entered-one}
 use Rattle.presences.proofs.import.enter_one.Statement.{statement}
 use Rattle.presences.proofs.import.enter_one.Tie as tie
+
+free-1 : (c : tie.Else1) → let x = c .before .before .before .before .before .args in bears (schema-of (x .base .now)) (x .d) (x .name .now) ≡ false
+free-1 c = not-borne (c .before .type-in .ensures) (c .if1 .left)
+
+fits-2 : (c : tie.Else2) → presence-count (c .before .before .before .before .before .before .before .before .args .base .now) + 1 ≤ 512
+fits-2 c = let h = c .if2 .left in omega (arith, c .before .presence-count .ensures .is)
 
 type-in-requires : tie.Need-type-in-requires
 type-in-requires c κs = c .before .before .before .pre .0
@@ -33,23 +44,16 @@ same-length-2 c = search needs
 
 returns-2 : tie.Need-returns-2
 returns-2 c = kept-refused (c .before .before .before .before .before .before .before .before .before .pre .0)
-    (stops (passes (enter-left _ _ _ _ _) (one-free _ _ _ (not-borne (c .before .before .before .before .before .type-in .ensures) (c .before .before .before .before .if1 .left))))
+    (stops (passes (enter-left _ _ _ _ _) (one-free _ _ _ (free-1 (c .before .before .before .before))))
     (no-room _ 1 (let h = c .before .if2 .taken in omega (arith, c .before .before .presence-count .ensures .is)))) (c .refused2 .ensures)
 
 put-presence-requires : tie.Need-put-presence-requires
 put-presence-requires c κs =
-    let x = c .before .before .before .before .before .before .before .before .before in
-    let h = c .before .if2 .left in (
+    let x = c .before .before .before .before .before .before .before .before .before in (
       sound-stored (x .pre .0),
       (
         (omega (arith, x .pre .1 .0 .0), omega (arith, x .pre .1 .0 .1)),
-        (
-          x .pre .1 .1,
-          (
-            omega (arith, c .before .before .presence-count .ensures .is, presences-long (x .args .base .now)),
-            not-borne (c .before .before .before .before .before .type-in .ensures) (c .before .before .before .before .if1 .left),
-          ),
-        ),
+        (x .pre .1 .1, (omega (arith, fits-2 (c .before), presences-long (x .args .base .now)), free-1 (c .before .before .before .before))),
       ),
     )
 
@@ -61,8 +65,8 @@ same-length-3 c = search needs
 
 returns-3 : tie.Need-returns-3
 returns-3 c = kept-done (c .before .before .before .before .before .before .before .before .before .before .before .before .before .pre .0)
-    (ends (passes (passes (enter-left _ _ _ _ _) (one-free _ _ _ (not-borne (c .before .before .before .before .before .before .before .before .before .type-in .ensures) (c .before .before .before .before .before .before .before .before .if1 .left))))
-    (some-room _ 1 (let h = c .before .before .before .before .before .if2 .left in omega (arith, c .before .before .before .before .before .before .presence-count .ensures .is)))))
+    (ends (passes (passes (enter-left _ _ _ _ _) (one-free _ _ _ (free-1 (c .before .before .before .before .before .before .before .before))))
+    (some-room _ 1 (fits-2 (c .before .before .before .before .before)))))
     (c .done .ensures) (entered-one _ _ _ _ (c .before .before .before .put-presence .ensures))
 
 pub enter-one-spec : {M : Type 1} → statement M

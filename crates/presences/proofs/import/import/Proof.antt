@@ -1,5 +1,5 @@
 use borrow.Author.Needs.{needs}
-use mathlib.Core.Path.{_≡_, ap, _∙_}
+use mathlib.Core.Path.{ap, _∙_}
 use Rattle.rules.specs.03-Names.{well-formed}
 use Rattle.base.proofs.Back.{sound-good}
 use Rattle.conditions.proofs.TestedLaws.{tested-stops}
@@ -46,21 +46,36 @@ enter-one-requires : tie.Need-enter-one-requires
 enter-one-requires c κs =
     let x = c .before .before .before .before .before .before .before .before .before .before .before .before .before .before .before .before .before .args in
     let v = c .before .before .before .before .before .before .before .before .before .before .before .named-by .result in
-    let r = ready-1 (c .before .before .before .before .before .before .before .before .before) in
-    (r .sound, ((r .small, r .below), ap well-formed (cut-is (c .before .before .before .before .before .name-length .ensures) ∙ c .before .before .before .before .before .before .before .filled .ensures)
-    ∙ filled-formed (sound-good (r .sound)) (x .source) (v .t) (x .new .now) (r .there) (r .formed)))
+    let r = ready-1 (c .before .before .before .before .before .before .before .before .before) in (
+      r .sound,
+      (
+        (r .small, r .below),
+        ap well-formed (cut-is
+            (c .before .before .before .before .before .name-length .ensures) ∙ c .before .before .before .before .before .before .before .filled .ensures)
+            ∙ filled-formed (sound-good (r .sound)) (x .source) (v .t) (x .new .now) (r .there) (r .formed),
+      ),
+    )
 
 same-length-2 : tie.Need-same-length-2
 same-length-2 c = search needs
 
 returns-2 : tie.Need-returns-2
-returns-2 c = import-one (c .before .before .before .before .before .before .before .before .before .before .before .before .before .before .named-by .ensures) (c .before .before .before .before .before .before .before .before .before .before .before .before .if1 .left) (c .before .before .before .before .before .before .if2 .taken)
-    (cut-is (c .before .before .before .before .before .before .before .before .name-length .ensures) ∙ c .before .before .before .before .before .before .before .before .before .before .filled .ensures) (c .before .before .enter-one .ensures)
+returns-2 c = import-one (c .before .before .before .before .before .before .before .before .before .before .before .before .before .before .named-by
+    .ensures) (c .before .before .before .before .before .before .before .before .before .before .before .before .if1 .left)
+    (c .before .before .before .before .before .before .if2 .taken)
+    (cut-is (c .before .before .before .before .before .before .before .before .name-length .ensures) ∙ c .before .before .before .before .before
+    .before .before .before .before .before .filled .ensures) (c .before .before .enter-one .ensures)
 
 filled-requires-2 : tie.Need-filled-requires-2
 filled-requires-2 c κs =
-    let r = ready-1 (c .before .before .before .before .before .before .before) in
-    (r .sound, (reverse-there (c .before .before .before .before .before .before .before .before .before .named-by .ensures) (c .before .before .before .before .before .before .before .if1 .left) (c .before .if2 .left), r .formed-reverse))
+    let r = ready-1 (c .before .before .before .before .before .before .before) in (
+      r .sound,
+      (
+        reverse-there (c .before .before .before .before .before .before .before .before .before .named-by .ensures)
+            (c .before .before .before .before .before .before .before .if1 .left) (c .before .if2 .left),
+        r .formed-reverse,
+      ),
+    )
 
 slice-aggregate-name-length-2 : tie.Need-slice-aggregate-name-length-2
 slice-aggregate-name-length-2 c = search needs
@@ -88,7 +103,8 @@ part-enter-both-end-2 c = search needs
 
 enter-both-requires : tie.Need-enter-both-requires
 enter-both-requires c κs =
-    let x = c .before .before .before .before .before .before .before .before .before .before .before .before .before .before .before .before .before .before .before .before .before .before .before .args in
+    let x = c .before .before .before .before .before .before .before .before .before .before .before .before .before .before .before .before .before
+    .before .before .before .before .before .before .args in
     let v = c .before .before .before .before .before .before .before .before .before .before .before .before .before .before .before .before .before .named-by .result in
     let named = c .before .before .before .before .before .before .before .before .before .before .before .before .before .before .before .before .before .named-by .ensures in
     let z = c .before .before .before .before .before .before .before .before .before .before .before .before .before .before .before .if1 .left in
@@ -99,7 +115,8 @@ enter-both-requires c κs =
       (
         (r .small, (r .below, reverse-below named z e)),
         (
-          ap well-formed (cut-is (c .before .before .before .before .before .before .before .before .before .before .before .name-length .ensures) ∙ c .before .before .before .before .before .before .before .before .before .before .before .before .before .filled .ensures)
+          ap well-formed (cut-is (c .before .before .before .before .before .before .before .before .before .before .before .name-length .ensures) ∙
+              c .before .before .before .before .before .before .before .before .before .before .before .before .before .filled .ensures)
               ∙ filled-formed good (x .source) (v .t) (x .new .now) (r .there) (r .formed),
           ap well-formed (cut-is (c .before .before .before .before .before .name-length2 .ensures) ∙ c .before .before .before .before .before .before .before .filled2 .ensures)
               ∙ filled-formed good (x .source) (v .reverse) (x .new-reverse .now) (reverse-there named z e) (r .formed-reverse),
@@ -111,8 +128,14 @@ same-length-3 : tie.Need-same-length-3
 same-length-3 c = search needs
 
 returns-3 : tie.Need-returns-3
-returns-3 c = import-both (c .before .before .before .before .before .before .before .before .before .before .before .before .before .before .before .before .before .before .before .before .named-by .ensures) (c .before .before .before .before .before .before .before .before .before .before .before .before .before .before .before .before .before .before .if1 .left) (c .before .before .before .before .before .before .before .before .before .before .before .before .if2 .left)
-    (cut-is (c .before .before .before .before .before .before .before .before .before .before .before .before .before .before .name-length .ensures) ∙ c .before .before .before .before .before .before .before .before .before .before .before .before .before .before .before .before .filled .ensures) (cut-is (c .before .before .before .before .before .before .before .before .name-length2 .ensures) ∙ c .before .before .before .before .before .before .before .before .before .before .filled2 .ensures)
+returns-3 c = import-both (c .before .before .before .before .before .before .before .before .before .before .before .before .before .before .before
+    .before .before .before .before .before .named-by .ensures)
+    (c .before .before .before .before .before .before .before .before .before .before .before .before .before .before .before .before .before
+    .before .if1 .left) (c .before .before .before .before .before .before .before .before .before .before .before .before .if2 .left)
+    (cut-is (c .before .before .before .before .before .before .before .before .before .before .before .before .before .before .name-length .ensures)
+    ∙ c .before .before .before .before .before .before .before .before .before .before .before .before .before .before .before .before .filled
+    .ensures) (cut-is (c .before .before .before .before .before .before .before .before .name-length2 .ensures) ∙ c .before .before .before
+    .before .before .before .before .before .before .before .filled2 .ensures)
     (c .before .before .enter-both .ensures)
 
 pub import-spec : {M : Type 1} → statement M

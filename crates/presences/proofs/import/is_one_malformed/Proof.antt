@@ -14,7 +14,8 @@ is-malformed-new-requires : tie.Need-is-malformed-new-requires
 is-malformed-new-requires c κs = search needs
 
 returns-2 : tie.Need-returns-2
-returns-2 c = or-next (malformed-is _ (c .before .before .before .is-well-formed .ensures)) (c .before .before .if1 .left) (or-first _ (c .before .is-malformed-new .ensures) (c .if2 .taken))
+returns-2 c = or-next (malformed-is _ (c .before .before .before .is-well-formed .ensures)) (c .before .before .if1 .left) (or-first _
+    (c .before .is-malformed-new .ensures) (c .if2 .taken))
 
 is-malformed-new-requires-2 : tie.Need-is-malformed-new-requires-2
 is-malformed-new-requires-2 c κs = search needs

@@ -24,7 +24,8 @@ past-0 c = come-first (c .before .is-sound .ensures .holds (not-false _ (c .if1 
 used-2 : (c : tie.Else2) → let x = c .before .before .before .before .before .before .before .before .args in used-sds (schema-of (x .base .now)) (x .target) ≡ true
 used-2 c = sym (c .before .is-sds .ensures) ∙ not-false _ (c .if2 .left)
 
-used-3 : (c : tie.Else3) → let x = c .before .before .before .before .before .before .before .before .before .before .args in used-sds (schema-of (x .base .now)) (x .source) ≡ true
+used-3 : (c : tie.Else3) → let x = c .before .before .before .before .before .before .before .before .before .before .args in used-sds (schema-of
+    (x .base .now)) (x .source) ≡ true
 used-3 c = sym (c .before .is-sds2 .ensures) ∙ not-false _ (c .if3 .left)
 
 past-1 : (c : tie.Else3) → let x = c .before .before .before .before .before .before .before .before .before .before .args in
@@ -45,7 +46,8 @@ past-3 : (c : tie.Else5) → let x = c .before .before .before .before .before .
     Past (x .base .now) (x .target) (x .source) (x .name .now) (x .new .now) (x .new-reverse .now) 3
 past-3 c = come-next (past-2 (c .before .before)) (formed-5 c)
 
-bears-6 : (c : tie.Else6) → let x = c .before .before .before .before .before .before .before .before .before .before .before .before .before .before .before .args in bears (schema-of (x .base .now)) (x .source) (x .name .now) ≡ true
+bears-6 : (c : tie.Else6) → let x = c .before .before .before .before .before .before .before .before .before .before .before .before .before .before
+    .before .args in bears (schema-of (x .base .now)) (x .source) (x .name .now) ≡ true
 bears-6 c = borne (c .before .type-in .ensures) (c .if6 .left)
 
 type-6 : (c : tie.Else6) → let x = c .before .before .before .before .before .before .before .before .before .before .before .before .before .before .before .args in
@@ -56,20 +58,27 @@ past-4 : (c : tie.Else6) → let x = c .before .before .before .before .before .
     Past (x .base .now) (x .target) (x .source) (x .name .now) (x .new .now) (x .new-reverse .now) 4
 past-4 c = come-next (past-3 (c .before .before)) (name-there _ _ _ (bears-6 c))
 
-past-5 : (c : tie.Else7) → let x = c .before .before .before .before .before .before .before .before .before .before .before .before .before .before .before .before .before .before .args in
+past-5 : (c : tie.Else7) → let x = c .before .before .before .before .before .before .before .before .before .before .before .before .before .before
+    .before .before .before .before .args in
     Past (x .base .now) (x .target) (x .source) (x .name .now) (x .new .now) (x .new-reverse .now) 5
 past-5 c = come-next (past-4 (c .before .before .before))
-    (idle-is (c .before .before .before .before .before .before .before .before .before .before .before .before .before .before .before .before .before .before .args .new-reverse .now) (type-6 (c .before .before .before) .1) (c .before .before .reverse-of .ensures) (c .before .is-idle .ensures) ∙ c .if7 .left)
+    (idle-is (c .before .before .before .before .before .before .before .before .before .before .before .before .before .before .before .before
+    .before .before .args .new-reverse .now) (type-6 (c .before .before .before) .1) (c .before .before .reverse-of .ensures) (c .before .is-idle .ensures) ∙ c .if7 .left)
 
-past-6 : (c : tie.Else8) → let x = c .before .before .before .before .before .before .before .before .before .before .before .before .before .before .before .before .before .before .before .before .args in
+past-6 : (c : tie.Else8) → let x = c .before .before .before .before .before .before .before .before .before .before .before .before .before .before
+    .before .before .before .before .before .before .args in
     Past (x .base .now) (x .target) (x .source) (x .name .now) (x .new .now) (x .new-reverse .now) 6
-past-6 c = let x = c .before .before .before .before .before .before .before .before .before .before .before .before .before .before .before .before .before .before .before .before .args in come-next (past-5 (c .before .before))
+past-6 c = let x = c .before .before .before .before .before .before .before .before .before .before .before .before .before .before .before .before
+    .before .before .before .before .args in come-next (past-5 (c .before .before))
     (of-named (present (schema-of (x .base .now)) (x .target)) (type-6 (c .before .before .before .before .before) .1) (c .before .is-present .ensures) ∙ c .if8 .left)
 
-past-7 : (c : tie.Else9) → let x = c .before .before .before .before .before .before .before .before .before .before .before .before .before .before .before .before .before .before .before .before .before .before .args in
+past-7 : (c : tie.Else9) → let x = c .before .before .before .before .before .before .before .before .before .before .before .before .before .before
+    .before .before .before .before .before .before .before .before .args in
     Past (x .base .now) (x .target) (x .source) (x .name .now) (x .new .now) (x .new-reverse .now) 7
-past-7 c = let x = c .before .before .before .before .before .before .before .before .before .before .before .before .before .before .before .before .before .before .before .before .before .before .args in come-next (past-6 (c .before .before))
-    (of-named (missing-parent (schema-of (x .base .now)) (x .target)) (type-6 (c .before .before .before .before .before .before .before) .1) (c .before .is-parent-missing .ensures) ∙ c .if9 .left)
+past-7 c = let x = c .before .before .before .before .before .before .before .before .before .before .before .before .before .before .before .before
+    .before .before .before .before .before .before .args in come-next (past-6 (c .before .before))
+    (of-named (missing-parent (schema-of (x .base .now)) (x .target)) (type-6 (c .before .before .before .before .before .before .before) .1)
+    (c .before .is-parent-missing .ensures) ∙ c .if9 .left)
 
 is-sound-requires : tie.Need-is-sound-requires
 is-sound-requires c κs = search needs
@@ -88,7 +97,8 @@ refused-requires-2 c κs = search needs
 
 returns-2 : tie.Need-returns-2
 returns-2 c = not-chosen (come-stops (past-0 (c .before .before .before))
-    (one-unknown _ _ _ (unknown _ (sound-long (past-0 (c .before .before .before) .sound)) _ (sym (c .before .before .is-sds .ensures) ∙ not-true _ (c .before .if2 .taken)))) (c .refused2 .ensures))
+    (one-unknown _ _ _ (unknown _ (sound-long (past-0 (c .before .before .before) .sound)) _ (sym (c .before .before .is-sds .ensures) ∙ not-true _
+    (c .before .if2 .taken)))) (c .refused2 .ensures))
     (λ z. omega (arith, c .refused2 .ensures))
 
 is-sds-requires-2 : tie.Need-is-sds-requires-2
@@ -99,7 +109,8 @@ refused-requires-3 c κs = search needs
 
 returns-3 : tie.Need-returns-3
 returns-3 c = not-chosen (come-stops (past-0 (c .before .before .before .before .before))
-    (other-unknown _ _ _ (unknown _ (sound-long (past-0 (c .before .before .before .before .before) .sound)) _ (sym (c .before .before .is-sds2 .ensures) ∙ not-true _ (c .before .if3 .taken)))) (c .refused3 .ensures))
+    (other-unknown _ _ _ (unknown _ (sound-long (past-0 (c .before .before .before .before .before) .sound)) _ (sym
+    (c .before .before .is-sds2 .ensures) ∙ not-true _ (c .before .if3 .taken)))) (c .refused3 .ensures))
     (λ z. omega (arith, c .refused3 .ensures))
 
 refused-requires-4 : tie.Need-refused-requires-4
@@ -125,7 +136,8 @@ refused-requires-6 : tie.Need-refused-requires-6
 refused-requires-6 c κs = search needs
 
 returns-6 : tie.Need-returns-6
-returns-6 c = not-chosen (come-stops (past-3 (c .before .before .before)) (name-missing _ _ _ (not-borne (c .before .before .type-in .ensures) (c .before .if6 .taken))) (c .refused6 .ensures))
+returns-6 c = not-chosen (come-stops (past-3 (c .before .before .before)) (name-missing _ _ _ (not-borne (c .before .before .type-in .ensures)
+    (c .before .if6 .taken))) (c .refused6 .ensures))
     (λ z. omega (arith, c .refused6 .ensures))
 
 reverse-of-requires : tie.Need-reverse-of-requires
@@ -139,7 +151,9 @@ refused-requires-7 c κs = search needs
 
 returns-7 : tie.Need-returns-7
 returns-7 c = not-chosen (come-stops (past-4 (c .before .before .before .before))
-    (idle-is (c .before .before .before .before .before .before .before .before .before .before .before .before .before .before .before .before .before .before .before .args .new-reverse .now) (type-6 (c .before .before .before .before) .1) (c .before .before .before .reverse-of .ensures) (c .before .before .is-idle .ensures) ∙ c .before .if7 .taken) (c .refused7 .ensures))
+    (idle-is (c .before .before .before .before .before .before .before .before .before .before .before .before .before .before .before .before
+    .before .before .before .args .new-reverse .now) (type-6 (c .before .before .before .before) .1)
+    (c .before .before .before .reverse-of .ensures) (c .before .before .is-idle .ensures) ∙ c .before .if7 .taken) (c .refused7 .ensures))
     (λ z. omega (arith, c .refused7 .ensures))
 
 is-present-requires : tie.Need-is-present-requires
@@ -149,8 +163,10 @@ refused-requires-8 : tie.Need-refused-requires-8
 refused-requires-8 c κs = search needs
 
 returns-8 : tie.Need-returns-8
-returns-8 c = let x = c .before .before .before .before .before .before .before .before .before .before .before .before .before .before .before .before .before .before .before .before .before .args in not-chosen (come-stops (past-5 (c .before .before .before))
-    (of-named (present (schema-of (x .base .now)) (x .target)) (type-6 (c .before .before .before .before .before .before) .1) (c .before .before .is-present .ensures) ∙ c .before .if8 .taken) (c .refused8 .ensures))
+returns-8 c = let x = c .before .before .before .before .before .before .before .before .before .before .before .before .before .before .before
+    .before .before .before .before .before .before .args in not-chosen (come-stops (past-5 (c .before .before .before))
+    (of-named (present (schema-of (x .base .now)) (x .target)) (type-6 (c .before .before .before .before .before .before) .1)
+    (c .before .before .is-present .ensures) ∙ c .before .if8 .taken) (c .refused8 .ensures))
     (λ z. omega (arith, c .refused8 .ensures))
 
 is-parent-missing-requires : tie.Need-is-parent-missing-requires
@@ -160,23 +176,28 @@ refused-requires-9 : tie.Need-refused-requires-9
 refused-requires-9 c κs = search needs
 
 returns-9 : tie.Need-returns-9
-returns-9 c = let x = c .before .before .before .before .before .before .before .before .before .before .before .before .before .before .before .before .before .before .before .before .before .before .before .args in not-chosen (come-stops (past-6 (c .before .before .before))
-    (of-named (missing-parent (schema-of (x .base .now)) (x .target)) (type-6 (c .before .before .before .before .before .before .before .before) .1) (c .before .before .is-parent-missing .ensures) ∙ c .before .if9 .taken) (c .refused9 .ensures))
+returns-9 c = let x = c .before .before .before .before .before .before .before .before .before .before .before .before .before .before .before
+    .before .before .before .before .before .before .before .before .args in not-chosen (come-stops (past-6 (c .before .before .before))
+    (of-named (missing-parent (schema-of (x .base .now)) (x .target)) (type-6
+    (c .before .before .before .before .before .before .before .before) .1) (c .before .before .is-parent-missing .ensures) ∙ c .before .if9 .taken) (c .refused9 .ensures))
     (λ z. omega (arith, c .refused9 .ensures))
 
 returns-10 : tie.Need-returns-10
 returns-10 c =
-    let x = c .before .before .before .before .before .before .before .before .before .before .before .before .before .before .before .before .before .before .before .before .before .before .args in
+    let x = c .before .before .before .before .before .before .before .before .before .before .before .before .before .before .before .before .before
+    .before .before .before .before .before .args in
     let p = past-7 c in
     let formed = new-formed (x .name .now) (x .new .now) (x .new-reverse .now) (formed-5 (c .before .before .before .before .before .before .before .before .before)) in
     record {
       told = come-through p;
       ready = λ _. record {
         sound = p .sound;
-        small = used-below _ (sound-long (p .sound)) _ (used-2 (c .before .before .before .before .before .before .before .before .before .before .before .before .before .before));
+        small = used-below _ (sound-long (p .sound)) _ (used-2
+            (c .before .before .before .before .before .before .before .before .before .before .before .before .before .before));
         below = type-6 (c .before .before .before .before .before .before .before) .0;
         named = type-6 (c .before .before .before .before .before .before .before) .1;
-        there = bearer-present (sound-good (p .sound)) _ _ (bears-6 (c .before .before .before .before .before .before .before)) (type-6 (c .before .before .before .before .before .before .before) .1);
+        there = bearer-present (sound-good (p .sound)) _ _ (bears-6 (c .before .before .before .before .before .before .before)) (type-6
+            (c .before .before .before .before .before .before .before) .1);
         reversed = c .before .before .before .before .before .before .reverse-of .ensures;
         formed = formed .0;
         formed-reverse = formed .1;

@@ -6,19 +6,19 @@ use mathlib.Core.List.{List, [], _∷_, map, append-nil}
 use mathlib.Core.Bool.{Bool, true, false, not, cond, _&&_, _||_, true≢false}
 use lib.Dec.{leb, ltb, eqb}
 use lib.ListN.{length, getD, take, drop, replicate}
-use borrow.Author.Tests.{eq-eqb, ne-eqb, ltb-true, ltb-false, lt-ltb, le-ltb, le-leb, lt-leb}
+use borrow.Author.Tests.{eq-eqb, ne-eqb, ltb-true, ltb-false, lt-ltb, le-ltb, le-leb, lt-leb, leb-false}
 use Rattle.rules.specs.declared.Answer.{Answer}
 use Rattle.rules.specs.01-Lists.{all, first, put}
 use Rattle.rules.specs.03-Names.{Name, well-formed, blank, same-name}
-use Rattle.rules.specs.04-Schema.{Schema, Presence, reverse, holds-type, holds-name, present, bears, type-named, local-name}
+use Rattle.rules.specs.04-Schema.{Schema, Presence, used-sds, reverse, holds-type, holds-name, present, bears, type-named, local-name}
 use Rattle.rules.specs.04-Schema.{presence-before}
 use Rattle.rules.specs.06-Good.{Good}
-use Rattle.rules.specs.07-Picture.{Sound, pad, picture}
+use Rattle.rules.specs.07-Picture.{Sound, pad, picture, base-length}
 use Rattle.rules.specs.09-Refusals.{Outcome, verdict, unknown-sds, malformed, malformed-new, idle-reverse-name, names-taken, presences-full}
 use Rattle.rules.specs.09-Refusals.Outcome.{done}
 use Rattle.rules.specs.10-Changes.{with-presences, put-all, filled, imported, import}
 use Rattle.rules.specs.12-Contracts.{Kept}
-use Rattle.rules.proofs.Bools.{and-of, and-rest, or-left, or-right, or-neither}
+use Rattle.rules.proofs.Bools.{and-of, and-rest, or-neither}
 use Rattle.rules.proofs.01-Lists.{any-at}
 use Rattle.rules.proofs.Edits.{put-long, put-none, first-in}
 use Rattle.rules.proofs.03-Names.{formed-long}
@@ -31,6 +31,7 @@ use Rattle.base.specs.Stored.{Shows}
 use Rattle.base.specs.Table.{written}
 use Rattle.base.proofs.Back.{sound-good}
 use Rattle.base.proofs.Kept.{sound-long, kept-like}
+use Rattle.base.proofs.SdsShown.{known, unknown}
 use Rattle.base.proofs.Shown.{presences-long}
 use Rattle.base.proofs.SdsWritten.{written-over, field-written}
 use Rattle.base.proofs.Scan.{length-part}
@@ -45,7 +46,18 @@ use Rattle.presences.specs.declared.import.Named.{Named}
 use Rattle.presences.specs.Import.{first-refusals, Chosen, presence-of, enter-refusals, enter}
 use Rattle.presences.proofs.HeldLaws.{bearer}
 
--- ---- the tests of the names and of the reverse
+-- ---- the tests of the SDSs, of the names and of the reverse
+
+pub unknown-is : (b : List ℕ) → length b ≡ base-length → (d : ℕ) {r : Bool} → r ≡ used-sds (schema-of b) d → not r ≡ unknown-sds (schema-of b) d
+unknown-is b l d {r} e = go r e
+  where
+    go : (x : Bool) → x ≡ used-sds (schema-of b) d → not x ≡ unknown-sds (schema-of b) d
+    go true e = sym (known b l d (sym e))
+    go false e = sym (unknown b l d (sym e))
+
+pub first-below : (s : Schema) (d e : ℕ) → unknown-sds s d || unknown-sds s e ≡ false → d < 16
+unfolding unknown-sds
+first-below s d e h = leb-false 16 d (or-neither (leb 16 d) (not (used-sds s d)) (or-neither (unknown-sds s d) (unknown-sds s e) h .0) .0)
 
 pub malformed-is : {r : Bool} (n : Name) → r ≡ well-formed n → not r ≡ malformed n
 unfolding malformed
@@ -88,16 +100,6 @@ module _ {b : List ℕ} {target source : ℕ} {n new new-reverse : Name} {v : Na
   pub not-chosen : Tested b (first-refusals target source n new new-reverse (schema-of b)) (v .no) → (v .no ≡ 0 → ⊥)
       → Chosen b target source n new new-reverse v
   not-chosen r z = record { told = r; ready = λ e. absurd (z e) }
-
-module _ (s : Schema) (d e : ℕ) where
-  pub one-unknown : unknown-sds s d ≡ true → unknown-sds s d || unknown-sds s e ≡ true
-  one-unknown h = or-left (unknown-sds s d) (unknown-sds s e) h
-
-  pub other-unknown : unknown-sds s e ≡ true → unknown-sds s d || unknown-sds s e ≡ true
-  other-unknown h = or-right (unknown-sds s d) (unknown-sds s e) h
-
-  pub both-known : unknown-sds s d ≡ false → unknown-sds s e ≡ false → unknown-sds s d || unknown-sds s e ≡ false
-  both-known h k = rw (h, k)
 
 pub new-formed : (n new new-reverse : Name) → malformed n || (malformed-new new || malformed-new new-reverse) ≡ false
     → (malformed-new new ≡ false) × (malformed-new new-reverse ≡ false)

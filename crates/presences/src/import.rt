@@ -9,8 +9,8 @@ ghost use lib.Dec.{eqb};
 ghost use lib.ListN.{length};
 ghost use Rattle.rules.specs.03-Names.{well-formed, blank};
 ghost use Rattle.rules.specs.04-Schema.{present};
-ghost use Rattle.rules.specs.07-Picture.{Sound};
-ghost use Rattle.rules.specs.09-Refusals.{malformed, malformed-new};
+ghost use Rattle.rules.specs.07-Picture.{Sound, base-length};
+ghost use Rattle.rules.specs.09-Refusals.{unknown-sds, malformed, malformed-new};
 ghost use Rattle.rules.specs.10-Changes.{filled, import};
 ghost use Rattle.rules.specs.12-Contracts.{Kept};
 ghost use Rattle.rules.proofs.07-Picture.{strip};
@@ -36,6 +36,16 @@ fn refused(no: usize) -> Named
         t: 0,
         reverse: 0,
     }
+}
+
+fn is_one_unknown(base: &[u8], target: usize, source: usize) -> bool
+    requires { ⌜ length (now base) ≡ base-length ⌝ }
+    ensures { λ r. ⌜ r ≡ unknown-sds (schema-of (now (base .entry))) target || unknown-sds (schema-of (now (base .entry))) source ⌝ }
+{
+    if !base::find::is_sds(base, target) {
+        return true;
+    }
+    !base::find::is_sds(base, source)
 }
 
 // A new name may be blank.
@@ -83,10 +93,7 @@ fn named_by(
     if !sound::is_sound(base) {
         return refused(1);
     }
-    if !base::find::is_sds(base, target) {
-        return refused(2);
-    }
-    if !base::find::is_sds(base, source) {
+    if is_one_unknown(base, target, source) {
         return refused(2);
     }
     if target == 0 {

@@ -1,3 +1,4 @@
+-- `presences::import::import` meets its contract: the rule comes to `enter` of one presence or of two, under the names filled in. Assumes nothing.
 use borrow.Author.Needs.{needs}
 use mathlib.Core.Path.{ap, _∙_}
 use Rattle.rules.specs.03-Names.{well-formed}

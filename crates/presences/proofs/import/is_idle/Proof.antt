@@ -1,3 +1,4 @@
+-- `presences::import::is_idle` meets its contract: a blank name is never idle, any other where there is no reverse. Assumes nothing.
 use Rattle.presences.proofs.ImportLaws.{blank-idle, given-idle}
 use Rattle.presences.proofs.import.is_idle.Statement.{statement}
 use Rattle.presences.proofs.import.is_idle.Tie as tie

@@ -1,3 +1,4 @@
+-- `presences::import::is_malformed_new` meets its contract: a blank name passes, any other is tested. Assumes nothing.
 use borrow.Author.Needs.{needs}
 use Rattle.presences.proofs.ImportLaws.{blank-fine, given-tested}
 use Rattle.presences.proofs.import.is_malformed_new.Statement.{statement}

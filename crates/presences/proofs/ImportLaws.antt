@@ -18,8 +18,7 @@ use Rattle.rules.specs.09-Refusals.{Outcome, verdict, unknown-sds, malformed, m
 use Rattle.rules.specs.09-Refusals.Outcome.{done}
 use Rattle.rules.specs.10-Changes.{with-presences, put-all, filled, imported, import}
 use Rattle.rules.specs.12-Contracts.{Kept}
-use Rattle.rules.proofs.Bools.{and-of, and-rest, or-neither}
-use Rattle.rules.proofs.01-Lists.{any-at}
+use Rattle.rules.proofs.Bools.{and-rest, or-neither}
 use Rattle.rules.proofs.Edits.{put-long, put-none, first-in}
 use Rattle.rules.proofs.03-Names.{formed-long}
 use Rattle.rules.proofs.07-Picture.{strip, strip-pad}
@@ -44,7 +43,6 @@ use Rattle.conditions.proofs.ReverseLaws.{one-is, none-is}
 use Rattle.conditions.proofs.TestedLaws.{Come, tested-passes}
 use Rattle.presences.specs.declared.import.Named.{Named}
 use Rattle.presences.specs.Import.{first-refusals, Chosen, presence-of, enter-refusals, enter}
-use Rattle.presences.proofs.HeldLaws.{bearer}
 
 -- ---- the tests of the SDSs, of the names and of the reverse
 
@@ -105,13 +103,6 @@ pub new-formed : (n new new-reverse : Name) → malformed n || (malformed-new ne
     → (malformed-new new ≡ false) × (malformed-new new-reverse ≡ false)
 new-formed n new new-reverse e =
     or-neither (malformed-new new) (malformed-new new-reverse) (or-neither (malformed n) (malformed-new new || malformed-new new-reverse) e .1)
-
--- a type that bears a name is there
-pub bearer-present : {s : Schema} → Good s → (d : ℕ) (n : Name) {t : ℕ} → bears s d n ≡ true → t ≡ type-named s d n → present s d t ≡ true
-unfolding present
-bearer-present good d n {t} e q =
-    let (p, i, at, same, type) = bearer good d n e in
-    any-at (holds-type d t) i (and-of (eqb (p .sds) d) (eqb (p .type) t) (eq-eqb (p .sds) d at) (eq-eqb (p .type) t (type ∙ sym q)))
 
 -- ---- the names filled in
 

@@ -13,7 +13,8 @@ use Rattle.base.proofs.Kept.{sound-long}
 use Rattle.conditions.specs.Tested.Tested.{spoiled}
 use Rattle.conditions.proofs.NameLaws.{system-stops, system-passes, name-there, name-missing, borne, not-borne}
 use Rattle.conditions.proofs.TestedLaws.{come-first, come-next, come-stops, come-through}
-use Rattle.presences.proofs.ImportLaws.{Past, not-chosen, first-below, idle-is, of-named, new-formed, bearer-present}
+use Rattle.presences.proofs.ImportLaws.{Past, not-chosen, first-below, idle-is, of-named, new-formed}
+use Rattle.presences.proofs.HeldLaws.{held-named}
 use Rattle.presences.proofs.import.named_by.Statement.{statement}
 use Rattle.presences.proofs.import.named_by.Tie as tie
 
@@ -186,7 +187,7 @@ returns-9 c =
         small = first-below _ _ _ (known-2 (c .before .before .before .before .before .before .before .before .before .before .before .before));
         below = t .0;
         named = t .1;
-        there = bearer-present (sound-good (p .sound)) _ _ (bears-5 (c .before .before .before .before .before .before .before)) (t .1);
+        there = held-named (sound-good (p .sound)) _ (bears-5 (c .before .before .before .before .before .before .before)) (t .1) .there;
         reversed = c .before .before .before .before .before .before .reverse-of .ensures;
         formed = formed .0;
         formed-reverse = formed .1;

@@ -1,6 +1,7 @@
 -- `presences::import::import` meets its contract: the rule comes to `enter` of one presence or of two, under the names filled in. Assumes nothing.
 use borrow.Author.Needs.{needs}
-use mathlib.Core.Path.{ap, _∙_}
+use native.Mathlib.Omega.{arith}
+use mathlib.Core.Path.{_≡_, ap, _∙_}
 use Rattle.rules.specs.03-Names.{well-formed}
 use Rattle.base.proofs.Back.{sound-good}
 use Rattle.conditions.proofs.TestedLaws.{tested-stops}
@@ -12,6 +13,12 @@ use Rattle.presences.proofs.import.import.Tie as tie
 ready-1 : (c : tie.Else1) → let x = c .before .before .before .before .before .before .before .before .args in let v = c .before .before .named-by .result in
     Importable (x .base .now) (x .target) (x .source) (x .name .now) (x .new .now) (x .new-reverse .now) (v .t) (v .reverse)
 ready-1 c = c .before .before .named-by .ensures .ready (c .if1 .left)
+
+alone-2 : (c : tie.Then2) → c .before .before .before .before .before .before .before .before .named-by .result .reverse ≡ 128
+alone-2 c = let h = c .if2 .taken in omega arith
+
+paired-2 : (c : tie.Else2) → c .before .before .before .before .before .before .before .before .named-by .result .reverse ≡ 128 → ⊥
+paired-2 c z = let h = c .if2 .left in omega arith
 
 named-by-requires : tie.Need-named-by-requires
 named-by-requires c κs = search needs
@@ -47,36 +54,27 @@ enter-one-requires : tie.Need-enter-one-requires
 enter-one-requires c κs =
     let x = c .before .before .before .before .before .before .before .before .before .before .before .before .before .before .before .before .before .args in
     let v = c .before .before .before .before .before .before .before .before .before .before .before .named-by .result in
-    let r = ready-1 (c .before .before .before .before .before .before .before .before .before) in (
-      r .sound,
-      (
-        (r .small, r .below),
-        ap well-formed (cut-is
-            (c .before .before .before .before .before .name-length .ensures) ∙ c .before .before .before .before .before .before .before .filled .ensures)
-            ∙ filled-formed (sound-good (r .sound)) (x .source) (v .t) (x .new .now) (r .there) (r .formed),
-      ),
-    )
+    let r = ready-1 (c .before .before .before .before .before .before .before .before .before) in
+    let name = cut-is (c .before .before .before .before .before .name-length .ensures) ∙ c .before .before .before .before .before .before .before .filled .ensures in
+    (r .sound, ((r .small, r .below), ap well-formed name ∙ filled-formed (sound-good (r .sound)) (x .source) (v .t) (x .new .now) (r .there) (r .formed)))
 
 same-length-2 : tie.Need-same-length-2
 same-length-2 c = search needs
 
 returns-2 : tie.Need-returns-2
-returns-2 c = import-one (c .before .before .before .before .before .before .before .before .before .before .before .before .before .before .named-by
-    .ensures) (c .before .before .before .before .before .before .before .before .before .before .before .before .if1 .left)
-    (c .before .before .before .before .before .before .if2 .taken)
+returns-2 c =
+    let named = c .before .before .before .before .before .before .before .before .before .before .before .before .before .before .named-by .ensures in
+    let z = c .before .before .before .before .before .before .before .before .before .before .before .before .if1 .left in
+    import-one named z (alone-2 (c .before .before .before .before .before .before))
     (cut-is (c .before .before .before .before .before .before .before .before .name-length .ensures) ∙ c .before .before .before .before .before
     .before .before .before .before .before .filled .ensures) (c .before .before .enter-one .ensures)
 
 filled-requires-2 : tie.Need-filled-requires-2
 filled-requires-2 c κs =
-    let r = ready-1 (c .before .before .before .before .before .before .before) in (
-      r .sound,
-      (
-        reverse-there (c .before .before .before .before .before .before .before .before .before .named-by .ensures)
-            (c .before .before .before .before .before .before .before .if1 .left) (c .before .if2 .left),
-        r .formed-reverse,
-      ),
-    )
+    let r = ready-1 (c .before .before .before .before .before .before .before) in
+    let named = c .before .before .before .before .before .before .before .before .before .named-by .ensures in
+    let z = c .before .before .before .before .before .before .before .if1 .left in
+    (r .sound, (reverse-there named z (paired-2 (c .before)), r .formed-reverse))
 
 slice-aggregate-name-length-2 : tie.Need-slice-aggregate-name-length-2
 slice-aggregate-name-length-2 c = search needs
@@ -109,18 +107,18 @@ enter-both-requires c κs =
     let v = c .before .before .before .before .before .before .before .before .before .before .before .before .before .before .before .before .before .named-by .result in
     let named = c .before .before .before .before .before .before .before .before .before .before .before .before .before .before .before .before .before .named-by .ensures in
     let z = c .before .before .before .before .before .before .before .before .before .before .before .before .before .before .before .if1 .left in
-    let e = c .before .before .before .before .before .before .before .before .before .if2 .left in
+    let e = paired-2 (c .before .before .before .before .before .before .before .before .before) in
     let r = ready-1 (c .before .before .before .before .before .before .before .before .before .before .before .before .before .before .before) in
-    let good = sound-good (r .sound) in (
+    let good = sound-good (r .sound) in
+    let name = cut-is (c .before .before .before .before .before .before .before .before .before .before .before .name-length .ensures) ∙ c .before
+    .before .before .before .before .before .before .before .before .before .before .before .before .filled .ensures in
+    let other = cut-is (c .before .before .before .before .before .name-length2 .ensures) ∙ c .before .before .before .before .before .before .before .filled2 .ensures in (
       r .sound,
       (
         (r .small, (r .below, reverse-below named z e)),
         (
-          ap well-formed (cut-is (c .before .before .before .before .before .before .before .before .before .before .before .name-length .ensures) ∙
-              c .before .before .before .before .before .before .before .before .before .before .before .before .before .filled .ensures)
-              ∙ filled-formed good (x .source) (v .t) (x .new .now) (r .there) (r .formed),
-          ap well-formed (cut-is (c .before .before .before .before .before .name-length2 .ensures) ∙ c .before .before .before .before .before .before .before .filled2 .ensures)
-              ∙ filled-formed good (x .source) (v .reverse) (x .new-reverse .now) (reverse-there named z e) (r .formed-reverse),
+          ap well-formed name ∙ filled-formed good (x .source) (v .t) (x .new .now) (r .there) (r .formed),
+          ap well-formed other ∙ filled-formed good (x .source) (v .reverse) (x .new-reverse .now) (reverse-there named z e) (r .formed-reverse),
         ),
       ),
     )
@@ -129,14 +127,15 @@ same-length-3 : tie.Need-same-length-3
 same-length-3 c = search needs
 
 returns-3 : tie.Need-returns-3
-returns-3 c = import-both (c .before .before .before .before .before .before .before .before .before .before .before .before .before .before .before
-    .before .before .before .before .before .named-by .ensures)
-    (c .before .before .before .before .before .before .before .before .before .before .before .before .before .before .before .before .before
-    .before .if1 .left) (c .before .before .before .before .before .before .before .before .before .before .before .before .if2 .left)
+returns-3 c =
+    let named = c .before .before .before .before .before .before .before .before .before .before .before .before .before .before .before .before
+    .before .before .before .before .named-by .ensures in
+    let z = c .before .before .before .before .before .before .before .before .before .before .before .before .before .before .before .before .before .before .if1 .left in
+    import-both named z (paired-2 (c .before .before .before .before .before .before .before .before .before .before .before .before))
     (cut-is (c .before .before .before .before .before .before .before .before .before .before .before .before .before .before .name-length .ensures)
-    ∙ c .before .before .before .before .before .before .before .before .before .before .before .before .before .before .before .before .filled
-    .ensures) (cut-is (c .before .before .before .before .before .before .before .before .name-length2 .ensures) ∙ c .before .before .before
-    .before .before .before .before .before .before .before .filled2 .ensures)
+    ∙ c .before .before .before .before .before .before .before .before .before .before .before .before .before .before .before .before .filled .ensures)
+    (cut-is (c .before .before .before .before .before .before .before .before .name-length2 .ensures) ∙ c .before .before .before .before .before
+    .before .before .before .before .before .filled2 .ensures)
     (c .before .before .enter-both .ensures)
 
 pub import-spec : {M : Type 1} → statement M

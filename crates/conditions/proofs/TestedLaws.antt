@@ -11,7 +11,7 @@ use Rattle.rules.specs.04-Schema.{Schema}
 use Rattle.rules.specs.07-Picture.{Sound}
 use Rattle.rules.specs.09-Refusals.{Outcome, Refusals, verdict, refusal}
 use Rattle.rules.specs.12-Contracts.{Kept}
-use Rattle.rules.proofs.09-Refusals.{Left, ends, told, told-stops, told-passes}
+use Rattle.rules.proofs.09-Refusals.{Left, ends, told, told-first, told-rest, told-stops, told-passes}
 use Rattle.base.specs.Back.{schema-of}
 use Rattle.base.proofs.Kept.{kept-spoiled, kept-refused}
 use Rattle.conditions.specs.Tested.{Tested}
@@ -47,6 +47,27 @@ module _ {b : List ℕ} {whole : Refusals} where
   pub come-through : Come b whole [] → Tested b whole 0
   unfolding told
   come-through c = tested (c .sound) (sym (c .left))
+
+-- ---- several conditions of a call told at once by a function that it calls
+
+-- all is well with the conditions that were told
+pub tested-sound : {b : List ℕ} {cs : Refusals} {no : ℕ} → Tested b cs no → no ≡ 0 → Sound b
+tested-sound (spoiled n e) z = absurd (omega arith)
+tested-sound (tested s e) z = s
+
+-- the first of them, before the base is known to be sound
+pub tested-first : {b : List ℕ} {cs : Refusals} (rest : Refusals) {no : ℕ} → Tested b cs no → (no ≡ 0 → ⊥) → Tested b (cs ++ rest) no
+tested-first rest (spoiled n e) z = spoiled n e
+tested-first {cs = cs} rest (tested s e) z = tested s (e ∙ sym (told-first cs rest (λ w. z (e ∙ w))))
+
+module _ {b : List ℕ} {whole : Refusals} (cs rest : Refusals) {no : ℕ} (c : Come b whole (cs ++ rest)) where
+  pub come-refused : Tested b cs no → (no ≡ 0 → ⊥) → Tested b whole no
+  come-refused (spoiled n e) z = absurd (n (c .sound))
+  come-refused (tested s e) z = tested s (e ∙ sym (c .left ∙ told-first cs rest (λ w. z (e ∙ w))))
+
+  pub come-past : all (λ c. ltb 0 (c .0)) cs ≡ true → Tested b cs no → no ≡ 0 → Come b whole rest
+  come-past h (spoiled n e) z = absurd (n (c .sound))
+  come-past h (tested s e) z = record { sound = s; left = c .left ∙ told-rest cs rest h (sym e ∙ z) }
 
 -- ---- the verdict of a call whose first conditions were told at once; rest is what it tests besides
 

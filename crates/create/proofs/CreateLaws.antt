@@ -2,18 +2,18 @@
 use Prim.Native.Nat.{ℕ, _+_, _≤_, _<_}
 use native.Mathlib.Omega.{arith}
 use mathlib.Core.Path.{_≡_, refl, ap, _∙_, subst}
-use mathlib.Core.List.{List, [], _∷_}
+use mathlib.Core.List.{List, [], _∷_, _++_}
 use mathlib.Core.Bool.{Bool, true, false}
 use lib.Dec.{ltb}
 use lib.ListN.{length, drop, set}
 use borrow.Author.Tests.{lt-ltb, le-ltb}
 use Rattle.rules.specs.declared.Answer.{Answer}
-use Rattle.rules.specs.01-Lists.{any, put}
+use Rattle.rules.specs.01-Lists.{any, all, put}
 use Rattle.rules.specs.03-Names.{Name, well-formed}
 use Rattle.rules.specs.04-Schema.{Schema, Kind, bears, presence-before}
 use Rattle.rules.specs.04-Schema.Kind.{attribute, designation}
 use Rattle.rules.specs.07-Picture.{type-row, pad, picture}
-use Rattle.rules.specs.09-Refusals.{Outcome, verdict, success, unknown-value-kind, names-taken, presences-full, types-full, free-types}
+use Rattle.rules.specs.09-Refusals.{Outcome, Refusals, verdict, success, unknown-value-kind, names-taken, presences-full, types-full, free-types}
 use Rattle.rules.specs.09-Refusals.Outcome.{done}
 use Rattle.rules.specs.10-Changes.{with-types, with-presences, with-type, new-type, new-attribute, new-designation}
 use Rattle.rules.specs.12-Contracts.{Kept}
@@ -27,17 +27,65 @@ use Rattle.base.proofs.Kept.{kept-done}
 use Rattle.base.proofs.Shown.{presences-long}
 use Rattle.base.proofs.StoredLaws.{shows-schema, shows-stored}
 use Rattle.conditions.specs.Tested.{Tested}
-use Rattle.conditions.proofs.TestedLaws.{Come}
-use Rattle.create.specs.Create.{one-refusals, Ready, Placed}
+use Rattle.conditions.proofs.TestedLaws.{Come, come-first, come-next, come-stops, come-last, come-past, tested-first, tested-sound}
+use Rattle.create.specs.Create.{aim-refusals, room-refusals, one-refusals, Ready, Aimed, Room, Placed}
 
 -- ---- what the tests of a call that makes one type say
 
-abbrev pub Past : List ℕ → ℕ → Name → Bool → ℕ → Type 0
-Past b d n unknown k = Come b (one-refusals (schema-of b) d n unknown) (drop k (one-refusals (schema-of b) d n unknown))
+-- the tests of a part of the refusals, k of which are passed
+abbrev pub Past : List ℕ → Refusals → ℕ → Type 0
+Past b cs k = Come b cs (drop k cs)
 
-module _ {b : List ℕ} {d : ℕ} {n : Name} {unknown : Bool} {no t : ℕ} where
-  pub not-placed : Tested b (one-refusals (schema-of b) d n unknown) no → (no ≡ 0 → ⊥) → Placed b d n unknown no t
-  not-placed r z = record { told = r; value-known = λ e. absurd (z e); ready = λ e. absurd (z e) }
+module _ {b : List ℕ} {d : ℕ} {n : Name} {no : ℕ} where
+  pub not-aimed : Tested b (aim-refusals (schema-of b) d n) no → (no ≡ 0 → ⊥) → Aimed b d n no
+  not-aimed r z = record { told = r; small = λ e. absurd (z e); formed = λ e. absurd (z e) }
+
+  module _ {t : ℕ} where
+    pub no-room : Tested b (room-refusals (schema-of b) d n) no → (no ≡ 0 → ⊥) → Room b d n no t
+    no-room r z = record {
+      told = r;
+      free = λ e. absurd (z e);
+      room = λ e. absurd (z e);
+      below = λ e. absurd (z e);
+      new = λ e. absurd (z e);
+    }
+
+    pub not-placed : {unknown : Bool} → Tested b (one-refusals (schema-of b) d n unknown) no → (no ≡ 0 → ⊥) → Placed b d n unknown no t
+    not-placed r z = record { told = r; value-known = λ e. absurd (z e); ready = λ e. absurd (z e) }
+
+module _ {b : List ℕ} {d : ℕ} {n : Name} {no : ℕ} (a : Aimed b d n no) {no′ t : ℕ} {unknown : Bool} where
+  pub aimed-stops : (no ≡ 0 → ⊥) → no′ ≡ no → Placed b d n unknown no′ t
+  aimed-stops z e = rw e (not-placed (tested-first ((5, unknown) ∷ room-refusals (schema-of b) d n) (a .told) z) z)
+
+-- of refusals that begin with those of the aim, the others are left
+pub come-aimed : {b : List ℕ} {d : ℕ} {n : Name} {no : ℕ} → Aimed b d n no → no ≡ 0 → (rest : Refusals)
+    → Come b (aim-refusals (schema-of b) d n ++ rest) rest
+unfolding all
+come-aimed {b} {d} {n} a z rest = come-past (aim-refusals (schema-of b) d n) rest (come-first (tested-sound (a .told) z)) refl (a .told) z
+
+module _ {b : List ℕ} {d : ℕ} {n : Name} {no : ℕ} (a : Aimed b d n no) (z : no ≡ 0) {no′ t : ℕ} where
+  pub both-ready : Room b d n no′ t → no′ ≡ 0 → Ready b d n t
+  both-ready r y = record {
+    sound = tested-sound (a .told) z;
+    small = a .small z;
+    formed = a .formed z;
+    free = r .free y;
+    room = r .room y;
+    below = r .below y;
+    new = r .new y;
+  }
+
+  -- what stands between is a value kind
+  module _ {unknown : Bool} where
+    pub aimed-unknown : unknown ≡ true → no′ ≡ 5 → Placed b d n unknown no′ t
+    aimed-unknown e h = not-placed (come-stops (come-aimed a z ((5, unknown) ∷ room-refusals (schema-of b) d n)) e h) (λ w. omega arith)
+
+    pub aimed-placed : unknown ≡ false → Room b d n no′ t → Placed b d n unknown no′ t
+    aimed-placed e r = record {
+      told = come-last (come-next (come-aimed a z ((5, unknown) ∷ room-refusals (schema-of b) d n)) e) (r .told);
+      value-known = λ _. e;
+      ready = both-ready r;
+    }
 
 module _ (s : Schema) (d : ℕ) (n : Name) where
   pub one-taken : bears s d n ≡ true → names-taken s d (n ∷ []) ≡ true

@@ -1,2 +1,3 @@
 pub mod CreateLaws
 pub mod PairLaws
+pub mod ObjectLaws

@@ -1,7 +1,7 @@
 -- What the calls that make types have tested of their inputs.
 use Prim.Native.Nat.{ℕ, _<_}
 use mathlib.Core.Path.{_≡_}
-use mathlib.Core.List.{List, [], _∷_}
+use mathlib.Core.List.{List, [], _∷_, _++_}
 use mathlib.Core.Bool.{Bool, true, false}
 use lib.ListN.{length}
 use Rattle.rules.specs.03-Names.{Name, well-formed}
@@ -12,16 +12,23 @@ use Rattle.rules.specs.10-Changes.{new-type}
 use Rattle.base.specs.Back.{schema-of}
 use Rattle.conditions.specs.Tested.{Tested}
 
--- the refusals that the calls which make one type share, but for 1
-abbrev pub one-refusals : Schema → ℕ → Name → Bool → Refusals
-one-refusals s d n unknown =
+-- the refusals, but for 1, that come first and last in every call which makes one type
+abbrev pub aim-refusals : Schema → ℕ → Name → Refusals
+aim-refusals s d n =
     (2, unknown-sds s d)
     ∷ (3, system-sds d)
     ∷ (4, malformed n)
-    ∷ (5, unknown)
-    ∷ (11, names-taken s d (n ∷ []))
+    ∷ []
+
+abbrev pub room-refusals : Schema → ℕ → Name → Refusals
+room-refusals s d n =
+    (11, names-taken s d (n ∷ []))
     ∷ (14, types-full s 1)
     ∷ []
+
+-- all of them, with a value kind that may be unknown
+abbrev pub one-refusals : Schema → ℕ → Name → Bool → Refusals
+one-refusals s d n unknown = aim-refusals s d n ++ ((5, unknown) ∷ room-refusals s d n)
 
 -- what is so where none holds: t is the number that the new type takes
 pub record Ready (b : List ℕ) (d : ℕ) (n : Name) (t : ℕ) : Type 0 where
@@ -32,6 +39,20 @@ pub record Ready (b : List ℕ) (d : ℕ) (n : Name) (t : ℕ) : Type 0 where
   pub room : length ((schema-of b) .presences) < 512
   pub below : t < 128
   pub new : t ≡ new-type (schema-of b)
+
+-- what the first tests tell
+pub record Aimed (b : List ℕ) (d : ℕ) (n : Name) (no : ℕ) : Type 0 where
+  pub told : Tested b (aim-refusals (schema-of b) d n) no
+  pub small : no ≡ 0 → d < 16
+  pub formed : no ≡ 0 → well-formed n ≡ true
+
+-- and the last
+pub record Room (b : List ℕ) (d : ℕ) (n : Name) (no t : ℕ) : Type 0 where
+  pub told : Tested b (room-refusals (schema-of b) d n) no
+  pub free : no ≡ 0 → bears (schema-of b) d n ≡ false
+  pub room : no ≡ 0 → length ((schema-of b) .presences) < 512
+  pub below : no ≡ 0 → t < 128
+  pub new : no ≡ 0 → t ≡ new-type (schema-of b)
 
 pub record Placed (b : List ℕ) (d : ℕ) (n : Name) (unknown : Bool) (no t : ℕ) : Type 0 where
   pub told : Tested b (one-refusals (schema-of b) d n unknown) no

@@ -1,2 +1,3 @@
 pub mod Create
 pub mod Pair
+pub mod Object

@@ -1,12 +1,14 @@
 // The calls that make types. What they test of their inputs they test once, in the order of their refusals.
 pub mod pair;
+pub mod object;
 
 use rules::Answer;
 use rules::Limits;
 ghost use mathlib.Core.Path.{_≡_};
+ghost use Rattle.rules.specs.07-Picture.{Sound};
 ghost use Rattle.rules.specs.10-Changes.{new-attribute, new-designation};
 ghost use Rattle.rules.specs.12-Contracts.{Kept};
-ghost use Rattle.create.specs.Create.{Placed};
+ghost use Rattle.create.specs.Create.{Aimed, Room, Placed};
 
 // The number of the refusal, 0 where there is none; then the number that the new type takes.
 struct Place {
@@ -20,25 +22,30 @@ fn refused(no: usize) -> Place
     Place { no, t: 0 }
 }
 
-// `unknown` is whether the call was given a value kind, and does not know it.
-fn place_for(base: &[u8], sds: usize, name: &[u8], unknown: bool) -> Place
-    ensures { λ r. ⌜ Placed (now (base .entry)) sds (now (name .entry)) unknown (r .no) (r .t) ⌝ }
+// What a call that makes types tests first, of its SDS and of a name: the number of the refusal, 0 where there is none.
+fn aimed(base: &[u8], sds: usize, name: &[u8]) -> usize
+    ensures { λ r. ⌜ Aimed (now (base .entry)) sds (now (name .entry)) r ⌝ }
 {
     if !sound::is_sound(base) {
-        return refused(1);
+        return 1;
     }
     if !base::find::is_sds(base, sds) {
-        return refused(2);
+        return 2;
     }
     if sds == 0 {
-        return refused(3);
+        return 3;
     }
     if !names::is_well_formed(name) {
-        return refused(4);
+        return 4;
     }
-    if unknown {
-        return refused(5);
-    }
+    0
+}
+
+// What a call that makes one type tests last: that its name is free, and that there is room.
+fn room_for(base: &[u8], sds: usize, name: &[u8]) -> Place
+    requires { ⌜ Sound (now base) ⌝ }
+    ensures { λ r. ⌜ Room (now (base .entry)) sds (now (name .entry)) (r .no) (r .t) ⌝ }
+{
     if working::find::type_in(base, sds, name) != Limits::TYPES {
         return refused(11);
     }
@@ -50,6 +57,20 @@ fn place_for(base: &[u8], sds: usize, name: &[u8], unknown: bool) -> Place
         return refused(14);
     }
     Place { no: 0, t }
+}
+
+// `unknown` is whether the call was given a value kind, and does not know it.
+fn place_for(base: &[u8], sds: usize, name: &[u8], unknown: bool) -> Place
+    ensures { λ r. ⌜ Placed (now (base .entry)) sds (now (name .entry)) unknown (r .no) (r .t) ⌝ }
+{
+    let no = aimed(base, sds, name);
+    if no != 0 {
+        return refused(no);
+    }
+    if unknown {
+        return refused(5);
+    }
+    room_for(base, sds, name)
 }
 
 pub fn new_attribute(base: &mut [u8], sds: usize, name: &[u8], value: usize) -> Answer

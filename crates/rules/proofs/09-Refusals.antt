@@ -3,7 +3,7 @@
 use Prim.Native.Nat.{ℕ}
 use mathlib.Core.Path.{_≡_, refl, sym, ap, _∙_}
 use mathlib.Core.List.{[], _∷_, _++_}
-use mathlib.Core.Bool.{Bool, true, false, cond, true≢false}
+use mathlib.Core.Bool.{Bool, true, false, cond, _||_, true≢false}
 use lib.Dec.{ltb}
 use Rattle.rules.specs.01-Lists.{all}
 use Rattle.rules.specs.09-Refusals.{Outcome, Refusals, verdict}
@@ -33,6 +33,12 @@ module _ {Made : Type 0} where
   unfolding verdict
   ends p = p .is
 
+  -- two conditions of one number
+  pub verdict-either : (n : ℕ) (x y : Bool) (cs : Refusals) (effect : Outcome Made) → verdict ((n, x || y) ∷ cs) effect ≡ verdict ((n, x) ∷ (n, y) ∷ cs) effect
+  unfolding verdict
+  verdict-either n true y cs effect = refl
+  verdict-either n false y cs effect = refl
+
   -- what holds of every refusal, and of the effect where all conditions fail, holds of the verdict
   pub verdict-keeps : (P : Outcome Made → Type 0) (cs : Refusals) (effect : Outcome Made) → ((n : ℕ) → P (refused n)) → (Passed cs → P effect)
       → P (verdict cs effect)
@@ -50,6 +56,29 @@ module _ {Made : Type 0} where
 unfoldable pub told : Refusals → ℕ
 told [] = 0
 told (c ∷ cs) = cond (c .1) (c .0) (told cs)
+
+-- of two lists the first decides where one of its conditions holds, and else the second
+pub told-first : (cs rest : Refusals) → (told cs ≡ 0 → ⊥) → told (cs ++ rest) ≡ told cs
+unfolding told
+told-first [] rest n = absurd (n refl)
+told-first (c ∷ cs) rest n = go (c .1) n (told-first cs rest)
+  where
+    go : (x : Bool) → (cond x (c .0) (told cs) ≡ 0 → ⊥) → ((told cs ≡ 0 → ⊥) → told (cs ++ rest) ≡ told cs)
+        → cond x (c .0) (told (cs ++ rest)) ≡ cond x (c .0) (told cs)
+    go true n f = refl
+    go false n f = f n
+
+pub told-rest : (cs rest : Refusals) → all (λ c. ltb 0 (c .0)) cs ≡ true → told cs ≡ 0 → told (cs ++ rest) ≡ told rest
+unfolding told all
+told-rest [] rest h z = refl
+told-rest (c ∷ cs) rest h z = go (c .1) z (told-rest cs rest (and-both (ltb 0 (c .0)) (all (λ c. ltb 0 (c .0)) cs) h .1))
+  where
+    positive : ltb 0 (c .0) ≡ true
+    positive = and-both (ltb 0 (c .0)) (all (λ c. ltb 0 (c .0)) cs) h .0
+
+    go : (x : Bool) → cond x (c .0) (told cs) ≡ 0 → (told cs ≡ 0 → told (cs ++ rest) ≡ told rest) → cond x (c .0) (told (cs ++ rest)) ≡ told rest
+    go true z f = absurd (true≢false (sym positive ∙ ap (ltb 0) z))
+    go false z f = f z
 
 module _ {Made : Type 0} {o : Outcome Made} (effect : Outcome Made) where
   pub told-stops : (cs rest : Refusals) → o ≡ verdict (cs ++ rest) effect → (told cs ≡ 0 → ⊥) → o ≡ refused (told cs)

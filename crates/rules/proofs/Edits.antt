@@ -1,11 +1,12 @@
 -- Lists edited: an element put in at its place, those that pass a test taken out, and what the list then holds. Assumes nothing.
-use Prim.Native.Nat.{suc}
+use Prim.Native.Nat.{ℕ, zero, suc, _≤_, _<_}
+use native.Mathlib.Omega.{arith}
 use mathlib.Core.Path.{_≡_, refl, sym, ap, _∙_}
 use mathlib.Core.Logic.{_⊎_, inl, inr, ⊎-elim}
-use mathlib.Core.List.{List, [], _∷_, List·Memᴰ·not-nil, List·Memᴰ·cases-cons}
+use mathlib.Core.List.{List, [], _∷_, _++_, List·Memᴰ·not-nil, List·Memᴰ·cases-cons}
 use mathlib.Core.List.List·Memᴰ.{List·Memᴰ·head, List·Memᴰ·tail}
 use mathlib.Core.Bool.{Bool, true, false, cond, _||_, true≢false, false≢true}
-use lib.ListN.{length}
+use lib.ListN.{length, getD, take, drop}
 use Rattle.rules.specs.01-Lists.{_∈_, any, first, without, rising, put}
 use Rattle.rules.proofs.Bools.{or-neither, and-both, and-of}
 
@@ -57,6 +58,17 @@ module _ {A : Type 0} (before : A → A → Bool) where
       go : (t : Bool) → before x a ≡ t → rising before (put before a rs) ≡ true → rising before (cond t (x ∷ put before a rs) (a ∷ x ∷ rs)) ≡ true
       go true q ih = put-behind x a rs q r ih
       go false q ih = and-of (before a x) (rising before (x ∷ rs)) (f x (List·Memᴰ·head refl) q) r
+
+  -- the first k elements are before a, and the next is not
+  pub put-place : (a d : A) (rs : List A) (k : ℕ) → k ≤ length rs → ((i : ℕ) → i < k → before (getD rs i d) a ≡ true)
+      → (k < length rs → before (getD rs k d) a ≡ false) → put before a rs ≡ take k rs ++ a ∷ drop k rs
+  unfolding put
+  put-place a d [] zero h f g = refl
+  put-place a d [] (suc k) h f g = absurd (omega arith)
+  put-place a d (x ∷ rs) zero h f g = rw (g (omega arith))
+  put-place a d (x ∷ rs) (suc k) h f g =
+      rw (f 0 (omega arith))
+      (ap (λ (l : List A). x ∷ l) (put-place a d rs k (omega arith) (λ i l. f (suc i) (omega arith)) (λ l. g (omega arith))))
 
   -- what was put in, and what was there
   pub put-new : (a : A) (rs : List A) → a ∈ put before a rs

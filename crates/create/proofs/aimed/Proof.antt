@@ -1,3 +1,4 @@
+-- `create::aimed` meets its contract. Its refusals test by test. Assumes nothing.
 use borrow.Author.Needs.{needs}
 use native.Mathlib.Omega.{arith}
 use mathlib.Core.Path.{_≡_, refl, sym, _∙_}
@@ -38,7 +39,7 @@ is-sds-requires c κs = sound-long (past-0 c .sound)
 
 returns-2 : tie.Need-returns-2
 returns-2 c = not-aimed (come-stops (past-0 (c .before .before))
-  (unknown _ (sound-long (past-0 (c .before .before) .sound)) _ (sym (c .before .is-sds .ensures) ∙ not-true _ (c .if2 .taken))) refl) (λ z. omega arith)
+    (unknown _ (sound-long (past-0 (c .before .before) .sound)) _ (sym (c .before .is-sds .ensures) ∙ not-true _ (c .if2 .taken))) refl) (λ z. omega arith)
 
 returns-3 : tie.Need-returns-3
 returns-3 c = not-aimed (come-stops (past-1 (c .before)) (system-stops _ (c .if3 .taken)) refl) (λ z. omega arith)
@@ -48,17 +49,17 @@ is-well-formed-requires c κs = search needs
 
 returns-4 : tie.Need-returns-4
 returns-4 c = not-aimed (come-stops (past-2 (c .before .before))
-  (malformed-stops _ (sym (c .before .is-well-formed .ensures) ∙ not-true _ (c .if4 .taken))) refl) (λ z. omega arith)
+    (malformed-stops _ (sym (c .before .is-well-formed .ensures) ∙ not-true _ (c .if4 .taken))) refl) (λ z. omega arith)
 
 returns-5 : tie.Need-returns-5
 returns-5 c =
-  let p = past-2 (c .before .before) in
-  let f = sym (c .before .is-well-formed .ensures) ∙ not-false _ (c .if4 .left) in
-  record {
-    told = come-through (come-next p (formed-passes _ f));
-    small = λ _. used-below _ (sound-long (p .sound)) _ (used-1 (c .before .before .before));
-    formed = λ _. f;
-  }
+    let p = past-2 (c .before .before) in
+    let f = sym (c .before .is-well-formed .ensures) ∙ not-false _ (c .if4 .left) in
+    record {
+      told = come-through (come-next p (formed-passes _ f));
+      small = λ _. used-below _ (sound-long (p .sound)) _ (used-1 (c .before .before .before));
+      formed = λ _. f;
+    }
 
 pub aimed-spec : {M : Type 1} → statement M
 aimed-spec =

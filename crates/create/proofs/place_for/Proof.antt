@@ -1,3 +1,4 @@
+-- `create::place_for` meets its contract. What its two parts tell, and the value kind between them, are its refusals. Assumes nothing.
 use borrow.Author.Needs.{needs}
 use Rattle.conditions.proofs.TestedLaws.{tested-sound}
 use Rattle.create.proofs.CreateLaws.{aimed-stops, aimed-unknown, aimed-placed}

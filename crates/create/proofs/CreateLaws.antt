@@ -27,7 +27,7 @@ use Rattle.base.proofs.Kept.{kept-done}
 use Rattle.base.proofs.Shown.{presences-long}
 use Rattle.base.proofs.StoredLaws.{shows-schema, shows-stored}
 use Rattle.conditions.specs.Tested.{Tested}
-use Rattle.conditions.proofs.TestedLaws.{Come, come-first, come-next, come-stops, come-last, come-past, tested-first, tested-sound}
+use Rattle.conditions.proofs.TestedLaws.{Come, come-first, come-next, come-stops, come-rest, come-past, tested-first, tested-sound}
 use Rattle.create.specs.Create.{aim-refusals, room-refusals, one-refusals, Ready, Aimed, Room, Placed}
 
 -- ---- what the tests of a call that makes one type say
@@ -82,7 +82,7 @@ module _ {b : List ℕ} {d : ℕ} {n : Name} {no : ℕ} (a : Aimed b d n no) (z 
 
     pub aimed-placed : unknown ≡ false → Room b d n no′ t → Placed b d n unknown no′ t
     aimed-placed e r = record {
-      told = come-last (come-next (come-aimed a z ((5, unknown) ∷ room-refusals (schema-of b) d n)) e) (r .told);
+      told = come-rest (come-next (come-aimed a z ((5, unknown) ∷ room-refusals (schema-of b) d n)) e) (r .told);
       value-known = λ _. e;
       ready = both-ready r;
     }

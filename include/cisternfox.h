@@ -33,6 +33,14 @@ cf_answer cf_new_sds(uint8_t *base, size_t base_len, const uint8_t *name, size_t
  * 1: the base is not sound; 2: no SDS has the number; 3: it is SDS 0; 12: it holds a type. */
 cf_answer cf_remove_sds(uint8_t *base, size_t base_len, size_t sds);
 
+/* Makes an object type in an SDS. Its parents are 1 to 4 object types, by their local names there in one run of bytes,
+ * parted by one space. one: its number, the lowest unused.
+ * 1: the base is not sound; 2: no SDS has the number; 3: it is SDS 0; 4: a name is malformed; 5: the parents are not 1
+ * to 4; 6: no type bears a parent's name there; 7: it is no object type; 8: a parent is named twice; 11: a type bears
+ * the name in that SDS; 14: there is no room for a type or a presence. */
+cf_answer cf_new_object(uint8_t *base, size_t base_len, size_t sds, const uint8_t *name, size_t name_len,
+                        const uint8_t *parents, size_t parents_len);
+
 /* Makes an attribute type in an SDS. Its value kind is 0 boolean, 1 integer, 2 natural, 3 float, 4 time or 5 string.
  * one: its number, the lowest unused.
  * 1: the base is not sound; 2: no SDS has the number; 3: it is SDS 0; 4: the name is malformed; 5: the value kind is
@@ -44,6 +52,25 @@ cf_answer cf_new_attribute(uint8_t *base, size_t base_len, size_t sds, const uin
  * 1: the base is not sound; 2: no SDS has the number; 3: it is SDS 0; 4: the name is malformed; 11: a type bears the
  * name in that SDS; 14: there is no room for a type or a presence. */
 cf_answer cf_new_designation(uint8_t *base, size_t base_len, size_t sds, const uint8_t *name, size_t name_len);
+
+/* Makes two link types in an SDS, each the reverse of the other. A category is 0 composition, 1 existence, 2 reference
+ * or 3 implicit. one: the number of the first, the lowest unused; two: that of its reverse, the next lowest.
+ * 1: the base is not sound; 2: no SDS has the number; 3: it is SDS 0; 4: a name is malformed; 5: a category is unknown,
+ * or both are implicit; 11: a type bears a name in that SDS, or the two are equal; 14: there is no room for two types
+ * or two presences. */
+cf_answer cf_new_pair(uint8_t *base, size_t base_len, size_t sds, const uint8_t *name, size_t name_len,
+                      const uint8_t *reverse_name, size_t reverse_name_len, size_t category, size_t reverse_category);
+
+/* Puts a type of one SDS, by its local name there, into another too; a link type with its reverse. A new name of length
+ * 0 means the name in the source. Applications and ends don't come along.
+ * one: the type's number; two: that of its reverse, 0 where it has none.
+ * 1: the base is not sound; 2: no SDS has a number; 3: the target is SDS 0; 4: a name is malformed; 6: no type bears
+ * the name in the source; 7: a reverse name is given and the type has no reverse; 9: the type is in the target; 10: a
+ * parent of it is not; 11: a type bears a new name in the target, or the two are equal; 14: there is no room for the
+ * presences. */
+cf_answer cf_import(uint8_t *base, size_t base_len, size_t target, size_t source, const uint8_t *name, size_t name_len,
+                    const uint8_t *new_name, size_t new_name_len, const uint8_t *new_reverse_name,
+                    size_t new_reverse_name_len);
 
 /* Applies an attribute type to an object or link type within an SDS, by their local names there.
  * 1: the base is not sound; 2: no SDS has the number; 3: it is SDS 0; 4: a name is malformed; 6: no type bears a name
@@ -64,9 +91,23 @@ cf_answer cf_unapply(uint8_t *base, size_t base_len, size_t sds, const uint8_t *
 cf_answer cf_apply_link(uint8_t *base, size_t base_len, size_t sds, const uint8_t *link, size_t link_len,
                         const uint8_t *object, size_t object_len);
 
+/* Takes both away. 1, 2, 3, 4, 6, 7: as above; 13: it is not that end. */
+cf_answer cf_unapply_link(uint8_t *base, size_t base_len, size_t sds, const uint8_t *link, size_t link_len,
+                          const uint8_t *object, size_t object_len);
+
 /* The converse: the object type becomes a destination of the link type and an origin of its reverse. */
 cf_answer cf_add_destination(uint8_t *base, size_t base_len, size_t sds, const uint8_t *link, size_t link_len,
                              const uint8_t *object, size_t object_len);
+
+/* Takes both away. 1, 2, 3, 4, 6, 7: as above; 13: it is not that end. */
+cf_answer cf_remove_destination(uint8_t *base, size_t base_len, size_t sds, const uint8_t *link, size_t link_len,
+                                const uint8_t *object, size_t object_len);
+
+/* Removes a type from an SDS, by its local name there; a link type with its reverse. A type that is in no SDS any more
+ * is gone. one: its number.
+ * 1: the base is not sound; 2: no SDS has the number; 3: it is SDS 0; 4: the name is malformed; 6: no type bears it
+ * there; 12: there it has a child, is applied, has anything applied to it, or is or has an end, or its reverse does. */
+cf_answer cf_remove_type(uint8_t *base, size_t base_len, size_t sds, const uint8_t *name, size_t name_len);
 
 /* Gives a type another local name in an SDS. Its own present name is accepted and changes nothing.
  * 1: the base is not sound; 2: no SDS has the number; 3: it is SDS 0; 4: a name is malformed; 6: no type bears the name

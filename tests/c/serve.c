@@ -7,6 +7,7 @@
 #include "cisternfox.h"
 #include "clock.h"
 #include <stdio.h>
+#include <string.h>
 
 struct slice {
     uint8_t *at;
@@ -29,12 +30,18 @@ struct lent {
     CALL(fresh, BASE) \
     CALL(new_sds, BASE, TEXT(0)) \
     CALL(remove_sds, BASE, NUMBER(0)) \
+    CALL(new_object, BASE, NUMBER(0), TEXT(0), TEXT(1)) \
     CALL(new_attribute, BASE, NUMBER(0), TEXT(0), NUMBER(1)) \
     CALL(new_designation, BASE, NUMBER(0), TEXT(0)) \
+    CALL(new_pair, BASE, NUMBER(0), TEXT(0), TEXT(1), NUMBER(1), NUMBER(2)) \
+    CALL(import, BASE, NUMBER(0), NUMBER(1), TEXT(0), TEXT(1), TEXT(2)) \
     CALL(apply, BASE, NUMBER(0), TEXT(0), TEXT(1)) \
     CALL(unapply, BASE, NUMBER(0), TEXT(0), TEXT(1)) \
     CALL(apply_link, BASE, NUMBER(0), TEXT(0), TEXT(1)) \
+    CALL(unapply_link, BASE, NUMBER(0), TEXT(0), TEXT(1)) \
     CALL(add_destination, BASE, NUMBER(0), TEXT(0), TEXT(1)) \
+    CALL(remove_destination, BASE, NUMBER(0), TEXT(0), TEXT(1)) \
+    CALL(remove_type, BASE, NUMBER(0), TEXT(0)) \
     CALL(rename, BASE, NUMBER(0), TEXT(0), TEXT(1)) \
     CALL(name, BASE, NUMBER(0), NUMBER(1)) \
     CALL(scan_object, BASE, TEXT(0), NUMBER(0), NUMBER(1), OUTPUT) \
@@ -99,14 +106,22 @@ static struct lent lent_by(const struct request *request)
     return lent;
 }
 
+/* Each of the calls finds the area as it came: only what passes within them is timed. */
 static struct reply answer(const struct request *request)
 {
+    static uint8_t found[sizeof area];
     struct lent lent = lent_by(request);
     cf_answer answer = {0, 0, 0, 0};
-    uint64_t start = now();
-    for (uint64_t n = 0; n < request->times; n++)
+    uint64_t nanoseconds = 0;
+    memcpy(found, area, request->area_length);
+    for (uint64_t n = 0; n < request->times; n++) {
+        if (n > 0)
+            memcpy(area, found, request->area_length);
+        uint64_t start = now();
         answer = functions[request->function](&lent);
-    return (struct reply){{answer.no, answer.one, answer.two, answer.three}, now() - start};
+        nanoseconds += now() - start;
+    }
+    return (struct reply){{answer.no, answer.one, answer.two, answer.three}, nanoseconds};
 }
 
 int main(void)

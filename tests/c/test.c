@@ -62,11 +62,19 @@ static cf_answer new_sds(const char *name) { return cf_new_sds(base, LENGTH, TEX
 static cf_answer remove_sds(size_t sds) { return cf_remove_sds(base, LENGTH, sds); }
 static cf_answer name(size_t sds, size_t type) { return cf_name(base, LENGTH, sds, type); }
 
+#define NEW_OBJECT(sds, name, parents) cf_new_object(base, LENGTH, sds, TEXT(name), TEXT(parents))
+#define NEW_PAIR(sds, name, reverse, category, back) \
+    cf_new_pair(base, LENGTH, sds, TEXT(name), TEXT(reverse), category, back)
+#define IMPORT(target, source, name, new_name, new_reverse) \
+    cf_import(base, LENGTH, target, source, TEXT(name), TEXT(new_name), TEXT(new_reverse))
+#define REMOVE_TYPE(sds, name) cf_remove_type(base, LENGTH, sds, TEXT(name))
 #define NEW_ATTRIBUTE(sds, name, kind) cf_new_attribute(base, LENGTH, sds, TEXT(name), kind)
 #define NEW_DESIGNATION(sds, name) cf_new_designation(base, LENGTH, sds, TEXT(name))
 #define APPLY(sds, attribute, to) cf_apply(base, LENGTH, sds, TEXT(attribute), TEXT(to))
 #define UNAPPLY(sds, attribute, to) cf_unapply(base, LENGTH, sds, TEXT(attribute), TEXT(to))
 #define APPLY_LINK(sds, link, object) cf_apply_link(base, LENGTH, sds, TEXT(link), TEXT(object))
+#define UNAPPLY_LINK(sds, link, object) cf_unapply_link(base, LENGTH, sds, TEXT(link), TEXT(object))
+#define REMOVE_DESTINATION(sds, link, object) cf_remove_destination(base, LENGTH, sds, TEXT(link), TEXT(object))
 #define ADD_DESTINATION(sds, link, object) cf_add_destination(base, LENGTH, sds, TEXT(link), TEXT(object))
 #define RENAME(sds, name, new_name) cf_rename(base, LENGTH, sds, TEXT(name), TEXT(new_name))
 
@@ -363,6 +371,87 @@ static void both_ends(void)
     LISTS(SCAN_LINK("\1", SEVEN, 0), "\1\2", 2, 0, 0);
     LISTS(SCAN_LINK("\1", EIGHT, 2), "\1\2", 2, 0, 0);
     LISTS(SCAN_LINK("\1", NINE, 2), "\1\2", 2, 0, 0);
+    /* What one end brought, the other takes away. */
+    ANSWERS(REMOVE_DESTINATION(1, "eight", "top"), 0, 0, 0, 0);
+    ANSWERS(UNAPPLY_LINK(1, "seven", "top"), 13, 0, 0, 0);
+    ANSWERS(REMOVE_DESTINATION(1, "nine", "left"), 0, 0, 0, 0);
+    ANSWERS(REMOVE_DESTINATION(1, "nine", "left"), 13, 0, 0, 0);
+    ANSWERS(UNAPPLY_LINK(1, "left", "left"), 7, 0, 0, 0);
+    a_base_with_links();
+    ANSWERS(UNAPPLY_LINK(1, "seven", "left"), 0, 0, 0, 0);
+    output_length = OUTPUT;
+    ANSWERS(SCAN_LINK("\1", EIGHT, 2), 0, 0, 0, 0);
+    ANSWERS(ADD_DESTINATION(1, "eight", "left"), 0, 0, 0, 0);
+    EXPECT(is_kept());
+    EXPECT(is_guarded());
+}
+
+/* The worked sequence of document 01. */
+static void the_auditors_case(void)
+{
+    fresh();
+    ANSWERS(new_sds("bus"), 0, 1, 0, 0);
+    ANSWERS(IMPORT(1, 0, "object", "", ""), 0, 0, 0, 0);
+    ANSWERS(NEW_OBJECT(1, "unit", "object"), 0, UNIT, 0, 0);
+    ANSWERS(NEW_OBJECT(1, "template", "unit"), 0, TEMPLATE, 0, 0);
+    ANSWERS(NEW_OBJECT(1, "radio", "unit"), 0, RADIO, 0, 0);
+    ANSWERS(NEW_OBJECT(1, "fifo", "template radio"), 0, FIFO, 0, 0);
+    ANSWERS(NEW_OBJECT(1, "fifo2", "radio template"), 0, FIFO2, 0, 0);
+    keep();
+    LISTS(SCAN_OBJECT("\1", TEMPLATE, 1), "\4\5", 2, 0, 0);
+    ANSWERS(REMOVE_TYPE(1, "template"), 12, 0, 0, 0);
+    EXPECT(is_kept());
+    ANSWERS(REMOVE_TYPE(1, "fifo"), 0, FIFO, 0, 0);
+    ANSWERS(NEW_OBJECT(1, "adc", "fifo2"), 0, ADC, 0, 0);
+    ANSWERS(new_sds("other"), 0, 2, 0, 0);
+    /* One schema has one base. */
+    static uint8_t made[LENGTH];
+    memcpy(made, base, LENGTH);
+    a_base_with_adc();
+    EXPECT(memcmp(made, base, LENGTH) == 0);
+    LISTS(SCAN_OBJECT("\1", TEMPLATE, 1), "\4\5", 2, 0, 0);
+    ANSWERS(DEPTH("\1", ADC), 0, 4, 0, 0);
+    EXPECT(is_guarded());
+}
+
+static void parents(void)
+{
+    a_base_with_adc();
+    ANSWERS(NEW_OBJECT(1, "x", ""), 5, 0, 0, 0);
+    ANSWERS(NEW_OBJECT(1, "x", " "), 4, 0, 0, 0);
+    ANSWERS(NEW_OBJECT(1, "x", "unit radio adc fifo2 object"), 5, 0, 0, 0);
+    ANSWERS(NEW_OBJECT(1, "x", "unit  radio"), 4, 0, 0, 0);
+    ANSWERS(NEW_OBJECT(1, "x", "unit unit none"), 6, 0, 0, 0);
+    ANSWERS(NEW_OBJECT(1, "x", "unit radio unit"), 8, 0, 0, 0);
+    ANSWERS(NEW_OBJECT(1, "radio", "unit"), 11, 0, 0, 0);
+    EXPECT(is_kept());
+    ANSWERS(NEW_OBJECT(1, "x", "radio unit fifo2 adc"), 0, 6, 0, 0);
+    keep();
+    LISTS(SCAN_OBJECT("\1", 6, 2), "\1\3\4\5", 4, 0, 0);
+    EXPECT(is_guarded());
+}
+
+static void pairs(void)
+{
+    a_base_with_adc();
+    ANSWERS(NEW_PAIR(1, "has", "of", 3, 3), 5, 0, 0, 0);
+    ANSWERS(NEW_PAIR(1, "has", "of", 4, 0), 5, 0, 0, 0);
+    ANSWERS(NEW_PAIR(1, "has", "has", 0, 3), 11, 0, 0, 0);
+    ANSWERS(NEW_PAIR(1, "has", "radio", 0, 3), 11, 0, 0, 0);
+    EXPECT(is_kept());
+    ANSWERS(NEW_PAIR(1, "has", "of", 0, 3), 0, 6, 7, 0);
+    ANSWERS(IMPORT(2, 1, "of", "", ""), 0, 7, 6, 0);
+    EXPECT(is_named(2, 6, "has") && is_named(2, 7, "of"));
+    ANSWERS(IMPORT(2, 1, "has", "of", ""), 9, 0, 0, 0);
+    ANSWERS(IMPORT(2, 1, "radio", "", ""), 10, 0, 0, 0);
+    ANSWERS(IMPORT(2, 0, "object", "of", ""), 11, 0, 0, 0);
+    ANSWERS(IMPORT(2, 0, "object", "", "of"), 7, 0, 0, 0);
+    /* The pair stays where it was made, and goes from both together. */
+    ANSWERS(REMOVE_TYPE(2, "has"), 0, 6, 0, 0);
+    ANSWERS(name(2, 7), 6, 0, 0, 0);
+    EXPECT(is_named(1, 7, "of"));
+    ANSWERS(REMOVE_TYPE(1, "of"), 0, 7, 0, 0);
+    EXPECT(is_kept());
     EXPECT(is_guarded());
 }
 
@@ -562,6 +651,9 @@ int main(void)
     another_name();
     new_types();
     both_ends();
+    the_auditors_case();
+    parents();
+    pairs();
     a_spoiled_base();
     a_fresh_base_asked();
     every_descendant();

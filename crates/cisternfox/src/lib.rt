@@ -2,7 +2,8 @@
 // says what the host owes.
 use base::Base;
 use rules::Answer;
-ghost use Rattle.rules.specs.10-Changes.{new-sds, remove-sds, new-attribute, new-designation, apply, unapply, apply-link, add-destination, rename};
+ghost use Rattle.rules.specs.10-Changes.{new-sds, remove-sds, new-object, new-attribute, new-designation, new-pair, import, apply, unapply};
+ghost use Rattle.rules.specs.10-Changes.{apply-link, unapply-link, add-destination, remove-destination, remove-type, rename};
 ghost use Rattle.rules.specs.11-Asks.{scan-object, scan-link, profile, find, depth-of, name, descendant-set};
 ghost use Rattle.rules.specs.07-Picture.{base-length};
 ghost use Rattle.rules.specs.12-Contracts.{room, Kept, Listed, Answered, Freshened};
@@ -37,6 +38,13 @@ pub extern "C" fn cf_remove_sds(base: &mut [u8], sds: usize) -> Answer
 }
 
 #[no_mangle]
+pub extern "C" fn cf_new_object(base: &mut [u8], sds: usize, name: &[u8], parents: &[u8]) -> Answer
+    ensures { λ r. ⌜ Kept (now (base .entry)) (new-object sds (now (name .entry)) (now (parents .entry))) r (now (base .exit)) ⌝ }
+{
+    create::object::new_object(base, sds, name, parents)
+}
+
+#[no_mangle]
 pub extern "C" fn cf_new_attribute(base: &mut [u8], sds: usize, name: &[u8], value: usize) -> Answer
     ensures { λ r. ⌜ Kept (now (base .entry)) (new-attribute sds (now (name .entry)) value) r (now (base .exit)) ⌝ }
 {
@@ -48,6 +56,34 @@ pub extern "C" fn cf_new_designation(base: &mut [u8], sds: usize, name: &[u8]) -
     ensures { λ r. ⌜ Kept (now (base .entry)) (new-designation sds (now (name .entry))) r (now (base .exit)) ⌝ }
 {
     create::new_designation(base, sds, name)
+}
+
+#[no_mangle]
+pub extern "C" fn cf_new_pair(
+    base: &mut [u8],
+    sds: usize,
+    name: &[u8],
+    reverse: &[u8],
+    category: usize,
+    back: usize,
+) -> Answer
+    ensures { λ r. ⌜ Kept (now (base .entry)) (new-pair sds (now (name .entry)) (now (reverse .entry)) category back) r (now (base .exit)) ⌝ }
+{
+    create::pair::new_pair(base, sds, name, reverse, category, back)
+}
+
+#[no_mangle]
+pub extern "C" fn cf_import(
+    base: &mut [u8],
+    target: usize,
+    source: usize,
+    name: &[u8],
+    new: &[u8],
+    new_reverse: &[u8],
+) -> Answer
+    ensures { λ r. ⌜ Kept (now (base .entry)) (import target source (now (name .entry)) (now (new .entry)) (now («new_reverse» .entry))) r (now (base .exit)) ⌝ }
+{
+    presences::import::import(base, target, source, name, new, new_reverse)
 }
 
 #[no_mangle]
@@ -72,6 +108,13 @@ pub extern "C" fn cf_apply_link(base: &mut [u8], sds: usize, link: &[u8], object
 }
 
 #[no_mangle]
+pub extern "C" fn cf_unapply_link(base: &mut [u8], sds: usize, link: &[u8], object: &[u8]) -> Answer
+    ensures { λ r. ⌜ Kept (now (base .entry)) (unapply-link sds (now (link .entry)) (now (object .entry))) r (now (base .exit)) ⌝ }
+{
+    ends::unapply_link(base, sds, link, object)
+}
+
+#[no_mangle]
 pub extern "C" fn cf_add_destination(
     base: &mut [u8],
     sds: usize,
@@ -81,6 +124,25 @@ pub extern "C" fn cf_add_destination(
     ensures { λ r. ⌜ Kept (now (base .entry)) (add-destination sds (now (link .entry)) (now (object .entry))) r (now (base .exit)) ⌝ }
 {
     ends::add_destination(base, sds, link, object)
+}
+
+#[no_mangle]
+pub extern "C" fn cf_remove_destination(
+    base: &mut [u8],
+    sds: usize,
+    link: &[u8],
+    object: &[u8],
+) -> Answer
+    ensures { λ r. ⌜ Kept (now (base .entry)) (remove-destination sds (now (link .entry)) (now (object .entry))) r (now (base .exit)) ⌝ }
+{
+    ends::remove_destination(base, sds, link, object)
+}
+
+#[no_mangle]
+pub extern "C" fn cf_remove_type(base: &mut [u8], sds: usize, name: &[u8]) -> Answer
+    ensures { λ r. ⌜ Kept (now (base .entry)) (remove-type sds (now (name .entry))) r (now (base .exit)) ⌝ }
+{
+    presences::remove::remove_type(base, sds, name)
 }
 
 #[no_mangle]

@@ -1,9 +1,9 @@
-//! The check of soundness and three of the asking calls timed, side by side: the library, the independent keeper and
-//! SQLite.
+//! The check of soundness, three of the asking calls and each changing call timed, side by side: the library, the
+//! independent keeper and, for the asking calls, SQLite.
 #![forbid(unsafe_code)]
 
 use crate::base::{is_sound, to_bytes};
-use crate::calls::{apply, Call};
+use crate::calls::{apply, Call, Text};
 use crate::library::{start, Lent, Replies, Requests};
 use crate::schema::Schema;
 use crate::sqlite::{Answered, Sqlite};
@@ -61,6 +61,20 @@ fn tables(sqlite: &str, program: &[String]) -> Result<(), String> {
                 library / sqlite
             );
         }
+    }
+    println!(
+        "\n{:<21}{:>8}{:>8}{:>8}{:>8}{:>16}",
+        "typical", "library", "check", "keeper", "held", "library/keeper"
+    );
+    for (what, schema, call) in changes() {
+        show_progress(what);
+        let [library, check, keeper, held] = change(&server, &schema, &call)?;
+        show_progress("");
+        println!(
+            "{what:<21}{library:>8.0}{:>7.0}%{keeper:>8.0}{held:>8.0}{:>16.2}",
+            100.0 * check / library,
+            library / keeper
+        );
     }
     println!("\ncheck: the share of the library's time that the check of soundness takes");
     println!("keeper: over the same bytes, which it checks too");
@@ -124,6 +138,87 @@ fn question(
     ])
 }
 
+/// Each changing call on the typical base, where it is done; a call that would be refused there is made on that base
+/// with one thing more.
+fn changes() -> Vec<(&'static str, Schema, Call)> {
+    let with = |more: Call| {
+        let mut schema = typical();
+        assert_eq!(more.on(&mut schema, 0).no, 0, "{more:?}");
+        schema
+    };
+    let new: fn() -> Text = || "new_type".into();
+    let (attribute, link) = (|| "attribute_7".into(), || "link_7".into());
+    let applied = || Call::Apply { sds: 1, attribute: attribute(), to: "object_type_45".into() };
+    let origin = || Call::ApplyLink { sds: 1, link: link(), object: "object_type_45".into() };
+    let destination = || Call::AddDestination { sds: 1, link: link(), object: "object_type_45".into() };
+    let parents = "object_type_30 object_type_20 object_type_10 object";
+    vec![
+        ("fresh", typical(), Call::Fresh),
+        ("new SDS", typical(), Call::NewSds { name: "another".into() }),
+        ("remove SDS", with(Call::NewSds { name: "another".into() }), Call::RemoveSds { sds: 3 }),
+        ("new object", typical(), Call::NewObject { sds: 1, name: new(), parents: parents.into() }),
+        ("new attribute", typical(), Call::NewAttribute { sds: 1, name: new(), value_kind: 5 }),
+        ("new designation", typical(), Call::NewDesignation { sds: 1, name: new() }),
+        (
+            "new pair",
+            typical(),
+            Call::NewPair { sds: 1, name: new(), reverse_name: "reverse".into(), category: 0, reverse_category: 3 },
+        ),
+        (
+            "import of a pair",
+            typical(),
+            Call::Import {
+                target: 2,
+                source: 1,
+                name: "link_11".into(),
+                new_name: "".into(),
+                new_reverse_name: "".into(),
+            },
+        ),
+        ("apply", typical(), applied()),
+        ("unapply", with(applied()), Call::Unapply { sds: 1, attribute: attribute(), to: "object_type_45".into() }),
+        ("apply link", typical(), origin()),
+        (
+            "unapply link",
+            with(origin()),
+            Call::UnapplyLink { sds: 1, link: link(), object: "object_type_45".into() },
+        ),
+        ("add destination", typical(), destination()),
+        (
+            "remove destination",
+            with(destination()),
+            Call::RemoveDestination { sds: 1, link: link(), object: "object_type_45".into() },
+        ),
+        (
+            "remove type",
+            with(Call::NewAttribute { sds: 1, name: new(), value_kind: 5 }),
+            Call::RemoveType { sds: 1, name: new() },
+        ),
+        ("rename", typical(), Call::Rename { sds: 1, name: "object_type_30".into(), new_name: new() }),
+    ]
+}
+
+/// The call by the library, a check by it, and the call by the keeper, over bytes and over what it holds. Each finds
+/// the base as it was.
+fn change(server: &Server, schema: &Schema, call: &Call) -> Result<[f64; 4], String> {
+    let lent = Lent { base: to_bytes(schema), output: Vec::new() };
+    let reply = call.on(&mut schema.clone(), 0);
+    assert_eq!(reply.no, 0, "{call:?}");
+    let (mut base, mut held) = (lent.base.clone(), schema.clone());
+    side_by_side([
+        &mut || server.time(call, &lent, [reply.no, reply.one, reply.two, reply.three]),
+        &mut || server.time_check(&lent.base),
+        &mut || {
+            let again = |base: &mut Vec<u8>| base.copy_from_slice(&lent.base);
+            Ok(time_each(&mut base, again, |base| _ = black_box(apply(black_box(base), &mut [], call))))
+        },
+        &mut || {
+            let again = |held: &mut Schema| *held = schema.clone();
+            Ok(time_each(&mut held, again, |held| _ = black_box(call.on(black_box(held), 0))))
+        },
+    ])
+}
+
 type Round<'a> = &'a mut dyn FnMut() -> Result<f64, String>;
 
 /// The best that each takes for a call, where all take turns.
@@ -142,6 +237,18 @@ fn time(mut call: impl FnMut()) -> f64 {
     let start = Instant::now();
     (0..CALLS).for_each(|_| call());
     start.elapsed().as_nanos() as f64
+}
+
+/// A round of calls that each find the same; only the calls are timed.
+fn time_each<T>(on: &mut T, again: impl Fn(&mut T), mut call: impl FnMut(&mut T)) -> f64 {
+    let mut nanoseconds = 0.0;
+    for _ in 0..CALLS {
+        again(on);
+        let start = Instant::now();
+        call(on);
+        nanoseconds += start.elapsed().as_nanos() as f64;
+    }
+    nanoseconds
 }
 
 /// The process that serves the library; its calls are timed where they are made.
@@ -235,9 +342,16 @@ fn grown(sdss: usize, [objects, attributes, links]: [usize; 3], limits: [usize; 
 
 #[cfg(test)]
 mod tests {
-    use super::{full, typical};
+    use super::{changes, full, typical};
     use crate::base::{is_sound, to_bytes};
     use crate::schema::Schema;
+
+    #[test]
+    fn every_change_is_done() {
+        for (what, schema, call) in changes() {
+            assert_eq!(call.on(&mut schema.clone(), 0).no, 0, "{what}");
+        }
+    }
 
     #[test]
     fn a_typical_and_a_full_base() {

@@ -18,7 +18,7 @@ use Rattle.rules.specs.10-Changes.{with-applications, application-refusals, app
 use Rattle.rules.specs.12-Contracts.{Kept}
 use Rattle.rules.proofs.Bools.{or-left, or-right, and-both}
 use Rattle.rules.proofs.09-Refusals.{Left, told, told-stops, told-passes}
-use Rattle.base.specs.Rows.{Counted}
+use Rattle.rows.specs.Rows.{Counted}
 use Rattle.base.specs.Back.{schema-of, application-count, application-shown}
 use Rattle.base.specs.Found.{First-row}
 use Rattle.base.specs.Stored.{less-row, Shows}

@@ -17,7 +17,8 @@ use Rattle.rules.specs.12-Contracts.{Answered, Handed, stretch}
 use Rattle.rules.proofs.07-Picture.{strip}
 use Rattle.rules.proofs.09-Refusals.{Left}
 use Rattle.rules.proofs.11-Asks.{place-is, local-at, name-start-is, name-within}
-use Rattle.base.specs.Rows.{presence-at, part}
+use Rattle.rows.specs.Rows.{part}
+use Rattle.base.specs.Rows.{presence-at}
 use Rattle.base.specs.Back.{schema-of, presence-shown, presence-count}
 use Rattle.base.specs.Found.{Presence-row, First-row}
 use Rattle.base.proofs.Shown.{presences-long, presence-is}

@@ -22,10 +22,11 @@ use Rattle.rules.proofs.03-Names.{formed-no-zero}
 use Rattle.rules.proofs.07-Picture.{strip, read-kind, read-presence, read-application, read-end, wide-sds, wide-type, wide-presence}
 use Rattle.rules.proofs.07-Picture.{wide-application, wide-end, length-table, picture-length, sds-back, fitting, kind-back, presence-back}
 use Rattle.rules.proofs.07-Picture.{application-back, end-back, zeros-long}
-use Rattle.base.specs.Rows.{sds-at, part}
+use Rattle.rows.specs.Rows.{part, rows, filled}
+use Rattle.rows.proofs.Rows.{part-part, rows-table, table-rows, table-part, table-rest, rows-append, filled-most, filled-table}
+use Rattle.base.specs.Rows.{sds-at}
 use Rattle.base.specs.Stored.{Storable}
-use Rattle.base.specs.Back.{rows, filled, presence-count, application-count, end-count, schema-of, Canonical}
-use Rattle.base.proofs.Rows.{part-part, rows-table, table-rows, table-part, table-rest, rows-append, filled-most, filled-table}
+use Rattle.base.specs.Back.{presence-count, application-count, end-count, schema-of, Canonical}
 
 -- what stands past the last application and end
 abbrev pub no-application : Application

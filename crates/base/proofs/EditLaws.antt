@@ -18,11 +18,11 @@ use Rattle.rules.proofs.Bools.{and-of}
 use Rattle.rules.proofs.01-Lists.{any-at}
 use Rattle.rules.proofs.03-Names.{same-name-refl}
 use Rattle.rules.proofs.07-Picture.{read-presence, read-application, read-side, read-end, presence-back, application-back, end-back}
+use Rattle.rows.specs.Table.{Rises, Put-in, written, closed}
+use Rattle.rows.proofs.Written.{field-written}
 use Rattle.base.specs.Back.{schema-of}
-use Rattle.base.specs.Table.{Rises, Put-in, written, closed}
 use Rattle.base.specs.Stored.{Named, Applied, Ended, Ordered, less-row, Storable, Shows, Stored}
 use Rattle.base.proofs.Back.{long-sdss, long-types, long-presences, long-applications}
-use Rattle.base.proofs.SdsWritten.{field-written}
 use Rattle.base.proofs.OrderedLaws.{Unlike, Rows-of, of-presences, of-applications, of-ends, ordered-put, ordered-less}
 use Rattle.base.proofs.OrderedLaws.{put-ready, put-opened, take-closed}
 

@@ -1,5 +1,5 @@
 -- A row that is found by halving: where it is, it stands at its place. Assumes nothing.
-use Prim.Native.Nat.{ℕ, suc, _+_, _*_, _%_, _≤_, _<_}
+use Prim.Native.Nat.{ℕ, _+_, _%_, _≤_, _<_}
 use native.Mathlib.Omega.{arith}
 use mathlib.Core.Path.{_≡_, refl, sym, ap, _∙_, subst}
 use mathlib.Core.List.{List, [], _∷_}
@@ -9,11 +9,12 @@ use lib.ListN.{length, getD}
 use borrow.Author.Tests.{ltb-true, ltb-false}
 use Rattle.rules.specs.01-Lists.{bytes-before}
 use Rattle.rules.proofs.01-Lists.{before-irreflexive}
-use Rattle.base.specs.Rows.{end-at, part, Rising, End-row}
-use Rattle.base.specs.Table.{Rises, Place}
+use Rattle.rows.specs.Rows.{part, Rising}
+use Rattle.rows.specs.Decides.{Decides}
+use Rattle.rows.specs.Table.{Rises, Place}
+use Rattle.rows.proofs.Scan.{part-cons, rising-far}
+use Rattle.base.specs.Rows.{end-at, End-row}
 use Rattle.base.specs.Found.{End-at, End-found}
-use Rattle.base.specs.Decides.{Decides}
-use Rattle.base.proofs.Scan.{part-cons, rising-far}
 
 -- the bytes of an end
 pub end-bytes : (b : List ℕ) (i : ℕ) → end-at i + 4 ≤ length b

@@ -12,8 +12,8 @@ use Rattle.rules.specs.09-Refusals.{Outcome, refusal, success, answer-of}
 use Rattle.rules.specs.09-Refusals.Outcome.{refused, done}
 use Rattle.rules.specs.10-Changes.{with-sdss}
 use Rattle.rules.specs.12-Contracts.{Kept, Listed, Answered, base-after, output-after}
+use Rattle.rows.specs.Table.{written}
 use Rattle.base.specs.Rows.{sds-at}
-use Rattle.base.specs.Table.{written}
 use Rattle.base.specs.Back.{schema-of}
 use Rattle.base.proofs.Back.{way-back, canonical-picture, sound-canonical, sound-good}
 use Rattle.base.proofs.SdsWritten.{sds-written}

@@ -12,11 +12,12 @@ use Rattle.rules.specs.04-Schema.{Kind, kind-of, is-used, is-object, is-attribu
 use Rattle.rules.specs.04-Schema.Kind.{unused, object, attribute, designation, paired}
 use Rattle.rules.specs.07-Picture.{Sound, pad, type-row, base-length}
 use Rattle.rules.proofs.07-Picture.{read-kind}
-use Rattle.base.specs.Rows.{type-at, part}
+use Rattle.rows.specs.Rows.{part}
+use Rattle.rows.proofs.Rows.{part-byte}
+use Rattle.base.specs.Rows.{type-at}
 use Rattle.base.specs.Back.{schema-of, kind-shown}
 use Rattle.base.specs.Kinds.{kind-code}
 use Rattle.base.proofs.Back.{sound-canonical}
-use Rattle.base.proofs.Rows.{part-byte}
 use Rattle.base.proofs.Shown.{kind-is, kind-none, shows-attribute, shows-designation, shows-paired, shows-unused}
 
 abbrev pub kind-byte : List ℕ → ℕ → ℕ

@@ -1,14 +1,11 @@
-pub mod Rows
-pub mod Scan
 pub mod Back
 pub mod Shown
 pub mod Walked
-pub mod Decides
-pub mod TableLaws
 pub mod FindLaws
 pub mod KindBytes
 pub mod SdsShown
 pub mod SdsWritten
+pub mod Fresh
 pub mod Kept
 pub mod OrderLaws
 pub mod StoredLaws

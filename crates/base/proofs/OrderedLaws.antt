@@ -3,7 +3,7 @@ use Prim.Native.Nat.{ℕ, zero, suc, _+_, _*_, _≤_, _<_}
 use native.Mathlib.Nat.{mul-le-mul-right}
 use native.Mathlib.Omega.{arith}
 use mathlib.Core.Path.{_≡_, refl, sym, ap, _∙_, subst}
-use mathlib.Core.Logic.{_⊎_, ⊎-elim}
+use mathlib.Core.Logic.{⊎-elim}
 use mathlib.Core.List.{List, [], _∷_, _++_, append-nil, List·Memᴰ·cases-cons}
 use mathlib.Core.List.List·Memᴰ.{List·Memᴰ·head, List·Memᴰ·tail}
 use mathlib.Core.Bool.{Bool, true, false, not, _&&_, _||_, true≢false, and-false, or-false}
@@ -19,12 +19,12 @@ use Rattle.rules.proofs.01-Lists.{place-in, before-irreflexive, before-transiti
 use Rattle.rules.proofs.Edits.{put-long, put-in, tail-rising, put-rising}
 use Rattle.rules.proofs.03-Names.{pad-before}
 use Rattle.rules.proofs.07-Picture.{length-pad, length-table, wide-presence, wide-application, wide-end}
-use Rattle.base.specs.Rows.{part}
-use Rattle.base.specs.Table.{Rises, Put-in, closed}
+use Rattle.rows.specs.Rows.{part}
+use Rattle.rows.specs.Table.{Rises, Put-in, closed}
+use Rattle.rows.proofs.Scan.{rising-far}
+use Rattle.rows.proofs.TableLaws.{row-fits, put-at, without-at, table-opened, table-closed}
 use Rattle.base.specs.Stored.{Named, Applied, Ended, Ordered, less-row}
-use Rattle.base.proofs.Scan.{rising-far}
 use Rattle.base.proofs.Back.{row-there}
-use Rattle.base.proofs.TableLaws.{row-fits, put-at, without-at, table-opened, table-closed}
 
 -- ---- the bytes of two rows stand as the rows do
 

@@ -16,10 +16,11 @@ use Rattle.rules.proofs.Bools.{and-of, or-right}
 use Rattle.rules.proofs.01-Lists.{any-at, any-none, at-place, place-in, numbers-first, numbers-none}
 use Rattle.rules.proofs.03-Names.{same-name-is}
 use Rattle.rules.proofs.07-Picture.{strip}
-use Rattle.base.specs.Rows.{sds-at, presence-at, part}
+use Rattle.rows.specs.Rows.{part}
+use Rattle.rows.proofs.Scan.{length-part}
+use Rattle.base.specs.Rows.{sds-at, presence-at}
 use Rattle.base.specs.Back.{schema-of, presence-count}
 use Rattle.base.specs.Found.{Free-sds}
-use Rattle.base.proofs.Scan.{length-part}
 use Rattle.base.proofs.Shown.{sdss-long, sds-is, sds-none, presence-there, presence-in}
 
 -- ---- SDSs

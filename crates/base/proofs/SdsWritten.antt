@@ -1,61 +1,20 @@
 -- A name over the field of an SDS is that name in the schema. Assumes nothing.
-use Prim.Native.Nat.{ℕ, zero, suc, _+_, _*_, _-_, _≤_, _<_}
-use native.Mathlib.Nat.{le-of-suc-le-suc, not-suc-le-zero}
+use Prim.Native.Nat.{ℕ, _+_, _*_, _-_, _≤_, _<_}
 use native.Mathlib.Omega.{arith}
-use mathlib.Core.Path.{_≡_, refl, sym, ap, _∙_}
-use mathlib.Core.List.{List, [], _∷_, _++_, append-assoc}
+use mathlib.Core.Path.{_≡_, sym, ap, _∙_}
+use mathlib.Core.List.{List, _++_}
 use lib.ListN.{length, take, drop, set, replicate, length-take, length-drop}
-use lib.Seq.{drop-at, take-append-le, drop-append-le, take-append-add, drop-append-add, drop-drop, length-take-le}
+use lib.Seq.{drop-drop, length-take-le}
 use borrow.Rule.Slice.PartMut.{putMid}
 use Rattle.rules.specs.03-Names.{Name}
 use Rattle.rules.specs.04-Schema.{Schema}
 use Rattle.rules.specs.06-Good.{Good}
-use Rattle.rules.specs.07-Picture.{pad, sds-row, table, sds-table, type-table, presence-table, application-table, end-table, picture}
+use Rattle.rules.specs.07-Picture.{sds-row, sds-table, type-table, presence-table, application-table, end-table, picture}
 use Rattle.rules.specs.10-Changes.{with-sdss}
-use Rattle.rules.proofs.07-Picture.{zeros-long, length-pad, length-table, wide-sds}
+use Rattle.rules.proofs.07-Picture.{length-pad, length-table, wide-sds}
+use Rattle.rows.specs.Table.{written}
+use Rattle.rows.proofs.Written.{written-before, field-written, table-set}
 use Rattle.base.specs.Rows.{sds-at}
-use Rattle.base.specs.Table.{written}
-
--- ---- bytes over others
-
-zeros : (m j : ℕ) → m ≤ j → replicate {A = ℕ} m 0 ≡ take m (replicate j 0)
-zeros zero j h = refl
-zeros (suc m) zero h = absurd (not-suc-le-zero h)
-zeros (suc m) (suc j) h = ap (λ (l : List ℕ). 0 ∷ l) (zeros m j (le-of-suc-le-suc h))
-
-over-zeros : (n : List ℕ) (m j : ℕ) → length n ≤ m → m ≤ j → n ++ drop (length n) (replicate m 0) ≡ take m (n ++ replicate j 0)
-over-zeros [] m j h l = zeros m j l
-over-zeros (x ∷ xs) zero j h l = absurd (not-suc-le-zero h)
-over-zeros (x ∷ xs) (suc m) j h l = ap (λ (r : List ℕ). x ∷ r) (over-zeros xs m j (le-of-suc-le-suc h) (omega arith))
-
--- behind p
-pub written-past : (p q r : List ℕ) (at m : ℕ) → at ≡ length p + m → written (p ++ q) at r ≡ p ++ written q m r
-unfolding written
-written-past p q r at m e =
-    let far : at + length r ≡ length p + (m + length r) = omega arith in
-    rw (far, drop-append-add p q (m + length r), e, take-append-add p q m) (append-assoc p (take m q) (r ++ drop (m + length r) q))
-
--- over p
-pub written-over : (p q r : List ℕ) → length p ≡ length r → written (p ++ q) 0 r ≡ r ++ q
-unfolding written
-written-over p q r e = ap (λ (x : List ℕ). r ++ x) (drop-at p q (0 + length r) (omega (arith, e)))
-
--- before q
-pub written-before : (p q r : List ℕ) (m : ℕ) → m + length r ≤ length p → written (p ++ q) m r ≡ written p m r ++ q
-unfolding written
-written-before p q r m h =
-    rw (take-append-le m p q (omega arith), drop-append-le (m + length r) p q h)
-    (sym (append-assoc (take m p) (r ++ drop (m + length r) p) q ∙ ap (λ (x : List ℕ). take m p ++ x) (append-assoc r (drop (m + length r) p) q)))
-
--- bytes over a field of zeros
-pub field-written : (p q n : List ℕ) (w at : ℕ) → at ≡ length p → length n ≤ w → written (p ++ (replicate w 0 ++ q)) at n ≡ p ++ (pad w n ++ q)
-unfolding written pad
-field-written p q n w at e h =
-    let blank = replicate {A = ℕ} w 0 in
-    let none : 0 + length n ≡ length n = omega arith in
-    written-past p (blank ++ q) n at 0 (omega arith)
-    ∙ ap (λ (r : List ℕ). p ++ r) (written-before blank q n 0 (omega (arith, zeros-long w)))
-    ∙ rw none (ap (λ (r : List ℕ). p ++ (r ++ q)) (over-zeros n w w h (omega arith)))
 
 -- the field cleared, and then the name
 pub name-written : (b z y n : List ℕ) (at : ℕ) → at + 16 ≤ length b → length n ≤ 16 → z ≡ replicate (length (take ((at + 16) - at) (drop at b))) 0
@@ -68,21 +27,6 @@ name-written b z y n at h l f q =
     let m-is : putMid at ((at + 16) - at) b z ≡ take at b ++ (replicate 16 0 ++ drop (at + 16) b) = rw (w, z-is, drop-drop 16 at b) in
     q ∙ ap (λ (m : List ℕ). written m at n) m-is
     ∙ field-written (take at b) (drop (at + 16) b) n 16 at (sym (length-take-le at b (omega arith))) l ∙ rw (length-pad 16 n)
-
--- ---- a row written over another
-
-module _ {A : Type 0} (w : ℕ) (row : A → List ℕ) (wide : (a : A) → length (row a) ≡ w) where
-  pub table-set : (n : ℕ) (rs : List A) (k : ℕ) (a : A) → k < length rs → length rs ≤ n
-      → table w row n (set rs k a) ≡ written (table w row n rs) (k * w) (row a)
-  unfolding table
-  table-set n [] k a h l = absurd (not-suc-le-zero h)
-  table-set zero (x ∷ rs) k a h l = absurd (not-suc-le-zero l)
-  table-set (suc n) (x ∷ rs) zero a h l =
-      let start : 0 * w ≡ 0 = omega arith in
-      rw start (sym (written-over (row x) (table w row n rs) (row a) (wide x ∙ sym (wide a))))
-  table-set (suc n) (x ∷ rs) (suc k) a h l =
-      ap (λ (t : List ℕ). row x ++ t) (table-set n rs k a (le-of-suc-le-suc h) (le-of-suc-le-suc l))
-      ∙ sym (written-past (row x) (table w row n rs) (row a) (suc k * w) (k * w) (omega (arith, wide x)))
 
 pub sds-written : {s : Schema} → Good s → (d : ℕ) (n : Name) → d < 16 → written (picture s) (sds-at d) (sds-row n) ≡ picture (with-sdss s (set (s .sdss) d n))
 unfolding picture

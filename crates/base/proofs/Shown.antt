@@ -12,11 +12,12 @@ use Rattle.rules.specs.04-Schema.{Presence, Application, End, sds-name, kind-of
 use Rattle.rules.specs.04-Schema.Kind.{unused, object, attribute, designation, paired}
 use Rattle.rules.proofs.01-Lists.{place-in}
 use Rattle.rules.proofs.07-Picture.{strip, read-kind, read-presence, read-application, read-end}
-use Rattle.base.specs.Rows.{type-at, presence-at, application-at, end-at, part}
-use Rattle.base.specs.Back.{rows, filled, presence-count, application-count, end-count, schema-of, sds-shown, kind-shown}
+use Rattle.rows.specs.Rows.{part, rows, filled}
+use Rattle.rows.proofs.Rows.{part-byte, part-part, length-rows, rows-at, rows-in, filled-used}
+use Rattle.base.specs.Rows.{type-at, presence-at, application-at, end-at}
+use Rattle.base.specs.Back.{presence-count, application-count, end-count, schema-of, sds-shown, kind-shown}
 use Rattle.base.specs.Back.{presence-shown}
 use Rattle.base.specs.Back.{application-shown, end-shown}
-use Rattle.base.proofs.Rows.{part-byte, part-part, length-rows, rows-at, rows-in, filled-used}
 use Rattle.base.proofs.Back.{no-application, no-end}
 
 module _ (b : List ℕ) where

@@ -1,5 +1,5 @@
 -- A row over that of a type is that kind in the schema. Assumes nothing.
-use Prim.Native.Nat.{ℕ, zero, suc, _+_, _*_, _%_, _≤_, _<_}
+use Prim.Native.Nat.{ℕ, zero, suc, _*_, _%_, _≤_, _<_}
 use native.Mathlib.Omega.{arith}
 use mathlib.Core.Path.{_≡_, refl, sym, ap, _∙_}
 use mathlib.Core.Logic.{_⊎_, inl, inr, ⊎-elim}
@@ -13,12 +13,12 @@ use Rattle.rules.specs.07-Picture.{pad, type-row, sds-table, type-table, presen
 use Rattle.rules.specs.10-Changes.{with-types}
 use Rattle.rules.proofs.07-Picture.{read-kind, wide-type, kind-back}
 use Rattle.rules.proofs.07-Picture.Fitting.{fits-unused, fits-object, fits-attribute, fits-designation, fits-paired}
+use Rattle.rows.specs.Table.{written}
+use Rattle.rows.proofs.Written.{field-written, written-past, written-before, table-set}
 use Rattle.base.specs.Rows.{type-at}
 use Rattle.base.specs.Back.{schema-of}
-use Rattle.base.specs.Table.{written}
 use Rattle.base.specs.Stored.{Storable, Stored, type-fields, Becomes, Type-written}
 use Rattle.base.proofs.Back.{long-sdss, long-types}
-use Rattle.base.proofs.SdsWritten.{field-written, written-past, written-before, table-set}
 
 -- ---- the row
 

@@ -14,7 +14,8 @@ use Rattle.rules.proofs.Bools.{and-both, and-of}
 use Rattle.rules.proofs.01-Lists.{any-at, any-none}
 use Rattle.rules.proofs.07-Picture.{strip}
 use Rattle.rules.proofs.11-Asks.{place-is, local-at}
-use Rattle.base.specs.Rows.{presence-at, part}
+use Rattle.rows.specs.Rows.{part}
+use Rattle.base.specs.Rows.{presence-at}
 use Rattle.base.specs.Back.{schema-of, presence-count, application-count, end-count, presence-shown, application-shown, end-shown}
 use Rattle.base.specs.Found.{Row-of, Presence-row, First-row}
 use Rattle.base.proofs.Shown.{presences-long, presence-is, presence-there, presence-in, application-there, application-in, end-there, end-in}

@@ -1,25 +1,14 @@
 -- The way back: the schema that the bytes of a base show, whatever they hold.
-use Prim.Native.Nat.{ℕ, zero, suc, _+_, _-_, _*_, _<_}
+use Prim.Native.Nat.{ℕ, _+_, _-_, _*_, _<_}
 use mathlib.Core.Path.{_≡_}
-use mathlib.Core.List.{List, [], _∷_}
-use mathlib.Core.Bool.{cond}
-use lib.Dec.{eqb}
-use lib.ListN.{length, getD, take, drop, replicate}
+use mathlib.Core.List.{List}
+use lib.ListN.{length, getD, drop, replicate}
 use Rattle.rules.specs.03-Names.{Name}
 use Rattle.rules.specs.04-Schema.{Schema, Kind, Presence, Application, End}
 use Rattle.rules.specs.07-Picture.{sds-row, type-row, presence-row, end-row, base-length}
 use Rattle.rules.proofs.07-Picture.{strip, read-kind, read-presence, read-application, read-side, read-end}
-use Rattle.base.specs.Rows.{sds-at, type-at, presence-at, application-at, end-at, part}
-
--- what the first n rows of width w show
-unfoldable pub rows : {A : Type 0} → ℕ → (List ℕ → A) → ℕ → List ℕ → List A
-rows w read zero l = []
-rows w read (suc n) l = read (take w l) ∷ rows w read n (drop w l)
-
--- how many of the first n rows of width w stand before the first whose byte f is 0
-unfoldable pub filled : ℕ → ℕ → ℕ → List ℕ → ℕ
-filled w f zero l = 0
-filled w f (suc n) l = cond (eqb (getD l f 0) 0) 0 (suc (filled w f n (drop w l)))
+use Rattle.rows.specs.Rows.{part, rows, filled}
+use Rattle.base.specs.Rows.{sds-at, type-at, presence-at, application-at, end-at}
 
 -- a used presence has a name; a used application or end has an SDS other than 0
 abbrev pub presence-count : List ℕ → ℕ

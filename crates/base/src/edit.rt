@@ -1,7 +1,6 @@
 // Rows put in, taken out and written over: each is the same edit of the schema that the bytes show. Within a call a base is not
 // always sound; here it need only be stored.
 use super::Base;
-use super::table;
 use super::used;
 use rules::Limits;
 ghost use mathlib.Core.Path.{_≡_};
@@ -27,7 +26,7 @@ fn presence_bytes(d: usize, name: &[u8], t: usize) -> [u8; Base::PRESENCE_WIDTH]
     let mut row: [u8; Base::PRESENCE_WIDTH] = [0; Base::PRESENCE_WIDTH];
     row[0] = (d % 256) as u8;
     row[Limits::NAME + 1] = (t % 256) as u8;
-    table::write(&mut row, 1, name);
+    rows::table::write(&mut row, 1, name);
     row
 }
 
@@ -43,7 +42,7 @@ pub fn put_presence(base: &mut [u8], d: usize, name: &[u8], t: usize)
 {
     let row = presence_bytes(d, name, t);
     let n = used::presence_count(base);
-    table::put_in(base, Base::PRESENCES_AT, n, &row);
+    rows::table::put_in(base, Base::PRESENCES_AT, n, &row);
 }
 
 // Row i goes.
@@ -55,7 +54,7 @@ pub fn take_presence(base: &mut [u8], i: usize)
     let n = used::presence_count(base);
     let at = Base::PRESENCES_AT + i * Base::PRESENCE_WIDTH;
     let end = Base::PRESENCES_AT + n * Base::PRESENCE_WIDTH;
-    table::take_row(base, at, end, Base::PRESENCE_WIDTH);
+    rows::table::take_row(base, at, end, Base::PRESENCE_WIDTH);
 }
 
 // ---- applications
@@ -71,7 +70,7 @@ pub fn put_application(base: &mut [u8], d: usize, t: usize, a: usize)
 {
     let row = [(d % 256) as u8, (t % 256) as u8, (a % 256) as u8];
     let n = used::application_count(base);
-    table::put_in(base, Base::APPLICATIONS_AT, n, &row);
+    rows::table::put_in(base, Base::APPLICATIONS_AT, n, &row);
 }
 
 // Row i goes.
@@ -83,7 +82,7 @@ pub fn take_application(base: &mut [u8], i: usize)
     let n = used::application_count(base);
     let at = Base::APPLICATIONS_AT + i * Base::APPLICATION_WIDTH;
     let end = Base::APPLICATIONS_AT + n * Base::APPLICATION_WIDTH;
-    table::take_row(base, at, end, Base::APPLICATION_WIDTH);
+    rows::table::take_row(base, at, end, Base::APPLICATION_WIDTH);
 }
 
 // ---- ends
@@ -104,7 +103,7 @@ pub fn put_end(base: &mut [u8], d: usize, l: usize, side: usize, o: usize)
         (o % 256) as u8,
     ];
     let n = used::end_count(base);
-    table::put_in(base, Base::ENDS_AT, n, &row);
+    rows::table::put_in(base, Base::ENDS_AT, n, &row);
 }
 
 // Row i goes.
@@ -116,7 +115,7 @@ pub fn take_end(base: &mut [u8], i: usize)
     let n = used::end_count(base);
     let at = Base::ENDS_AT + i * Base::END_WIDTH;
     let end = Base::ENDS_AT + n * Base::END_WIDTH;
-    table::take_row(base, at, end, Base::END_WIDTH);
+    rows::table::take_row(base, at, end, Base::END_WIDTH);
 }
 
 // ---- types
@@ -146,7 +145,7 @@ pub fn write_type(
         0,
         0,
     ];
-    table::write(&mut row, 4, parents);
+    rows::table::write(&mut row, 4, parents);
     let at = Base::TYPES_AT + t * Base::TYPE_WIDTH;
-    table::write(base, at, &row);
+    rows::table::write(base, at, &row);
 }

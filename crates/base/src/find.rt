@@ -11,11 +11,12 @@ ghost use Rattle.rules.specs.04-Schema.{sds-name, used-sds, kind-of};
 ghost use Rattle.rules.specs.07-Picture.{base-length};
 ghost use Rattle.rules.specs.09-Refusals.{sds-name-taken, holds-presence};
 ghost use Rattle.rules.proofs.07-Picture.{strip};
-ghost use Rattle.base.specs.Rows.{presence-at, part, Rising, End-row};
+ghost use Rattle.rows.specs.Rows.{part, Rising};
+ghost use Rattle.rows.specs.Decides.{Decides};
+ghost use Rattle.base.specs.Rows.{presence-at, End-row};
 ghost use Rattle.base.specs.Back.{schema-of, presence-count};
 ghost use Rattle.base.specs.Found.{Free-sds, Row-of, Presence-row, End-at, End-found};
 ghost use Rattle.base.specs.Kinds.{kind-code};
-ghost use Rattle.base.specs.Decides.{Decides};
 
 // ---- SDSs
 
@@ -182,7 +183,7 @@ pub fn end_row(
         (side % 256) as u8,
         (o % 256) as u8,
     ];
-    let at = super::table::place(base, Base::ENDS_AT, n, &key);
+    let at = rows::table::place(base, Base::ENDS_AT, n, &key);
     if is_end(base, n, at, d, l, side, o) {
         return at;
     }

@@ -4,8 +4,8 @@ pub mod edit;
 pub mod find;
 pub mod order;
 pub mod split;
-pub mod table;
 pub mod used;
+pub mod write;
 
 use rules::Limits;
 ghost use mathlib.Core.Path.{_≡_};
@@ -13,7 +13,8 @@ ghost use Prim.Native.Nat.{_+_, _<_};
 ghost use lib.ListN.{length};
 ghost use Rattle.rules.specs.04-Schema.{fresh};
 ghost use Rattle.rules.specs.07-Picture.{picture, base-length};
-ghost use Rattle.base.specs.Rows.{sds-at, type-at, presence-at, application-at, end-at, part, Reads};
+ghost use Rattle.rows.specs.Rows.{part, Reads};
+ghost use Rattle.base.specs.Rows.{sds-at, type-at, presence-at, application-at, end-at};
 
 // A base by value, for a program that holds its own.
 pub struct Base {
@@ -47,22 +48,9 @@ impl Base {
         ensures { λ r. ⌜ r .bytes ≡ picture fresh ⌝ }
     {
         let mut bytes: [u8; Base::LENGTH] = [0; Base::LENGTH];
-        table::write_fresh(&mut bytes);
+        write::write_fresh(&mut bytes);
         Base { bytes }
     }
-}
-
-fn byte(base: &[u8], at: usize) -> usize
-    requires { ⌜ at < length (now base) ⌝ }
-    ensures { λ r. ⌜ Reads (now (base .entry)) at r ⌝ }
-{
-    wide(base[at])
-}
-
-fn wide(x: u8) -> usize
-    ensures { λ r. ⌜ (r ≡ x) × (r < 256) ⌝ }
-{
-    x as usize
 }
 
 // ---- SDSs
@@ -83,7 +71,7 @@ pub fn kind(base: &[u8], t: usize) -> usize
     requires { ⌜ (length (now base) ≡ base-length) × (t < 128) ⌝ }
     ensures { λ r. ⌜ Reads (now (base .entry)) (type-at t) r ⌝ }
 {
-    byte(base, Base::TYPES_AT + t * Base::TYPE_WIDTH)
+    rows::byte(base, Base::TYPES_AT + t * Base::TYPE_WIDTH)
 }
 
 // An attribute type's value kind, or a link type's category.
@@ -91,21 +79,21 @@ pub fn value(base: &[u8], t: usize) -> usize
     requires { ⌜ (length (now base) ≡ base-length) × (t < 128) ⌝ }
     ensures { λ r. ⌜ Reads (now (base .entry)) (type-at t + 1) r ⌝ }
 {
-    byte(base, Base::TYPES_AT + t * Base::TYPE_WIDTH + 1)
+    rows::byte(base, Base::TYPES_AT + t * Base::TYPE_WIDTH + 1)
 }
 
 pub fn reverse(base: &[u8], t: usize) -> usize
     requires { ⌜ (length (now base) ≡ base-length) × (t < 128) ⌝ }
     ensures { λ r. ⌜ Reads (now (base .entry)) (type-at t + 2) r ⌝ }
 {
-    byte(base, Base::TYPES_AT + t * Base::TYPE_WIDTH + 2)
+    rows::byte(base, Base::TYPES_AT + t * Base::TYPE_WIDTH + 2)
 }
 
 pub fn parent_count(base: &[u8], t: usize) -> usize
     requires { ⌜ (length (now base) ≡ base-length) × (t < 128) ⌝ }
     ensures { λ r. ⌜ Reads (now (base .entry)) (type-at t + 3) r ⌝ }
 {
-    byte(base, Base::TYPES_AT + t * Base::TYPE_WIDTH + 3)
+    rows::byte(base, Base::TYPES_AT + t * Base::TYPE_WIDTH + 3)
 }
 
 // The parent in place i of 4.
@@ -113,7 +101,7 @@ pub fn parent(base: &[u8], t: usize, i: usize) -> usize
     requires { ⌜ (length (now base) ≡ base-length) × ((t < 128) × (i < 4)) ⌝ }
     ensures { λ r. ⌜ Reads (now (base .entry)) (type-at t + 4 + i) r ⌝ }
 {
-    byte(base, Base::TYPES_AT + t * Base::TYPE_WIDTH + 4 + i)
+    rows::byte(base, Base::TYPES_AT + t * Base::TYPE_WIDTH + 4 + i)
 }
 
 // ---- presences
@@ -122,7 +110,7 @@ pub fn presence_sds(base: &[u8], i: usize) -> usize
     requires { ⌜ (length (now base) ≡ base-length) × (i < 512) ⌝ }
     ensures { λ r. ⌜ Reads (now (base .entry)) (presence-at i) r ⌝ }
 {
-    byte(base, Base::PRESENCES_AT + i * Base::PRESENCE_WIDTH)
+    rows::byte(base, Base::PRESENCES_AT + i * Base::PRESENCE_WIDTH)
 }
 
 // The field of 16 bytes that holds the local name.
@@ -147,7 +135,7 @@ pub fn presence_type(base: &[u8], i: usize) -> usize
     requires { ⌜ (length (now base) ≡ base-length) × (i < 512) ⌝ }
     ensures { λ r. ⌜ Reads (now (base .entry)) (presence-at i + 17) r ⌝ }
 {
-    byte(base, Base::PRESENCES_AT + i * Base::PRESENCE_WIDTH + 17)
+    rows::byte(base, Base::PRESENCES_AT + i * Base::PRESENCE_WIDTH + 17)
 }
 
 // ---- applications
@@ -156,14 +144,14 @@ pub fn application_sds(base: &[u8], i: usize) -> usize
     requires { ⌜ (length (now base) ≡ base-length) × (i < 256) ⌝ }
     ensures { λ r. ⌜ Reads (now (base .entry)) (application-at i) r ⌝ }
 {
-    byte(base, Base::APPLICATIONS_AT + i * Base::APPLICATION_WIDTH)
+    rows::byte(base, Base::APPLICATIONS_AT + i * Base::APPLICATION_WIDTH)
 }
 
 pub fn application_to(base: &[u8], i: usize) -> usize
     requires { ⌜ (length (now base) ≡ base-length) × (i < 256) ⌝ }
     ensures { λ r. ⌜ Reads (now (base .entry)) (application-at i + 1) r ⌝ }
 {
-    byte(
+    rows::byte(
         base,
         Base::APPLICATIONS_AT + i * Base::APPLICATION_WIDTH + 1,
     )
@@ -173,7 +161,7 @@ pub fn application_attribute(base: &[u8], i: usize) -> usize
     requires { ⌜ (length (now base) ≡ base-length) × (i < 256) ⌝ }
     ensures { λ r. ⌜ Reads (now (base .entry)) (application-at i + 2) r ⌝ }
 {
-    byte(
+    rows::byte(
         base,
         Base::APPLICATIONS_AT + i * Base::APPLICATION_WIDTH + 2,
     )
@@ -185,14 +173,14 @@ pub fn end_sds(base: &[u8], i: usize) -> usize
     requires { ⌜ (length (now base) ≡ base-length) × (i < 512) ⌝ }
     ensures { λ r. ⌜ Reads (now (base .entry)) (end-at i) r ⌝ }
 {
-    byte(base, Base::ENDS_AT + i * Base::END_WIDTH)
+    rows::byte(base, Base::ENDS_AT + i * Base::END_WIDTH)
 }
 
 pub fn end_link(base: &[u8], i: usize) -> usize
     requires { ⌜ (length (now base) ≡ base-length) × (i < 512) ⌝ }
     ensures { λ r. ⌜ Reads (now (base .entry)) (end-at i + 1) r ⌝ }
 {
-    byte(base, Base::ENDS_AT + i * Base::END_WIDTH + 1)
+    rows::byte(base, Base::ENDS_AT + i * Base::END_WIDTH + 1)
 }
 
 // 0 origin, 1 destination.
@@ -200,12 +188,12 @@ pub fn end_side(base: &[u8], i: usize) -> usize
     requires { ⌜ (length (now base) ≡ base-length) × (i < 512) ⌝ }
     ensures { λ r. ⌜ Reads (now (base .entry)) (end-at i + 2) r ⌝ }
 {
-    byte(base, Base::ENDS_AT + i * Base::END_WIDTH + 2)
+    rows::byte(base, Base::ENDS_AT + i * Base::END_WIDTH + 2)
 }
 
 pub fn end_object(base: &[u8], i: usize) -> usize
     requires { ⌜ (length (now base) ≡ base-length) × (i < 512) ⌝ }
     ensures { λ r. ⌜ Reads (now (base .entry)) (end-at i + 3) r ⌝ }
 {
-    byte(base, Base::ENDS_AT + i * Base::END_WIDTH + 3)
+    rows::byte(base, Base::ENDS_AT + i * Base::END_WIDTH + 3)
 }

@@ -2,36 +2,19 @@
 use super::Base;
 use rules::Limits;
 ghost use mathlib.Core.Path.{_≡_};
-ghost use Prim.Native.Nat.{ℕ, _+_, _*_, _-_, _≤_, _<_};
+ghost use Prim.Native.Nat.{_*_, _-_, _≤_};
 ghost use lib.ListN.{length, replicate};
 ghost use Rattle.rules.specs.07-Picture.{base-length};
-ghost use Rattle.base.specs.Rows.{part, presence-at, application-at, end-at, Filled, Counted};
+ghost use Rattle.rows.specs.Rows.{part, Counted};
+ghost use Rattle.rows.specs.Decides.{Decides};
+ghost use Rattle.base.specs.Rows.{presence-at, application-at, end-at};
 ghost use Rattle.base.specs.Back.{presence-count, application-count, end-count};
-ghost use Rattle.base.specs.Decides.{Decides};
-
-// How many of n rows stand before the first whose byte asked about is 0.
-fn filled(base: &[u8], first: usize, width: usize, n: usize) -> usize
-    requires { ⌜ ((k : ℕ) → k < n → first + k * width < length (now base)) ⌝ }
-    requires { ⌜ (first + n * width < 65536) × (width < 65536) ⌝ }
-    ensures { λ r. ⌜ Filled (now (base .entry)) first width n r ⌝ }
-{
-    let mut at = first;
-    let mut k = 0;
-    while k < n {
-        if base[at] == 0 {
-            return k;
-        }
-        at += width;
-        k += 1;
-    }
-    k
-}
 
 pub fn presence_count(base: &[u8]) -> usize
     requires { ⌜ length (now base) ≡ base-length ⌝ }
     ensures { λ r. ⌜ Counted (presence-count (now (base .entry))) 512 r ⌝ }
 {
-    filled(
+    rows::used::filled(
         base,
         Base::PRESENCES_AT + 1,
         Base::PRESENCE_WIDTH,
@@ -43,7 +26,7 @@ pub fn application_count(base: &[u8]) -> usize
     requires { ⌜ length (now base) ≡ base-length ⌝ }
     ensures { λ r. ⌜ Counted (application-count (now (base .entry))) 256 r ⌝ }
 {
-    filled(
+    rows::used::filled(
         base,
         Base::APPLICATIONS_AT,
         Base::APPLICATION_WIDTH,
@@ -55,21 +38,14 @@ pub fn end_count(base: &[u8]) -> usize
     requires { ⌜ length (now base) ≡ base-length ⌝ }
     ensures { λ r. ⌜ Counted (end-count (now (base .entry))) 512 r ⌝ }
 {
-    filled(base, Base::ENDS_AT, Base::END_WIDTH, Limits::ENDS)
-}
-
-fn is_zero(base: &[u8], from: usize, to: usize) -> bool
-    requires { ⌜ (from ≤ to) × (to ≤ length (now base)) ⌝ }
-    ensures { λ r. ⌜ Decides (part (now (base .entry)) from (to - from) ≡ replicate (to - from) 0) r ⌝ }
-{
-    names::is_blank_field(&base[from..to])
+    rows::used::filled(base, Base::ENDS_AT, Base::END_WIDTH, Limits::ENDS)
 }
 
 pub fn no_presence_from(base: &[u8], n: usize) -> bool
     requires { ⌜ (length (now base) ≡ base-length) × (n ≤ 512) ⌝ }
     ensures { λ r. ⌜ Decides (part (now (base .entry)) (presence-at n) ((512 - n) * 18) ≡ replicate ((512 - n) * 18) 0) r ⌝ }
 {
-    is_zero(
+    rows::used::is_zero(
         base,
         Base::PRESENCES_AT + n * Base::PRESENCE_WIDTH,
         Base::APPLICATIONS_AT,
@@ -80,7 +56,7 @@ pub fn no_application_from(base: &[u8], n: usize) -> bool
     requires { ⌜ (length (now base) ≡ base-length) × (n ≤ 256) ⌝ }
     ensures { λ r. ⌜ Decides (part (now (base .entry)) (application-at n) ((256 - n) * 3) ≡ replicate ((256 - n) * 3) 0) r ⌝ }
 {
-    is_zero(
+    rows::used::is_zero(
         base,
         Base::APPLICATIONS_AT + n * Base::APPLICATION_WIDTH,
         Base::ENDS_AT,
@@ -91,5 +67,5 @@ pub fn no_end_from(base: &[u8], n: usize) -> bool
     requires { ⌜ (length (now base) ≡ base-length) × (n ≤ 512) ⌝ }
     ensures { λ r. ⌜ Decides (part (now (base .entry)) (end-at n) ((512 - n) * 4) ≡ replicate ((512 - n) * 4) 0) r ⌝ }
 {
-    is_zero(base, Base::ENDS_AT + n * Base::END_WIDTH, Base::LENGTH)
+    rows::used::is_zero(base, Base::ENDS_AT + n * Base::END_WIDTH, Base::LENGTH)
 }

@@ -14,7 +14,8 @@ use Rattle.rules.specs.04-Schema.{Presence, holds-type, present}
 use Rattle.rules.proofs.Bools.{same-test, or-cases, or-left, or-right, and-both, and-of}
 use Rattle.rules.proofs.01-Lists.{any-at, any-where}
 use Rattle.marks.specs.Set.{has}
-use Rattle.base.specs.Rows.{presence-at, application-at, end-at, Counted, Split}
+use Rattle.rows.specs.Rows.{Counted, Split}
+use Rattle.base.specs.Rows.{presence-at, application-at, end-at}
 use Rattle.base.specs.Back.{schema-of, presence-count, application-count, end-count, presence-shown, application-shown, end-shown}
 use Rattle.base.proofs.Shown.{presence-in, presence-there}
 use Rattle.closed.specs.declared.Held.{Held}

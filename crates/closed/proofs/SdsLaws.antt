@@ -14,9 +14,10 @@ use Rattle.rules.specs.05-Descent.{Parent}
 use Rattle.rules.specs.07-Picture.{pad, type-row}
 use Rattle.rules.proofs.Bools.{and-both, and-of}
 use Rattle.rules.proofs.01-Lists.{any-at, any-where}
-use Rattle.base.specs.Rows.{type-at, presence-at, application-at, end-at, part, Rising, Split, Counted}
+use Rattle.rows.specs.Rows.{part, Rising, Split, Counted}
+use Rattle.rows.proofs.Rows.{part-byte}
+use Rattle.base.specs.Rows.{type-at, presence-at, application-at, end-at}
 use Rattle.base.specs.Back.{schema-of, presence-count, application-count, end-count, presence-shown, application-shown, end-shown, kind-shown}
-use Rattle.base.proofs.Rows.{part-byte}
 use Rattle.base.proofs.Shown.{sds-none, kind-is, kind-none, presence-in, presence-there, application-in, application-there, end-in, end-there}
 use Rattle.base.proofs.Shown.{shows-unused}
 use Rattle.graph.specs.Graph.{Parental}

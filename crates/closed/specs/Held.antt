@@ -11,7 +11,8 @@ use Rattle.rules.specs.07-Picture.{base-length}
 use Rattle.rules.proofs.07-Picture.{read-side}
 use Rattle.marks.specs.declared.TypeSet.{TypeSet}
 use Rattle.marks.specs.Set.{has}
-use Rattle.base.specs.Rows.{type-at, presence-at, application-at, end-at, Counted, Rising, Split}
+use Rattle.rows.specs.Rows.{Counted, Rising, Split}
+use Rattle.base.specs.Rows.{type-at, presence-at, application-at, end-at}
 use Rattle.base.specs.Back.{schema-of, presence-count, application-count, end-count, application-shown, end-shown}
 use Rattle.graph.specs.Graph.{Parental}
 use Rattle.closed.specs.declared.Places.{Places}

@@ -18,7 +18,8 @@ use Rattle.rules.specs.10-Changes.{new-type, second-new-type}
 use Rattle.rules.proofs.Bools.{and-of}
 use Rattle.rules.proofs.01-Lists.{any-at, numbers-first, numbers-none}
 use Rattle.rules.proofs.07-Picture.{read-side}
-use Rattle.base.specs.Rows.{type-at, end-at, part, Rising, Counted, End-row}
+use Rattle.rows.specs.Rows.{part, Rising, Counted}
+use Rattle.base.specs.Rows.{type-at, end-at, End-row}
 use Rattle.base.specs.Back.{schema-of, presence-count, application-count, end-count, presence-shown, application-shown, end-shown}
 use Rattle.base.specs.Found.{Presence-row, First-row, End-found}
 use Rattle.base.specs.Stored.{Stored}

@@ -8,7 +8,8 @@ use borrow.Author.Tests.{eq-eqb, ne-eqb, lt-ltb, le-ltb}
 use Rattle.rules.specs.04-Schema.{Schema, Kind, kind-of, is-link, reverse-in, reverse}
 use Rattle.rules.specs.04-Schema.Kind.{unused, object, attribute, designation, paired}
 use Rattle.rules.specs.07-Picture.{Sound}
-use Rattle.base.specs.Rows.{type-at, Reads}
+use Rattle.rows.specs.Rows.{Reads}
+use Rattle.base.specs.Rows.{type-at}
 use Rattle.base.specs.Back.{schema-of}
 use Rattle.base.proofs.Back.{sound-good}
 use Rattle.base.proofs.Shown.{kind-is, shows-designation}

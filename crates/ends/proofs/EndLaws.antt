@@ -23,7 +23,8 @@ use Rattle.rules.proofs.01-Lists.{any-at, any-where}
 use Rattle.rules.proofs.Edits.{put-long, put-none, without-keeps, without-same, without-twice}
 use Rattle.rules.proofs.07-Picture.{read-side}
 use Rattle.rules.proofs.09-Refusals.{Left}
-use Rattle.base.specs.Rows.{type-at, Reads, Counted}
+use Rattle.rows.specs.Rows.{Reads, Counted}
+use Rattle.base.specs.Rows.{type-at}
 use Rattle.base.specs.Back.{schema-of, end-count}
 use Rattle.base.specs.Stored.{Shows, Stored, less-row}
 use Rattle.base.proofs.Back.{sound-good}

@@ -14,9 +14,10 @@ use Rattle.rules.specs.05-Descent.{Parent}
 use Rattle.rules.specs.07-Picture.{pad, type-row, Sound}
 use Rattle.rules.proofs.01-Lists.{at-place, place-in}
 use Rattle.rules.proofs.07-Picture.{read-kind, take-pad}
-use Rattle.base.specs.Rows.{type-at, part}
+use Rattle.rows.specs.Rows.{part}
+use Rattle.rows.proofs.Rows.{part-byte, part-part}
+use Rattle.base.specs.Rows.{type-at}
 use Rattle.base.specs.Back.{schema-of, kind-shown}
-use Rattle.base.proofs.Rows.{part-byte, part-part}
 use Rattle.base.proofs.Back.{sound-canonical, sound-good}
 use Rattle.base.proofs.Shown.{kind-is, kind-none}
 use Rattle.graph.specs.Graph.{object-in, Parental}

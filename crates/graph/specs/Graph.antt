@@ -8,7 +8,8 @@ use lib.ListN.{length}
 use Rattle.rules.specs.04-Schema.{Schema, is-object, kind-of}
 use Rattle.rules.specs.05-Descent.{Parent}
 use Rattle.rules.specs.07-Picture.{type-row, base-length}
-use Rattle.base.specs.Rows.{type-at, part}
+use Rattle.rows.specs.Rows.{part}
+use Rattle.base.specs.Rows.{type-at}
 use Rattle.base.specs.Back.{schema-of, kind-shown}
 
 -- t is an object type of the base b

@@ -8,8 +8,8 @@ ghost use Prim.Native.Nat.{ℕ, _<_};
 ghost use lib.ListN.{length};
 ghost use Rattle.rules.specs.05-Descent.{Descends, members};
 ghost use Rattle.rules.specs.07-Picture.{base-length};
+ghost use Rattle.rows.specs.Decides.{Decides};
 ghost use Rattle.base.specs.Back.{schema-of};
-ghost use Rattle.base.specs.Decides.{Decides};
 ghost use Rattle.marks.specs.Set.{has};
 ghost use Rattle.graph.specs.Graph.{object-in, Parental, Ready, Round};
 

@@ -18,10 +18,11 @@ use Rattle.rules.specs.07-Picture.{pad, type-row, base-length}
 use Rattle.rules.proofs.Bools.{and-both, and-of}
 use Rattle.rules.proofs.01-Lists.{at-place, place-in}
 use Rattle.rules.proofs.07-Picture.{length-pad}
-use Rattle.base.specs.Rows.{type-at, part, Reads}
+use Rattle.rows.specs.Rows.{part, Reads}
+use Rattle.rows.specs.Decides.{Decides}
+use Rattle.rows.proofs.Decides.{decides-iff}
+use Rattle.base.specs.Rows.{type-at}
 use Rattle.base.specs.Back.{schema-of, kind-shown}
-use Rattle.base.specs.Decides.{Decides}
-use Rattle.base.proofs.Decides.{decides-iff}
 use Rattle.base.proofs.Shown.{kind-is, kind-none, shows-attribute, shows-designation, shows-paired, shows-unused}
 use Rattle.base.proofs.KindBytes.{kind-byte, value-byte, reverse-byte, count-byte, parent-byte, parent-places, listed-parents}
 use Rattle.base.proofs.KindBytes.{object-shown, place-byte, places-long, row-bytes, object-bytes, paired-bytes}

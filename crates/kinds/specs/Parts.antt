@@ -11,7 +11,8 @@ use Rattle.rules.specs.04-Schema.{kind-of, is-object}
 use Rattle.rules.specs.04-Schema.Kind.{object, attribute, paired}
 use Rattle.rules.specs.05-Descent.{Parent}
 use Rattle.rules.specs.07-Picture.{type-row}
-use Rattle.base.specs.Rows.{type-at, part}
+use Rattle.rows.specs.Rows.{part}
+use Rattle.base.specs.Rows.{type-at}
 use Rattle.base.specs.Back.{schema-of, kind-shown}
 
 pub record Kinds (b : List ℕ) : Type 0 where

@@ -6,7 +6,8 @@ use lib.ListN.{length}
 use Rattle.rules.specs.04-Schema.{Kind}
 use Rattle.rules.specs.04-Schema.Kind.{unused, object, attribute, designation, paired}
 use Rattle.rules.specs.07-Picture.{type-row}
-use Rattle.base.specs.Rows.{type-at, part}
+use Rattle.rows.specs.Rows.{part}
+use Rattle.base.specs.Rows.{type-at}
 use Rattle.base.specs.Back.{kind-shown}
 use Rattle.base.proofs.KindBytes.{kind-byte, value-byte, reverse-byte, count-byte, parent-byte}
 

@@ -3,7 +3,7 @@ ghost use mathlib.Core.Path.{_≡_};
 ghost use Prim.Native.Nat.{ℕ, _≤_, _<_};
 ghost use lib.ListN.{length};
 ghost use Rattle.rules.specs.07-Picture.{base-length};
-ghost use Rattle.base.specs.Decides.{Decides};
+ghost use Rattle.rows.specs.Decides.{Decides};
 ghost use Rattle.kinds.specs.Parts.{Kinds, Parents, Reverses};
 ghost use Rattle.kinds.specs.TypeRows.{NoParentsFrom, FewParents, PlainRow, LinkRow, RowFine, ParentFine, ParentsFine, Answers, ReverseFine};
 

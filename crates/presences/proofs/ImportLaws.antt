@@ -23,17 +23,18 @@ use Rattle.rules.proofs.Edits.{put-long, put-none, first-in}
 use Rattle.rules.proofs.03-Names.{formed-long}
 use Rattle.rules.proofs.07-Picture.{strip, strip-pad}
 use Rattle.rules.proofs.09-Refusals.{Left}
-use Rattle.base.specs.Rows.{presence-at, part}
+use Rattle.rows.specs.Rows.{part}
+use Rattle.rows.specs.Table.{written}
+use Rattle.rows.proofs.Scan.{length-part}
+use Rattle.rows.proofs.Written.{written-over, field-written}
+use Rattle.base.specs.Rows.{presence-at}
 use Rattle.base.specs.Back.{schema-of, presence-count}
 use Rattle.base.specs.Found.{Presence-row}
 use Rattle.base.specs.Stored.{Shows}
-use Rattle.base.specs.Table.{written}
 use Rattle.base.proofs.Back.{sound-good}
 use Rattle.base.proofs.Kept.{sound-long, kept-like}
 use Rattle.base.proofs.SdsShown.{known, unknown}
 use Rattle.base.proofs.Shown.{presences-long}
-use Rattle.base.proofs.SdsWritten.{written-over, field-written}
-use Rattle.base.proofs.Scan.{length-part}
 use Rattle.base.proofs.StoredLaws.{shows-schema, shows-next}
 use Rattle.base.proofs.Walked.{row-below, row-name}
 use Rattle.names.specs.Field.{Stripped}

@@ -131,10 +131,10 @@ fn filled(base: &[u8], source: usize, t: usize, new: &[u8]) -> [u8; Limits::NAME
     let mut field: [u8; Limits::NAME] = [0; Limits::NAME];
     if new.len() == 0 {
         let row = base::find::presence_row(base, source, t);
-        base::table::write(&mut field, 0, base::presence_field(base, row));
+        rows::table::write(&mut field, 0, base::presence_field(base, row));
         return field;
     }
-    base::table::write(&mut field, 0, new);
+    rows::table::write(&mut field, 0, new);
     field
 }
 

@@ -5,9 +5,9 @@ use mathlib.Core.Path.{_≡_}
 use mathlib.Core.List.{List}
 use lib.ListN.{length, drop}
 use Rattle.rules.specs.07-Picture.{Sound, base-length}
+use Rattle.rows.proofs.Rows.{filled-most}
 use Rattle.base.specs.Back.{schema-of, Canonical}
 use Rattle.base.proofs.Back.{sound-canonical, sound-good, is-sound}
-use Rattle.base.proofs.Rows.{filled-most}
 use Rattle.base.proofs.Shown.{presences-long, applications-long, ends-long, presence-read, end-read, sdss-long, types-long}
 use Rattle.base.proofs.Shown.{used-application, used-end}
 use Rattle.tables.specs.Parts.{Sdss, Presences, Rest}

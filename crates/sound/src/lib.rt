@@ -2,7 +2,7 @@
 // the bytes; every call of the keeper begins with it.
 use base::Base;
 ghost use Rattle.rules.specs.07-Picture.{Sound};
-ghost use Rattle.base.specs.Decides.{Decides};
+ghost use Rattle.rows.specs.Decides.{Decides};
 
 pub fn is_sound(base: &[u8]) -> bool
     ensures { λ r. ⌜ Decides (Sound (now (base .entry))) r ⌝ }

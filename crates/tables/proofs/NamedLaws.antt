@@ -19,10 +19,11 @@ use Rattle.rules.proofs.01-Lists.{same-bytes-is, same-bytes-refl}
 use Rattle.rules.proofs.03-Names.{same-name-is, same-name-refl}
 use Rattle.rules.proofs.07-Picture.{strip, read-kind, strip-blank}
 use Rattle.names.specs.Field.{name-field, blank-field}
-use Rattle.base.specs.Rows.{sds-at, type-at, presence-at, part}
+use Rattle.rows.specs.Rows.{part}
+use Rattle.rows.proofs.Rows.{part-byte}
+use Rattle.rows.proofs.Scan.{part-cons, length-part}
+use Rattle.base.specs.Rows.{sds-at, type-at, presence-at}
 use Rattle.base.specs.Back.{schema-of, sds-shown, presence-shown}
-use Rattle.base.proofs.Rows.{part-byte}
-use Rattle.base.proofs.Scan.{part-cons, length-part}
 use Rattle.base.proofs.Shown.{sds-is, kind-is, kind-none, shows-unused}
 use Rattle.base.proofs.SdsShown.{used-below}
 use Rattle.tables.specs.Parts.{Sdss}

@@ -18,9 +18,10 @@ use Rattle.rules.proofs.Bools.{or-cases, or-left, or-right, and-both, and-of}
 use Rattle.rules.proofs.01-Lists.{before-irreflexive, before-connected, rising-at, at-rising}
 use Rattle.rules.proofs.03-Names.{same-name-is, pad-before, name-connected, name-irreflexive}
 use Rattle.rules.proofs.07-Picture.{length-pad}
-use Rattle.base.specs.Rows.{presence-at, application-at, end-at, part, Rising}
+use Rattle.rows.specs.Rows.{part, Rising}
+use Rattle.rows.proofs.Scan.{rising-far, part-cons, length-part}
+use Rattle.base.specs.Rows.{presence-at, application-at, end-at}
 use Rattle.base.specs.Back.{schema-of, presence-count, application-count, end-count, presence-shown, application-shown, end-shown}
-use Rattle.base.proofs.Scan.{rising-far, part-cons, length-part}
 use Rattle.base.proofs.Shown.{presences-long, applications-long, ends-long, presence-is, application-is, end-is, presence-in, presence-there}
 use Rattle.base.proofs.Back.{no-application, no-end}
 use Rattle.base.proofs.OrderedLaws.{application-rows, end-rows}

@@ -10,9 +10,10 @@ use Rattle.rules.specs.03-Names.{well-formed}
 use Rattle.rules.specs.04-Schema.{Presence, system-presence}
 use Rattle.rules.specs.07-Picture.{pad, presence-row}
 use Rattle.rules.proofs.07-Picture.{strip}
-use Rattle.base.specs.Rows.{presence-at, part, Rising, Counted, Level}
+use Rattle.rows.specs.Rows.{part, Rising, Counted, Level}
+use Rattle.rows.proofs.Scan.{rising-level}
+use Rattle.base.specs.Rows.{presence-at}
 use Rattle.base.specs.Back.{schema-of, presence-count, presence-shown}
-use Rattle.base.proofs.Scan.{rising-level}
 use Rattle.base.proofs.Shown.{presence-in, presence-there}
 use Rattle.tables.specs.Parts.{Presences}
 use Rattle.tables.specs.Named.{Row-named, System-first}

@@ -7,10 +7,11 @@ use lib.ListN.{length, getD, drop, replicate}
 use Rattle.rules.specs.04-Schema.{side-code}
 use Rattle.rules.specs.07-Picture.{end-row}
 use Rattle.rules.proofs.07-Picture.{read-side}
-use Rattle.base.specs.Rows.{application-at, end-at, part, Rising, Counted}
+use Rattle.rows.specs.Rows.{part, Rising, Counted}
+use Rattle.rows.proofs.Rows.{part-byte, filled-most}
+use Rattle.rows.proofs.Scan.{part-cons}
+use Rattle.base.specs.Rows.{application-at, end-at}
 use Rattle.base.specs.Back.{application-count, end-count, end-shown}
-use Rattle.base.proofs.Rows.{part-byte, filled-most}
-use Rattle.base.proofs.Scan.{part-cons}
 use Rattle.tables.specs.Parts.{Rest}
 use Rattle.tables.proofs.OrderLaws.{rise-applications, applications-rise, rise-ends, ends-rise}
 

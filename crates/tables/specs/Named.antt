@@ -8,7 +8,8 @@ use Rattle.rules.specs.03-Names.{same-name}
 use Rattle.rules.specs.04-Schema.{system-presence, used-sds, kind-of, is-used}
 use Rattle.rules.specs.07-Picture.{pad}
 use Rattle.names.specs.Field.{name-field, blank-field}
-use Rattle.base.specs.Rows.{sds-at, presence-at, part}
+use Rattle.rows.specs.Rows.{part}
+use Rattle.base.specs.Rows.{sds-at, presence-at}
 use Rattle.base.specs.Back.{schema-of}
 
 -- the field of SDS d is blank or holds a name

@@ -10,7 +10,8 @@ use Rattle.rules.specs.03-Names.{well-formed, same-name}
 use Rattle.rules.specs.04-Schema.{Presence, system-name, system-presence, sds-name, used-sds, kind-of, is-used}
 use Rattle.rules.specs.04-Schema.{presence-before, application-before, end-before}
 use Rattle.rules.specs.07-Picture.{sds-row, presence-row, end-row}
-use Rattle.base.specs.Rows.{sds-at, presence-at, application-at, end-at, part}
+use Rattle.rows.specs.Rows.{part}
+use Rattle.base.specs.Rows.{sds-at, presence-at, application-at, end-at}
 use Rattle.base.specs.Back.{presence-count, application-count, end-count, schema-of, sds-shown, presence-shown, end-shown}
 
 pub record Sdss (b : List ℕ) : Type 0 where

@@ -5,8 +5,8 @@ ghost use Prim.Native.Nat.{ℕ, _≤_, _<_};
 ghost use lib.ListN.{length};
 ghost use Rattle.rules.specs.04-Schema.{used-sds, kind-of, is-used};
 ghost use Rattle.rules.specs.07-Picture.{base-length};
+ghost use Rattle.rows.specs.Decides.{Decides};
 ghost use Rattle.base.specs.Back.{schema-of};
-ghost use Rattle.base.specs.Decides.{Decides};
 ghost use Rattle.tables.specs.Parts.{Sdss, Presences};
 ghost use Rattle.tables.specs.Named.{fine-field, Unlike-later, Alone, Row-named, System-first};
 

@@ -3,8 +3,8 @@ ghost use mathlib.Core.Path.{_≡_};
 ghost use Prim.Native.Nat.{ℕ, _+_, _≤_, _<_};
 ghost use lib.ListN.{length, getD};
 ghost use Rattle.rules.specs.07-Picture.{base-length};
+ghost use Rattle.rows.specs.Decides.{Decides};
 ghost use Rattle.base.specs.Rows.{end-at};
-ghost use Rattle.base.specs.Decides.{Decides};
 ghost use Rattle.tables.specs.Parts.{Rest};
 
 fn sides_fine(base: &[u8], n: usize) -> bool

@@ -17,11 +17,12 @@ use Rattle.rules.proofs.01-Lists.{any-at, any-where}
 use Rattle.rules.proofs.05-Descent.{used-below}
 use Rattle.rules.proofs.07-Picture.{read-side, read-end}
 use Rattle.rules.proofs.08-Working.{present-used}
-use Rattle.base.specs.Rows.{presence-at, application-at, end-at, part}
+use Rattle.rows.specs.Rows.{part}
+use Rattle.rows.proofs.Rows.{part-byte, filled-most}
+use Rattle.base.specs.Rows.{presence-at, application-at, end-at}
 use Rattle.base.specs.Back.{schema-of, presence-count, application-count, end-count, presence-shown, application-shown, end-shown}
 use Rattle.base.proofs.Back.{sound-canonical, sound-good}
 use Rattle.base.proofs.Kept.{sound-long}
-use Rattle.base.proofs.Rows.{part-byte, filled-most}
 use Rattle.base.proofs.SdsShown as SdsShown
 use Rattle.base.proofs.Shown.{presence-there, presence-in, application-there, application-in, end-there, end-in, end-read}
 use Rattle.working.specs.Shown.{gathered}

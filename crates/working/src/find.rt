@@ -9,7 +9,8 @@ ghost use Rattle.rules.specs.04-Schema.{holds-name};
 ghost use Rattle.rules.specs.07-Picture.{Sound, base-length};
 ghost use Rattle.rules.specs.09-Refusals.{unknown-sds};
 ghost use Rattle.rules.proofs.07-Picture.{strip};
-ghost use Rattle.base.specs.Rows.{presence-at, part};
+ghost use Rattle.rows.specs.Rows.{part};
+ghost use Rattle.base.specs.Rows.{presence-at};
 ghost use Rattle.base.specs.Back.{schema-of, presence-count, presence-shown};
 ghost use Rattle.working.specs.Listed.{Named-row, Named-in, Named-first};
 

@@ -1,9 +1,8 @@
 use borrow.Author.Needs.{needs}
-use Prim.Native.Nat.{ℕ, _+_, _*_}
-use native.Mathlib.Omega.{arith}
-use mathlib.Core.Path.{_≡_, ap, _∙_}
-use Rattle.base.specs.Rows.{part}
-use Rattle.base.proofs.Rows.{slice-part}
+use Prim.Native.Nat.{ℕ}
+use mathlib.Core.Path.{ap, _∙_}
+use Rattle.rows.specs.Rows.{part}
+use Rattle.rows.proofs.Rows.{slice-part}
 use Rattle.base.proofs.presence_field.Statement.{statement}
 use Rattle.base.proofs.presence_field.Tie as tie
 

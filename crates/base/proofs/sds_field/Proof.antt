@@ -1,7 +1,7 @@
 -- `base::sds_field` meets its contract: a slice from a start to 16 further on is a part of 16 bytes. Assumes nothing.
 use borrow.Author.Needs.{needs}
 use Prim.Native.Nat.{_*_}
-use Rattle.base.proofs.Rows.{slice-part}
+use Rattle.rows.proofs.Rows.{slice-part}
 use Rattle.base.proofs.sds_field.Statement.{statement}
 use Rattle.base.proofs.sds_field.Tie as tie
 

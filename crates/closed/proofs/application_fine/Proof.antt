@@ -7,8 +7,8 @@ use borrow.Author.Tests.{not-true, not-false}
 use Rattle.rules.specs.04-Schema.{kind-of, is-object, is-link}
 use Rattle.rules.proofs.Bools.{and-both, and-of, or-left, or-right, or-cases}
 use Rattle.marks.specs.Set.{has}
+use Rattle.rows.proofs.Decides.{decides-yes, decides-no}
 use Rattle.base.specs.Back.{schema-of}
-use Rattle.base.proofs.Decides.{decides-yes, decides-no}
 use Rattle.base.proofs.KindBytes.{told-object, told-attribute, told-link}
 use Rattle.closed.proofs.HeldLaws.{applied-no-attribute, applied-attribute-out, applied-to-out, applied-of, applied-neither}
 use Rattle.closed.proofs.application_fine.Statement.{statement}

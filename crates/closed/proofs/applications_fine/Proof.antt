@@ -5,7 +5,7 @@ use native.Mathlib.Omega.{arith}
 use borrow.Author.Count.{below-more}
 use borrow.Author.Tests.{not-true, not-false}
 use Rattle.marks.specs.Set.{has}
-use Rattle.base.proofs.Decides.{decides-yes, decides-no}
+use Rattle.rows.proofs.Decides.{decides-yes, decides-no}
 use Rattle.closed.specs.Held.{Applied}
 use Rattle.closed.proofs.applications_fine.Statement.{statement}
 use Rattle.closed.proofs.applications_fine.Tie as tie

@@ -5,7 +5,7 @@ use Prim.Native.Nat.{ℕ, _<_}
 use native.Mathlib.Omega.{arith}
 use mathlib.Core.Path.{_≡_, sym, _∙_}
 use borrow.Author.Tests.{not-true, not-false}
-use Rattle.base.proofs.Decides.{decides-no}
+use Rattle.rows.proofs.Decides.{decides-no}
 use Rattle.closed.proofs.SdsLaws.{ready-of, closed-sds, application-below, end-below, sds-closed-all, none-left, one-left, byte-used, marked-used}
 use Rattle.closed.proofs.closed_fine.Statement.{statement}
 use Rattle.closed.proofs.closed_fine.Tie as tie

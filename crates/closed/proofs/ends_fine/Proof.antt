@@ -4,7 +4,7 @@ use Prim.Native.Nat.{ℕ, _+_, _≤_, _<_, _-_}
 use native.Mathlib.Omega.{arith}
 use borrow.Author.Count.{below-more}
 use Rattle.marks.specs.Set.{has}
-use Rattle.base.proofs.Decides.{decides-yes, decides-no}
+use Rattle.rows.proofs.Decides.{decides-yes, decides-no}
 use Rattle.closed.specs.Held.{Ended}
 use Rattle.closed.proofs.ends_fine.Statement.{statement}
 use Rattle.closed.proofs.ends_fine.Tie as tie

@@ -2,7 +2,7 @@
 use borrow.Author.Needs.{needs}
 use mathlib.Core.Path.{_≡_, sym, _∙_}
 use mathlib.Core.Bool.{true≢false}
-use Rattle.base.proofs.Decides.{decides-yes}
+use Rattle.rows.proofs.Decides.{decides-yes}
 use Rattle.closed.proofs.SdsLaws.{used-byte, byte-used}
 use Rattle.closed.proofs.is_in_if_used.Statement.{statement}
 use Rattle.closed.proofs.is_in_if_used.Tie as tie

@@ -7,7 +7,7 @@ use mathlib.Core.Bool.{true, true≢false}
 use borrow.Author.Count.{below-none, below-more}
 use borrow.Author.Tests.{not-true, not-false}
 use Rattle.marks.specs.Set.{has}
-use Rattle.base.proofs.Decides.{decides-yes, decides-no}
+use Rattle.rows.proofs.Decides.{decides-yes, decides-no}
 use Rattle.closed.specs.Held.{parent-in}
 use Rattle.closed.proofs.parents_in.Statement.{statement}
 use Rattle.closed.proofs.parents_in.Tie as tie

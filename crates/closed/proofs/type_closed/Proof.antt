@@ -4,7 +4,7 @@ use borrow.Author.Needs.{needs}
 use mathlib.Core.Path.{_≡_, sym, ap, _∙_}
 use mathlib.Core.Bool.{true≢false}
 use Rattle.marks.specs.Set.{has}
-use Rattle.base.proofs.Decides.{decides-yes, decides-iff}
+use Rattle.rows.proofs.Decides.{decides-yes, decides-iff}
 use Rattle.graph.proofs.Rows.{count-few}
 use Rattle.closed.proofs.HeldLaws.{closed-object, closed-parents, closed-plain, closed-designation, closed-paired, closed-reverse}
 use Rattle.closed.proofs.type_closed.Statement.{statement}

@@ -6,7 +6,7 @@ use mathlib.Core.Path.{sym}
 use borrow.Author.Count.{below-more}
 use borrow.Author.Tests.{not-true, not-false}
 use Rattle.marks.specs.Set.{has}
-use Rattle.base.proofs.Decides.{decides-yes, decides-no}
+use Rattle.rows.proofs.Decides.{decides-yes, decides-no}
 use Rattle.closed.specs.Held.{type-in, Closed-type}
 use Rattle.closed.proofs.types_closed.Statement.{statement}
 use Rattle.closed.proofs.types_closed.Tie as tie

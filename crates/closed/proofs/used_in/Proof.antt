@@ -8,8 +8,8 @@ use borrow.Author.Count.{below-none, below-more}
 use borrow.Author.Tests.{not-true, not-false}
 use Rattle.rules.specs.04-Schema.{kind-of, is-used}
 use Rattle.marks.specs.Set.{has}
+use Rattle.rows.proofs.Decides.{decides-yes, decides-no}
 use Rattle.base.specs.Back.{schema-of}
-use Rattle.base.proofs.Decides.{decides-yes, decides-no}
 use Rattle.closed.proofs.used_in.Statement.{statement}
 use Rattle.closed.proofs.used_in.Tie as tie
 

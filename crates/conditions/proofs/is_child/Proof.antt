@@ -4,9 +4,9 @@ use Prim.Native.Nat.{ℕ}
 use mathlib.Core.Path.{ap, _∙_}
 use lib.ListN.{drop}
 use Rattle.rules.specs.04-Schema.{is-parent}
+use Rattle.rows.proofs.Rows.{filled-most}
 use Rattle.base.specs.Back.{schema-of}
 use Rattle.base.proofs.Kept.{sound-long}
-use Rattle.base.proofs.Rows.{filled-most}
 use Rattle.working.proofs.ShownLaws.{presence-small}
 use Rattle.conditions.proofs.ConditionLaws.{differs, agrees}
 use Rattle.conditions.proofs.is_child.Statement.{statement}

@@ -5,8 +5,8 @@ use native.Mathlib.Omega.{arith}
 use lib.ListN.{length}
 use Rattle.rules.specs.05-Descent.{members}
 use Rattle.rules.proofs.05-Descent.{members-most}
+use Rattle.rows.proofs.Decides.{decides-no, decides-yes}
 use Rattle.base.specs.Back.{schema-of}
-use Rattle.base.proofs.Decides.{decides-no, decides-yes}
 use Rattle.marks.specs.Set.{has}
 use Rattle.marks.proofs.Members.{members-le}
 use Rattle.graph.specs.Graph.{Settled}

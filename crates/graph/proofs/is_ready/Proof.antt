@@ -7,8 +7,8 @@ use native.Mathlib.Omega.{arith}
 use lib.ListN.{getD}
 use borrow.Author.Count.{below-none, below-more}
 use borrow.Author.Tests.{not-true, not-false}
+use Rattle.rows.proofs.Decides.{decides-no, decides-yes}
 use Rattle.base.specs.Rows.{type-at}
-use Rattle.base.proofs.Decides.{decides-no, decides-yes}
 use Rattle.marks.specs.Set.{has}
 use Rattle.graph.proofs.Rows.{count-few, parent-at, parent-below}
 use Rattle.graph.proofs.Laws.{lacks-parent, has-parents}

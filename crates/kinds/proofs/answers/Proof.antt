@@ -2,7 +2,7 @@
 -- Assumes nothing.
 use native.Mathlib.Omega.{arith}
 use borrow.Author.Needs.{needs}
-use Rattle.base.proofs.Decides.{decides-yes, decides-no, decides-iff}
+use Rattle.rows.proofs.Decides.{decides-yes, decides-no, decides-iff}
 use Rattle.kinds.proofs.TypesLaws.{decides-other}
 use Rattle.kinds.proofs.answers.Statement.{statement}
 use Rattle.kinds.proofs.answers.Tie as tie

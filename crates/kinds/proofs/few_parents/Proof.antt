@@ -2,7 +2,7 @@
 -- Assumes nothing.
 use native.Mathlib.Omega.{arith}
 use borrow.Author.Needs.{needs}
-use Rattle.base.proofs.Decides.{decides-no, decides-iff}
+use Rattle.rows.proofs.Decides.{decides-no, decides-iff}
 use Rattle.kinds.proofs.few_parents.Statement.{statement}
 use Rattle.kinds.proofs.few_parents.Tie as tie
 

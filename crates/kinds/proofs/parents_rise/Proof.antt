@@ -5,7 +5,7 @@ use borrow.Author.Needs.{needs}
 use Prim.Native.Nat.{ℕ, _≤_, _<_, _-_}
 use mathlib.Core.Path.{_≡_, refl, sym, _∙_}
 use borrow.Author.Count.{below-none, below-more}
-use Rattle.base.proofs.Decides.{decides-yes, decides-no}
+use Rattle.rows.proofs.Decides.{decides-yes, decides-no}
 use Rattle.kinds.specs.TypeRows.{least, ParentFine}
 use Rattle.kinds.proofs.TypesLaws.{least-next, kind-at}
 use Rattle.kinds.proofs.parents_rise.Statement.{statement}

@@ -2,7 +2,7 @@
 -- Assumes nothing.
 use native.Mathlib.Omega.{arith}
 use borrow.Author.Needs.{needs}
-use Rattle.base.proofs.Decides.{decides-yes, decides-no}
+use Rattle.rows.proofs.Decides.{decides-yes, decides-no}
 use Rattle.kinds.proofs.TypesLaws.{answers-fine}
 use Rattle.kinds.proofs.reverse_fine.Statement.{statement}
 use Rattle.kinds.proofs.reverse_fine.Tie as tie

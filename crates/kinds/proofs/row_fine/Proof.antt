@@ -2,7 +2,7 @@
 -- Assumes nothing.
 use native.Mathlib.Omega.{arith}
 use borrow.Author.Needs.{needs}
-use Rattle.base.proofs.Decides.{decides-no}
+use Rattle.rows.proofs.Decides.{decides-no}
 use Rattle.kinds.proofs.TypesLaws.{unused-row, object-row, attribute-row, link-row, no-row}
 use Rattle.kinds.proofs.row_fine.Statement.{statement}
 use Rattle.kinds.proofs.row_fine.Tie as tie

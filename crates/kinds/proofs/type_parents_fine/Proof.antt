@@ -2,7 +2,7 @@
 -- Assumes nothing.
 use native.Mathlib.Omega.{arith}
 use borrow.Author.Needs.{needs}
-use Rattle.base.proofs.Decides.{decides-yes, decides-no, decides-iff}
+use Rattle.rows.proofs.Decides.{decides-yes, decides-no, decides-iff}
 use Rattle.kinds.proofs.TypesLaws.{count-few}
 use Rattle.kinds.proofs.type_parents_fine.Statement.{statement}
 use Rattle.kinds.proofs.type_parents_fine.Tie as tie

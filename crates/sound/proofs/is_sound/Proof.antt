@@ -1,7 +1,7 @@
 -- `sound::is_sound` meets its contract: the parts together are `Sound`, and a sound base has them all. Assumes nothing.
 use borrow.Author.Needs.{needs}
 use borrow.Author.Tests.{not-true, not-false}
-use Rattle.base.proofs.Decides.{decides-no}
+use Rattle.rows.proofs.Decides.{decides-no}
 use Rattle.sound.proofs.Parts.{whole-of, whole-sound}
 use Rattle.sound.proofs.is_sound.Statement.{statement}
 use Rattle.sound.proofs.is_sound.Tie as tie

@@ -3,8 +3,8 @@ use borrow.Author.Needs.{needs}
 use native.Mathlib.Omega.{arith}
 use mathlib.Core.Path.{ap}
 use lib.ListN.{length}
+use Rattle.rows.proofs.Scan.{length-part}
 use Rattle.base.specs.Rows.{sds-at}
-use Rattle.base.proofs.Scan.{length-part}
 use Rattle.base.proofs.SdsShown.{used-first, used-past}
 use Rattle.base.proofs.find.is_sds.Statement.{statement}
 use Rattle.base.proofs.find.is_sds.Tie as tie

@@ -4,10 +4,10 @@ use Prim.Native.Nat.{_+_, _*_, _≤_, _-_}
 use native.Mathlib.Omega.{arith}
 use mathlib.Core.Path.{_≡_, _∙_}
 use borrow.Author.Tests.{not-true, not-false}
-use Rattle.base.specs.Rows.{Rising}
-use Rattle.base.specs.Order.{Keyed}
-use Rattle.base.proofs.Decides.{decides-yes, decides-no}
-use Rattle.base.proofs.Scan.{rising-one, rising-more, rising-not}
+use Rattle.rows.specs.Rows.{Rising}
+use Rattle.rows.specs.Order.{Keyed}
+use Rattle.rows.proofs.Decides.{decides-yes, decides-no}
+use Rattle.rows.proofs.Scan.{rising-one, rising-more, rising-not}
 use Rattle.base.proofs.OrderLaws.{presence-test}
 use Rattle.base.proofs.order.presences_rise.Statement.{statement}
 use Rattle.base.proofs.order.presences_rise.Tie as tie

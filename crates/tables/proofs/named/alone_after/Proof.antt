@@ -6,8 +6,9 @@ use mathlib.Core.Path.{_≡_, sym, ap₂, _∙_}
 use mathlib.Core.Bool.{true, true≢false}
 use borrow.Author.Count.{below-more}
 use Rattle.rules.specs.03-Names.{same-name}
-use Rattle.base.specs.Rows.{sds-at, part}
-use Rattle.base.proofs.Decides.{decides-yes, decides-no}
+use Rattle.rows.specs.Rows.{part}
+use Rattle.rows.proofs.Decides.{decides-yes, decides-no}
+use Rattle.base.specs.Rows.{sds-at}
 use Rattle.tables.proofs.named.alone_after.Statement.{statement}
 use Rattle.tables.proofs.named.alone_after.Tie as tie
 

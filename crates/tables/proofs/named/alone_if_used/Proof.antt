@@ -3,7 +3,7 @@ use borrow.Author.Needs.{needs}
 use mathlib.Core.Path.{sym, _∙_}
 use mathlib.Core.Bool.{true≢false}
 use borrow.Author.Tests.{not-true, not-false}
-use Rattle.base.proofs.Decides.{decides-yes, decides-iff}
+use Rattle.rows.proofs.Decides.{decides-yes, decides-iff}
 use Rattle.tables.proofs.named.alone_if_used.Statement.{statement}
 use Rattle.tables.proofs.named.alone_if_used.Tie as tie
 

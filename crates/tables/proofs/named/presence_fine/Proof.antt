@@ -8,10 +8,10 @@ use lib.ListN.{length}
 use borrow.Author.Tests.{not-true, not-false}
 use Rattle.rules.specs.04-Schema.{used-sds, kind-of, is-used}
 use Rattle.names.specs.Field.{name-field}
+use Rattle.rows.proofs.Decides.{decides-no}
+use Rattle.rows.proofs.Scan.{length-part}
 use Rattle.base.specs.Rows.{presence-at}
 use Rattle.base.specs.Back.{schema-of}
-use Rattle.base.proofs.Decides.{decides-no}
-use Rattle.base.proofs.Scan.{length-part}
 use Rattle.tables.proofs.named.presence_fine.Statement.{statement}
 use Rattle.tables.proofs.named.presence_fine.Tie as tie
 

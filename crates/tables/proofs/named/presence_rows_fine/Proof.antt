@@ -4,7 +4,7 @@ use Prim.Native.Nat.{ℕ, _≤_, _<_, _-_}
 use native.Mathlib.Omega.{arith}
 use borrow.Author.Count.{below-none, below-more}
 use borrow.Author.Tests.{not-true, not-false}
-use Rattle.base.proofs.Decides.{decides-yes, decides-no}
+use Rattle.rows.proofs.Decides.{decides-yes, decides-no}
 use Rattle.tables.specs.Named.{Row-named}
 use Rattle.tables.proofs.named.presence_rows_fine.Statement.{statement}
 use Rattle.tables.proofs.named.presence_rows_fine.Tie as tie

@@ -1,7 +1,7 @@
 -- `tables::named::presences_fine` meets its contract: the tests find what `Presences` asks. Assumes nothing.
 use borrow.Author.Needs.{needs}
 use borrow.Author.Tests.{not-true, not-false}
-use Rattle.base.proofs.Decides.{decides-no}
+use Rattle.rows.proofs.Decides.{decides-no}
 use Rattle.tables.proofs.PresenceLaws.{found-presences, presences-found}
 use Rattle.tables.proofs.named.presences_fine.Statement.{statement}
 use Rattle.tables.proofs.named.presences_fine.Tie as tie

@@ -4,8 +4,9 @@ use native.Mathlib.Omega.{arith}
 use mathlib.Core.Path.{sym, ap, _∙_}
 use lib.ListN.{length}
 use Rattle.names.specs.Field.{name-field, blank-field}
-use Rattle.base.specs.Rows.{sds-at, part}
-use Rattle.base.proofs.Scan.{length-part}
+use Rattle.rows.specs.Rows.{part}
+use Rattle.rows.proofs.Scan.{length-part}
+use Rattle.base.specs.Rows.{sds-at}
 use Rattle.tables.proofs.NamedLaws.{fine-blank, fine-name}
 use Rattle.tables.proofs.named.sds_field_fine.Statement.{statement}
 use Rattle.tables.proofs.named.sds_field_fine.Tie as tie

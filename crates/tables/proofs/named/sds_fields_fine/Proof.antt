@@ -6,7 +6,7 @@ use mathlib.Core.Path.{_≡_, sym, _∙_}
 use mathlib.Core.Bool.{true, true≢false}
 use borrow.Author.Count.{below-none, below-more}
 use borrow.Author.Tests.{not-true, not-false}
-use Rattle.base.proofs.Decides.{decides-yes, decides-no}
+use Rattle.rows.proofs.Decides.{decides-yes, decides-no}
 use Rattle.tables.specs.Named.{fine-field}
 use Rattle.tables.proofs.named.sds_fields_fine.Statement.{statement}
 use Rattle.tables.proofs.named.sds_fields_fine.Tie as tie

@@ -4,7 +4,7 @@ use borrow.Author.Tests.{not-true, not-false}
 use mathlib.Core.Path.{sym, _∙_}
 use mathlib.Core.Bool.{true≢false}
 use Rattle.rules.specs.07-Picture.{pad}
-use Rattle.base.proofs.Decides.{decides-no}
+use Rattle.rows.proofs.Decides.{decides-no}
 use Rattle.tables.proofs.NamedLaws.{fields-of, alone-of, system-of, sdss-of}
 use Rattle.tables.proofs.named.sdss_fine.Statement.{statement}
 use Rattle.tables.proofs.named.sdss_fine.Tie as tie

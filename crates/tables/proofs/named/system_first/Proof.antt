@@ -4,7 +4,7 @@ use native.Mathlib.Omega.{arith}
 use mathlib.Core.Path.{sym, _∙_}
 use mathlib.Core.Bool.{true≢false}
 use borrow.Author.Tests.{not-true, not-false, eqb-true, eqb-false}
-use Rattle.base.proofs.Decides.{decides-yes, decides-no}
+use Rattle.rows.proofs.Decides.{decides-yes, decides-no}
 use Rattle.tables.proofs.NamedLaws.{object-field, field-object}
 use Rattle.tables.proofs.named.system_first.Statement.{statement}
 use Rattle.tables.proofs.named.system_first.Tie as tie

@@ -2,7 +2,7 @@
 use borrow.Author.Needs.{needs}
 use mathlib.Core.Path.{_≡_}
 use borrow.Author.Tests.{not-true, not-false}
-use Rattle.base.proofs.Decides.{decides-no}
+use Rattle.rows.proofs.Decides.{decides-no}
 use Rattle.tables.proofs.RestLaws.{Found, ends-counted, rest-found, found-rest}
 use Rattle.tables.proofs.rest.rest_fine.Statement.{statement}
 use Rattle.tables.proofs.rest.rest_fine.Tie as tie

@@ -4,8 +4,8 @@ use Prim.Native.Nat.{ℕ, _+_, _≤_, _<_, _-_}
 use native.Mathlib.Omega.{arith}
 use lib.ListN.{getD}
 use borrow.Author.Count.{below-none, below-more}
+use Rattle.rows.proofs.Decides.{decides-yes, decides-no}
 use Rattle.base.specs.Rows.{end-at}
-use Rattle.base.proofs.Decides.{decides-yes, decides-no}
 use Rattle.tables.proofs.rest.sides_fine.Statement.{statement}
 use Rattle.tables.proofs.rest.sides_fine.Tie as tie
 

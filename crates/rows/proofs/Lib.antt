@@ -1,0 +1,6 @@
+pub mod Rows
+pub mod Decides
+pub mod Scan
+pub mod TableLaws
+pub mod Written
+pub mod OrderLaws

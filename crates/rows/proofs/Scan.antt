@@ -1,0 +1,147 @@
+-- What loops over bytes need: a part's first byte, bytes that are all zero, two parts compared byte by byte. Assumes nothing.
+use Prim.Native.Nat.{ℕ, zero, suc, _+_, _*_, _-_, _≤_, _<_}
+use native.Mathlib.Nat.{add-zero, suc-mul}
+use native.Mathlib.Numerals.{add-one}
+use native.Mathlib.Omega.{arith}
+use mathlib.Core.Path.{_≡_, refl, sym, ap, _∙_, subst}
+use mathlib.Core.List.{List, _∷_}
+use mathlib.Core.Bool.{Bool, true, false, _&&_, _||_, true≢false}
+use lib.Dec.{ltb, eqb}
+use lib.ListN.{length, getD, drop, replicate, length-take, length-drop}
+use lib.Seq.{drop-cons, getD-drop}
+use borrow.Author.Tests.{ltb-true, ltb-false, lt-ltb, le-ltb, eq-eqb, ne-eqb}
+use Rattle.rules.specs.01-Lists.{same-bytes, bytes-before}
+use Rattle.rules.proofs.01-Lists.{same-bytes-is, same-bytes-refl, before-transitive, before-first}
+use Rattle.names.specs.Field.{blank-field}
+use Rattle.rows.specs.Rows.{part, Rising, Filled, Counted, Level, Split, filled}
+use Rattle.rows.specs.Decides.{Decides}
+use Rattle.rows.proofs.Rows.{filled-is}
+use Rattle.rows.proofs.Decides.{decides-iff, decides-test}
+
+pub part-cons : (b : List ℕ) (at n m : ℕ) → at < length b → n ≡ suc m → part b at n ≡ getD b at 0 ∷ part b (at + 1) m
+part-cons b at n m h e = rw (e, add-one at, drop-cons b at 0 h)
+
+pub length-part : (b : List ℕ) (at n : ℕ) → at + n ≤ length b → length (part b at n) ≡ n
+length-part b at n h = length-take n (drop at b) ∙ omega (arith, length-drop at b)
+
+-- ---- zeros
+
+blank-same : (l : List ℕ) (n : ℕ) → length l ≡ n → blank-field l ≡ same-bytes (replicate n 0) l
+unfolding blank-field
+blank-same l n e = rw e
+
+pub zeros-blank : (b : List ℕ) (from to : ℕ) (r : Bool) → from ≤ to → to ≤ length b → r ≡ blank-field (part b from (to - from))
+    → Decides (part b from (to - from) ≡ replicate (to - from) 0) r
+zeros-blank b from to r h l e =
+    let bytes = part b from (to - from) in
+    let zeros = replicate {A = ℕ} (to - from) 0 in
+    let test : blank-field bytes ≡ same-bytes zeros bytes = blank-same bytes (to - from) (length-part b from (to - from) (omega arith)) in
+    decides-iff (λ q. sym (same-bytes-is zeros bytes (sym test ∙ q)))
+    (λ q. test ∙ ap (same-bytes zeros) q ∙ same-bytes-refl zeros)
+    (decides-test e)
+
+-- ---- two parts compared: what is left of them decides
+
+module _ (b : List ℕ) (a c w j : ℕ) (la : a + w ≤ length b) (lc : c + w ≤ length b) where
+  abbrev rest-before : ℕ → Bool
+  rest-before i = bytes-before (part b (a + i) (w - i)) (part b (c + i) (w - i))
+
+  step : j < w → rest-before j ≡ ltb (getD b (a + j) 0) (getD b (c + j) 0) || (eqb (getD b (a + j) 0) (getD b (c + j) 0) && rest-before (j + 1))
+  unfolding bytes-before
+  step h =
+      let one : w - j ≡ suc (w - (j + 1)) = omega arith in
+      let pa : a + j + 1 ≡ a + (j + 1) = omega arith in
+      let pc : c + j + 1 ≡ c + (j + 1) = omega arith in
+      rw (part-cons b (a + j) (w - j) (w - (j + 1)) (omega arith) one, part-cons b (c + j) (w - j) (w - (j + 1)) (omega arith) one, pa, pc)
+
+  pub before-less : j < w → getD b (a + j) 0 < getD b (c + j) 0 → rest-before j ≡ true
+  before-less h l = step h ∙ rw (lt-ltb (getD b (a + j) 0) (getD b (c + j) 0) l)
+
+  pub before-more : j < w → getD b (c + j) 0 < getD b (a + j) 0 → rest-before j ≡ false
+  before-more h l =
+      step h ∙ rw (le-ltb (getD b (a + j) 0) (getD b (c + j) 0) (omega arith), ne-eqb (getD b (a + j) 0) (getD b (c + j) 0) (λ e. omega arith))
+
+  pub before-same : j < w → getD b (a + j) 0 ≡ getD b (c + j) 0 → rest-before j ≡ rest-before (j + 1)
+  before-same h e =
+      step h ∙ rw (le-ltb (getD b (a + j) 0) (getD b (c + j) 0) (omega arith), eq-eqb (getD b (a + j) 0) (getD b (c + j) 0) e)
+
+  pub before-none : w ≤ j → rest-before j ≡ false
+  unfolding bytes-before
+  before-none h = let none : w - j ≡ 0 = omega arith in rw none
+
+pub before-start : (b : List ℕ) (a c w : ℕ) → bytes-before (part b a w) (part b c w) ≡ bytes-before (part b (a + 0) (w - 0)) (part b (c + 0) (w - 0))
+before-start b a c w = let all : w - 0 ≡ w = omega arith in rw (all, add-zero a, add-zero c)
+
+-- ---- rows that rise, one more at a time
+
+module _ (b : List ℕ) (start stride w : ℕ) where
+  pub rising-one : Rising b start stride w (0 + 1)
+  rising-one j h = absurd (omega arith)
+
+  pub rising-more : (i at : ℕ) → at ≡ start + i * stride → Rising b start stride w (i + 1)
+      → bytes-before (part b at w) (part b (at + stride) w) ≡ true → Rising b start stride w (i + 1 + 1)
+  rising-more i at e r n j h = go (ltb j i) refl
+    where
+      go : (t : Bool) → ltb j i ≡ t → bytes-before (part b (start + j * stride) w) (part b (start + suc j * stride) w) ≡ true
+      go true q = r j (omega (arith, ltb-true j i q))
+      go false q =
+          let same : i ≡ j = omega (arith, ltb-false j i q) in
+          let here : at ≡ start + j * stride = e ∙ ap (λ (k : ℕ). start + k * stride) same in
+          let next : at + stride ≡ start + suc j * stride = ap (λ (k : ℕ). k + stride) here ∙ omega (arith, suc-mul j stride) in
+          rw (← here, ← next) n
+
+  -- two rows that do not rise
+  pub rising-not : (i at n : ℕ) → at ≡ start + i * stride → suc i < n → bytes-before (part b at w) (part b (at + stride) w) ≡ false → Rising b start stride w n → ⊥
+  rising-not i at n e h f r =
+      let next : at + stride ≡ start + suc i * stride = ap (λ (k : ℕ). k + stride) e ∙ omega (arith, suc-mul i stride) in
+      true≢false (sym (rw (← e, ← next) at (r i h)) ∙ f)
+
+-- ---- counts and the room behind rows
+
+pub counted : (b : List ℕ) (first at f w n r : ℕ) → first ≡ at + f → Filled b first w n r → Counted (filled w f n (drop at b)) n r
+counted b first at f w n r e h = record {
+  is = filled-is w f n (drop at b) r (h .fits) (λ k u z. h .used k u (there k ∙ z)) (λ u. sym (there r) ∙ h .free u);
+  fits = h .fits;
+}
+  where
+    there : (k : ℕ) → getD b (first + k * w) 0 ≡ getD (drop at b) (k * w + f) 0
+    there k =
+        let same : first + k * w ≡ at + (k * w + f) = omega arith in
+        ap (λ (i : ℕ). getD b i 0) same ∙ sym (getD-drop at b (k * w + f) 0)
+
+pub room-zero : (b : List ℕ) (from to k : ℕ) (r : Bool) → to - from ≡ k → Decides (part b from (to - from) ≡ replicate (to - from) 0) r → Decides (part b from k ≡ replicate k 0) r
+room-zero b from to k r e d = subst (λ (m : ℕ). Decides (part b from m ≡ replicate m 0) r) e d
+
+-- rows that rise one by one rise over any distance
+pub rising-far : (b : List ℕ) (start stride w n : ℕ) → Rising b start stride w n → (i j : ℕ) → i < j → j < n
+    → bytes-before (part b (start + i * stride) w) (part b (start + j * stride) w) ≡ true
+rising-far b start stride w n r i zero h l = absurd (omega arith)
+rising-far b start stride w n r i (suc j) h l = go (ltb i j) refl (λ q. rising-far b start stride w n r i j q (omega arith))
+  where
+    row : ℕ → List ℕ
+    row k = part b (start + k * stride) w
+
+    go : (t : Bool) → ltb i j ≡ t → (i < j → bytes-before (row i) (row j) ≡ true) → bytes-before (row i) (row (suc j)) ≡ true
+    go true q ih = before-transitive (row i) (row j) (row (suc j)) (ih (ltb-true i j q)) (r j l)
+    go false q ih = let same : i ≡ j = omega (arith, ltb-false i j q) in rw same (r j l)
+
+-- ---- where the rows of one SDS end
+
+pub rising-level : (b : List ℕ) (start stride w n : ℕ) → ((i : ℕ) → i < n → start + i * stride < length b) → Rising b start stride (suc w) n → Level b start stride n
+rising-level b start stride w n l r i j h k =
+    let x = start + i * stride in
+    let y = start + j * stride in
+    before-first (getD b x 0) (part b (x + 1) w) (getD b y 0) (part b (y + 1) w)
+    (rw (← part-cons b x (suc w) w (l i (omega arith)) refl, ← part-cons b y (suc w) w (l j k) refl) (rising-far b start stride (suc w) n r i j h k))
+
+module _ (b : List ℕ) (first width n d i : ℕ) (fits : i ≤ n) (below : (k : ℕ) → k < i → getD b (first + k * width) 0 < d + 1) where
+  -- a row that is in a higher SDS, and so are those behind it
+  pub split-here : Level b first width n → d < getD b (first + i * width) 0 → Split b first width n (d + 1) i
+  split-here v h = record { fits = fits; below = below; above = λ k l q. go k l (ltb i k) refl q }
+    where
+      go : (k : ℕ) → k < n → (t : Bool) → ltb i k ≡ t → i ≤ k → d + 1 ≤ getD b (first + k * width) 0
+      go k l true e q = let le = v i k (ltb-true i k e) l in omega arith
+      go k l false e q = let same : i ≡ k = omega (arith, ltb-false i k e) in rw (← same) (omega arith)
+
+  pub split-end : n ≤ i → Split b first width n (d + 1) i
+  split-end h = record { fits = fits; below = below; above = λ k l q. absurd (omega arith) }

@@ -1,0 +1,52 @@
+-- The bytes of rows, over any start and width.
+use Prim.Native.Nat.{ℕ, zero, suc, _+_, _*_, _≤_, _<_}
+use mathlib.Core.Path.{_≡_}
+use mathlib.Core.List.{List, [], _∷_}
+use mathlib.Core.Bool.{true, cond}
+use lib.Dec.{eqb}
+use lib.ListN.{getD, take, drop}
+use Rattle.rules.specs.01-Lists.{bytes-before}
+
+-- w bytes from `at` on
+abbrev pub part : List ℕ → ℕ → ℕ → List ℕ
+part b at w = take w (drop at b)
+
+-- what the first n rows of width w show
+unfoldable pub rows : {A : Type 0} → ℕ → (List ℕ → A) → ℕ → List ℕ → List A
+rows w read zero l = []
+rows w read (suc n) l = read (take w l) ∷ rows w read n (drop w l)
+
+-- how many of the first n rows of width w stand before the first whose byte f is 0
+unfoldable pub filled : ℕ → ℕ → ℕ → List ℕ → ℕ
+filled w f zero l = 0
+filled w f (suc n) l = cond (eqb (getD l f 0) 0) 0 (suc (filled w f n (drop w l)))
+
+-- r is the byte that stands at `at`
+pub record Reads (b : List ℕ) (at r : ℕ) : Type 0 where
+  pub is : r ≡ getD b at 0
+  pub small : r < 256
+
+-- r of n rows stand before the first whose byte asked about is 0; that of row 0 stands at `first`
+pub record Filled (b : List ℕ) (first width n r : ℕ) : Type 0 where
+  pub fits : r ≤ n
+  pub used : (k : ℕ) → k < r → getD b (first + k * width) 0 ≡ 0 → ⊥
+  pub free : r < n → getD b (first + r * width) 0 ≡ 0
+
+-- r is a count, and at most what there is room for
+pub record Counted (count most r : ℕ) : Type 0 where
+  pub is : r ≡ count
+  pub fits : r ≤ most
+
+-- the first w bytes of each of n rows stand before those of the next
+abbrev pub Rising : List ℕ → ℕ → ℕ → ℕ → ℕ → Type 0
+Rising b start stride w n = (i : ℕ) → suc i < n → bytes-before (part b (start + i * stride) w) (part b (start + suc i * stride) w) ≡ true
+
+-- the SDSs of n rows do not fall; that of row 0 stands at `first`
+abbrev pub Level : List ℕ → ℕ → ℕ → ℕ → Type 0
+Level b first width n = (i j : ℕ) → i < j → j < n → getD b (first + i * width) 0 ≤ getD b (first + j * width) 0
+
+-- the rows before r are in SDSs below d, the others are not
+pub record Split (b : List ℕ) (first width n d r : ℕ) : Type 0 where
+  pub fits : r ≤ n
+  pub below : (i : ℕ) → i < r → getD b (first + i * width) 0 < d
+  pub above : (i : ℕ) → i < n → r ≤ i → d ≤ getD b (first + i * width) 0

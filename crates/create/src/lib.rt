@@ -1,6 +1,6 @@
 // The calls that make types. What they test of their inputs they test once, in the order of their refusals.
-pub mod pair;
 pub mod object;
+pub mod pair;
 
 use rules::Answer;
 use rules::Limits;

@@ -1,13 +1,14 @@
 -- A verdict, condition by condition: one that fails is passed over, one that holds refuses, and what is left of the list decides.
 -- Assumes nothing.
-use Prim.Native.Nat.{ℕ}
+use Prim.Native.Nat.{ℕ, _<_}
 use mathlib.Core.Path.{_≡_, refl, sym, ap, _∙_}
 use mathlib.Core.List.{[], _∷_, _++_}
 use mathlib.Core.Bool.{Bool, true, false, cond, _||_, true≢false}
 use lib.Dec.{ltb}
+use borrow.Author.Tests.{ltb-true}
 use Rattle.rules.specs.01-Lists.{all}
 use Rattle.rules.specs.09-Refusals.{Outcome, Refusals, verdict}
-use Rattle.rules.specs.09-Refusals.Outcome.{refused}
+use Rattle.rules.specs.09-Refusals.Outcome.{refused, done}
 use Rattle.rules.proofs.Bools.{and-both}
 
 -- every condition fails
@@ -49,6 +50,23 @@ module _ {Made : Type 0} where
       go : (t : Bool) → c .1 ≡ t → ((Passed cs → P effect) → P (verdict cs effect)) → P (cond t (refused (c .0)) (verdict cs effect))
       go true q k = r (c .0)
       go false q k = k (λ w. f (q, w))
+
+-- ---- the numbers of refusals
+
+module _ {Made : Type 0} (k : ℕ) where
+  -- where it refuses, its number is beyond k
+  abbrev pub Beyond : Outcome Made → Type 0
+  Beyond (refused n) = k < n
+  Beyond (done one two three made) = Unit {0}
+
+  pub verdict-beyond : (cs : Refusals) (effect : Outcome Made) → all (λ c. ltb k (c .0)) cs ≡ true → Beyond effect → Beyond (verdict cs effect)
+  unfolding verdict all
+  verdict-beyond [] effect h p = p
+  verdict-beyond (c ∷ cs) effect h p = go (c .1) (verdict-beyond cs effect (and-both (ltb k (c .0)) (all (λ c. ltb k (c .0)) cs) h .1) p)
+    where
+      go : (t : Bool) → Beyond (verdict cs effect) → Beyond (cond t (refused (c .0)) (verdict cs effect))
+      go true q = ltb-true k (c .0) (and-both (ltb k (c .0)) (all (λ c. ltb k (c .0)) cs) h .0)
+      go false q = q
 
 -- ---- several conditions told at once
 

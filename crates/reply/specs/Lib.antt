@@ -1,0 +1,4 @@
+pub mod Called
+pub mod Command
+pub mod Print
+pub mod Reply

@@ -2,3 +2,5 @@ pub mod Carried
 pub mod Orders
 pub mod Parts
 pub mod Applications
+pub mod PutAll
+pub mod EndChanges

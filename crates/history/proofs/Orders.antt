@@ -72,7 +72,7 @@ application-order = record {
       number-order .transitive (x .attribute) (y .attribute) (z .attribute) p2 q2));
 }
 
-side-is : (x y : Side) → side-code x ≡ side-code y → x ≡ y
+pub side-is : (x y : Side) → side-code x ≡ side-code y → x ≡ y
 side-is origin origin e = refl
 side-is origin destination e = absurd (omega arith)
 side-is destination origin e = absurd (omega arith)

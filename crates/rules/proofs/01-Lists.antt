@@ -174,7 +174,7 @@ rising-once (x ∷ l) e (suc i) (suc j) u v s = ap suc (rising-once l (rising-ta
 -- ---- how many different numbers there can be
 
 -- none stands in the list twice
-abbrev pub Different : List ℕ → Type 0
+abbrev pub Different : {A : Type 0} → List A → Type 0
 Different [] = Unit {0}
 Different (x ∷ l) = (x ∈ l → ⊥) × Different l
 

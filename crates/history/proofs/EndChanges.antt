@@ -2,24 +2,31 @@
 use Prim.Native.Nat.{ℕ, _+_, _≤_}
 use native.Mathlib.Omega.{arith}
 use mathlib.Core.Path.{_≡_, refl, sym, ap, subst, _∙_}
-use mathlib.Core.Logic.{_⊎_, ⊎-elim}
-use mathlib.Core.List.{List, [], _∷_}
-use mathlib.Core.Bool.{Bool, true, false, _&&_, true≢false}
+use mathlib.Core.Logic.{⊎-elim}
+use mathlib.Core.List.{List, [], _∷_, map, List·Memᴰ·not-nil, List·Memᴰ·cases-cons, List·Memᴰ·eq-of-singleton}
+use mathlib.Core.List.List·Memᴰ.{List·Memᴰ·head, List·Memᴰ·tail}
+use mathlib.Core.Bool.{Bool, true, false, _&&_, _||_, true≢false}
 use lib.Dec.{eqb}
-use lib.ListN.{length}
-use borrow.Author.Tests.{eqb-true, eq-eqb}
+use lib.ListN.{length, getD, length-map}
+use borrow.Author.Tests.{ltb-false, eqb-true, eq-eqb}
 use Rattle.rules.specs.01-Lists.{_∈_, any, without}
 use Rattle.rules.specs.02-Limits.{limits}
-use Rattle.rules.specs.04-Schema.{Schema, Kind, Presence, Side, End, kind-of, is-object, is-link, present, has-end, is-end, side-code}
-use Rattle.rules.specs.04-Schema.{other-side, end-before}
-use Rattle.rules.specs.04-Schema.Kind.{paired}
+use Rattle.rules.specs.03-Names.{Name}
+use Rattle.rules.specs.04-Schema.{Schema, Kind, Presence, Side, End, kind-of, is-object, is-link, reverse-in, reverse, with-reverse, present}
+use Rattle.rules.specs.04-Schema.{type-named, has-end, is-end, side-code, other-side, end-before}
+use Rattle.rules.specs.04-Schema.Kind.{unused, object, attribute, designation, paired}
 use Rattle.rules.specs.04-Schema.Side.{origin, destination}
-use Rattle.rules.specs.10-Changes.{put-all, is-one-of}
-use Rattle.rules.proofs.Bools.{and-both}
+use Rattle.rules.specs.06-Good.{Good}
+use Rattle.rules.specs.09-Refusals.{no-such-name, no-object, no-link, ends-full, system-sds}
+use Rattle.rules.specs.09-Refusals.Outcome.{done}
+use Rattle.rules.specs.10-Changes.{with-ends, put-all, both-ends, is-one-of, add-end, add-end-refusals, remove-end, remove-end-refusals}
+use Rattle.rules.specs.13-History.{next}
+use Rattle.rules.proofs.Bools.{or-neither, and-both, and-of}
 use Rattle.rules.proofs.01-Lists.{any-at, any-where, Different}
 use Rattle.rules.proofs.Edits.{without-in, without-keeps}
-use Rattle.history.proofs.Carried.{without-long}
-use Rattle.history.proofs.Parts.{of-types, of-presences, of-ends, Types, Ends}
+use Rattle.rules.proofs.09-Refusals.{verdict-keeps}
+use Rattle.history.proofs.Carried.{without-long, named-present, flipped}
+use Rattle.history.proofs.Parts.{of-types, of-presences, of-ends, Types, Ends, parts-of, whole}
 use Rattle.history.proofs.Orders.{side-is, end-order, without-rises}
 use Rattle.history.proofs.PutAll.{put-all-long, put-all-in, put-all-old, put-all-new, put-all-rises}
 
@@ -136,3 +143,135 @@ module _ {ks : List Kind} {ps : List Presence} {es : List End} (ty : Types ks) (
       stays e i c r k true h =
           absurd (true≢false (sym (in-one gone e (back gone f e c r k (one-in gone (mirror r e) h))) ∙ without-in (is-one-of gone) es i .1))
       stays e i c r k false h = h
+
+-- ---- both ends of a link are closed: the end alone, or with its mirror
+
+data Both (s : Schema) (a : End) : List End → Type 0 where
+  alone : ((c r : ℕ) → kind-of s (a .link) ≡ paired c r → ⊥) → Both s a (a ∷ [])
+  together : (c r : ℕ) → kind-of s (a .link) ≡ paired c r → Both s a (a ∷ mirror r a ∷ [])
+
+both : (s : Schema) (a : End) → Both s a (both-ends (a .sds) (a .link) (a .side) (a .object) s)
+unfolding both-ends reverse
+both s a = go (kind-of s (a .link)) refl
+  where
+    single : {k : Kind} → reverse-in k ≡ [] → kind-of s (a .link) ≡ k → (c r : ℕ) → kind-of s (a .link) ≡ paired c r → ⊥
+    single e h c r f =
+        let long : length (reverse-in (paired c r)) ≡ 0 = ap (λ (k : Kind). length (reverse-in k)) (sym f ∙ h) ∙ ap length e in
+        omega arith
+
+    go : (k : Kind) → kind-of s (a .link) ≡ k → Both s a (a ∷ map (λ r. mirror r a) (reverse-in k))
+    go unused h = alone (single refl h)
+    go (object ps) h = alone (single refl h)
+    go (attribute v) h = alone (single refl h)
+    go designation h = alone (single refl h)
+    go (paired c r) h = together c r h
+
+-- a type has one reverse
+one-reverse : {k : Kind} {c r c′ r′ : ℕ} → k ≡ paired c r → k ≡ paired c′ r′ → r ≡ r′
+one-reverse e f = ap (λ (k : Kind). getD (reverse-in k) 0 0) (sym e ∙ f)
+
+module _ {s : Schema} (g : Good s) {a : End} where
+  both-closed : {new : List End} → Both s a new → Closed (s .types) new
+  both-closed (alone single) e i c r k = absurd (single c r (ap (λ (x : End). kind-of s (x .link)) (sym (List·Memᴰ·eq-of-singleton i)) ∙ k))
+  both-closed (together c′ r′ k′) e i c r k =
+      ⊎-elim
+      (λ p. let same : r ≡ r′ = one-reverse (ap (λ (x : End). kind-of s (x .link)) (sym p) ∙ k) k′ in
+      List·Memᴰ·tail (List·Memᴰ·head (λ j. mirror (same j) (p j))))
+      (λ m. let p : e ≡ mirror r′ a = List·Memᴰ·eq-of-singleton m in
+      let same : r ≡ a .link = one-reverse (ap (λ (x : End). kind-of s (x .link)) (sym p) ∙ k) (g .reverse-in-turn (a .link) c′ r′ k′ .1) in
+      List·Memᴰ·head ((λ j. mirror (same j) (p j)) ∙ mirror-twice r′ a))
+      (List·Memᴰ·cases-cons i)
+
+  both-fit : {new : List End} → Both s a new → Fit (s .types) (s .presences) a → (e : End) → e ∈ new → Fit (s .types) (s .presences) e
+  unfolding present
+  both-fit (alone single) f e i = subst (λ (x : End). Fit (s .types) (s .presences) x) (sym (List·Memᴰ·eq-of-singleton i)) f
+  both-fit (together c r k) f e i =
+      ⊎-elim
+      (λ p. subst (λ (x : End). Fit (s .types) (s .presences) x) (sym p) f)
+      (λ m. subst (λ (x : End). Fit (s .types) (s .presences) x) (sym (List·Memᴰ·eq-of-singleton m)) other)
+      (List·Memᴰ·cases-cons i)
+    where
+      other : Fit (s .types) (s .presences) (mirror r a)
+      other =
+          let (l, o) = and-both (present s (a .sds) (a .link)) (present s (a .sds) (a .object)) (f .there) in
+          record {
+            of-link = ap is-link (g .reverse-in-turn (a .link) c r k .1);
+            at-object = f .at-object;
+            there = and-of (present s (a .sds) r) (present s (a .sds) (a .object)) (g .reverse-present (a .sds) (a .link) c r l k) o;
+            outside = f .outside;
+          }
+
+  both-different : {new : List End} → Both s a new → Different new
+  both-different (alone single) = (List·Memᴰ·not-nil, tt)
+  both-different (together c r k) =
+      ((λ i. g .reverse-different (a .link) c r k (sym (ap (λ (x : End). x .link) (List·Memᴰ·eq-of-singleton i)))), (List·Memᴰ·not-nil, tt))
+
+  both-new : {new : List End} → Both s a new → (a ∈ s .ends → ⊥) → (e : End) → e ∈ new → e ∈ s .ends → ⊥
+  both-new (alone single) n e i j = n (subst (λ (x : End). x ∈ s .ends) (List·Memᴰ·eq-of-singleton i) j)
+  both-new (together c r k) n e i j =
+      ⊎-elim
+      (λ p. n (subst (λ (x : End). x ∈ s .ends) p j))
+      (λ m. n (back ty old (s .ends) (closed ty old) a c r k (subst (λ (x : End). x ∈ s .ends) (List·Memᴰ·eq-of-singleton m) j)))
+      (List·Memᴰ·cases-cons i)
+    where
+      ty : Types (s .types)
+      ty = parts-of g .types
+
+      old : Ends (s .types) (s .presences) (s .ends)
+      old = parts-of g .ends
+
+-- ---- the calls
+
+-- nothing else speaks of ends
+changed : {s : Schema} → Good s → {es : List End} → Ends (s .types) (s .presences) es → Good (with-ends s es)
+changed g e =
+    let p = parts-of g in
+    whole (record { sdss = p .sdss; types = p .types; presences = p .presences; applications = p .applications; ends = e })
+
+pub remove-end-keeps : (side : Side) (d : ℕ) (n m : Name) (s : Schema) → Good s → Good (next s (remove-end side d n m s))
+unfolding remove-end
+remove-end-keeps side d n m s g =
+    verdict-keeps (λ o. Good (next s o)) (remove-end-refusals side d n m s)
+    (done 0 0 0 (with-ends s (without (is-one-of (both-ends d (type-named s d n) side (type-named s d m) s)) (s .ends))))
+    (λ _. g)
+    (λ _. changed g
+    (fewer-ends (parts-of g .types) (parts-of g .ends) (both-ends d (type-named s d n) side (type-named s d m) s)
+    (both-closed g (both s (record { sds = d; link = type-named s d n; side = side; object = type-named s d m })))))
+
+pub add-end-keeps : (side : Side) (d : ℕ) (n m : Name) (s : Schema) → Good s → Good (next s (add-end side d n m s))
+unfolding add-end both-ends present has-end ends-full system-sds no-object no-link
+add-end-keeps side d n m s g =
+    verdict-keeps (λ o. Good (next s o)) (add-end-refusals side d n m s)
+    (done 0 0 0 (with-ends s (put-all end-before new (s .ends))))
+    (λ _. g)
+    (λ passed.
+    let kinds = passed .1 .1 .1 .1 .0 in
+    let fit : Fit (s .types) (s .presences) a
+    = record { of-link = link kinds; at-object = object-type kinds; there = there (passed .1 .1 .1 .0); outside = aimed (passed .1 .0) } in
+    changed g
+    (more-ends (parts-of g .types) (parts-of g .ends) new (room (passed .1 .1 .1 .1 .1 .1 .0)) (both-fit g (both s a) fit) (both-different g (both s a))
+    (both-new g (both s a) (λ i. true≢false (sym (in-has (s .ends) a i) ∙ passed .1 .1 .1 .1 .1 .0))) (both-closed g (both s a))))
+  where
+    a : End
+    a = record { sds = d; link = type-named s d n; side = side; object = type-named s d m }
+
+    new : List End
+    new = both-ends d (type-named s d n) side (type-named s d m) s
+
+    room : ends-full s (length (with-reverse s (type-named s d n))) ≡ false → length (s .ends) + length new ≤ limits .ends
+    room e = omega (arith, ltb-false (limits .ends) (length (s .ends) + length (with-reverse s (type-named s d n))) e,
+        length-map (reverse s (type-named s d n)) (λ r. mirror r a))
+
+    aimed : system-sds d ≡ false → d ≡ 0 → ⊥
+    aimed e z = true≢false (sym (eq-eqb d 0 z) ∙ e)
+
+    there : no-such-name s d n || no-such-name s d m ≡ false → present s d (type-named s d n) && present s d (type-named s d m) ≡ true
+    there e =
+        let (p, q) = or-neither (no-such-name s d n) (no-such-name s d m) e in
+        and-of (present s d (type-named s d n)) (present s d (type-named s d m)) (named-present s d n p) (named-present s d m q)
+
+    link : no-link s (type-named s d n) || no-object s (type-named s d m) ≡ false → is-link (kind-of s (type-named s d n)) ≡ true
+    link e = flipped (is-link (kind-of s (type-named s d n))) (or-neither (no-link s (type-named s d n)) (no-object s (type-named s d m)) e .0)
+
+    object-type : no-link s (type-named s d n) || no-object s (type-named s d m) ≡ false → is-object (kind-of s (type-named s d m)) ≡ true
+    object-type e = flipped (is-object (kind-of s (type-named s d m))) (or-neither (no-link s (type-named s d n)) (no-object s (type-named s d m)) e .1)

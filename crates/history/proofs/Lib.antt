@@ -4,3 +4,4 @@ pub mod Parts
 pub mod Applications
 pub mod PutAll
 pub mod EndChanges
+pub mod SdsChanges

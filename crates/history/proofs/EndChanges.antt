@@ -53,13 +53,13 @@ itself x = rw (
   eq-eqb (x .object) (x .object) refl,
 )
 
-has-in : (es : List End) (x : End) → has-end (of-ends es) (x .sds) (x .link) (x .side) (x .object) ≡ true → x ∈ es
+pub has-in : (es : List End) (x : End) → has-end (of-ends es) (x .sds) (x .link) (x .side) (x .object) ≡ true → x ∈ es
 unfolding has-end
 has-in es x h =
     let (e, i, f) = any-where (is-end (x .sds) (x .link) (x .side) (x .object)) es h in
     subst (λ (y : End). y ∈ es) (end-is x e f) i
 
-in-has : (es : List End) (x : End) → x ∈ es → has-end (of-ends es) (x .sds) (x .link) (x .side) (x .object) ≡ true
+pub in-has : (es : List End) (x : End) → x ∈ es → has-end (of-ends es) (x .sds) (x .link) (x .side) (x .object) ≡ true
 unfolding has-end
 in-has es x i = any-at (is-end (x .sds) (x .link) (x .side) (x .object)) i (itself x)
 

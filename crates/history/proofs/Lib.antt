@@ -5,3 +5,4 @@ pub mod Applications
 pub mod PutAll
 pub mod EndChanges
 pub mod SdsChanges
+pub mod Theorems

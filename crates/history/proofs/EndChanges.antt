@@ -9,7 +9,7 @@ use mathlib.Core.Bool.{Bool, true, false, _&&_, _||_, true≢false}
 use lib.Dec.{eqb}
 use lib.ListN.{length, getD, length-map}
 use borrow.Author.Tests.{ltb-false, eqb-true, eq-eqb}
-use Rattle.rules.specs.01-Lists.{_∈_, any, without}
+use Rattle.rules.specs.01-Lists.{_∈_, without}
 use Rattle.rules.specs.02-Limits.{limits}
 use Rattle.rules.specs.03-Names.{Name}
 use Rattle.rules.specs.04-Schema.{Schema, Kind, Presence, Side, End, kind-of, is-object, is-link, reverse-in, reverse, with-reverse, present}
@@ -101,7 +101,7 @@ module _ {ks : List Kind} {ps : List Presence} {es : List End} (ty : Types ks) (
   fits : (e : End) → e ∈ es → Fit ks ps e
   fits e i = record { of-link = g .of-link e i; at-object = g .at-object e i; there = g .there e i; outside = g .outside e i }
 
-  -- a mirror is one's own mirror's
+  -- the mirror of an end's mirror is the end
   back : (some : List End) → Closed ks some → (e : End) (c r : ℕ) → kind-of (of-types ks) (e .link) ≡ paired c r → mirror r e ∈ some → e ∈ some
   back some f e c r k i =
       let (c′, h) = ty .in-turn (e .link) c r k in
@@ -259,8 +259,11 @@ add-end-keeps side d n m s g =
     new = both-ends d (type-named s d n) side (type-named s d m) s
 
     room : ends-full s (length (with-reverse s (type-named s d n))) ≡ false → length (s .ends) + length new ≤ limits .ends
-    room e = omega (arith, ltb-false (limits .ends) (length (s .ends) + length (with-reverse s (type-named s d n))) e,
-        length-map (reverse s (type-named s d n)) (λ r. mirror r a))
+    room e = omega (
+      arith,
+      ltb-false (limits .ends) (length (s .ends) + length (with-reverse s (type-named s d n))) e,
+      length-map (reverse s (type-named s d n)) (λ r. mirror r a),
+    )
 
     aimed : system-sds d ≡ false → d ≡ 0 → ⊥
     aimed e z = true≢false (sym (eq-eqb d 0 z) ∙ e)

@@ -4,12 +4,12 @@ use native.Mathlib.Omega.{arith}
 use mathlib.Core.Path.{_≡_, refl, sym, ap, subst, _∙_}
 use mathlib.Core.Logic.{_⊎_, inl, inr, ⊎-elim}
 use mathlib.Core.List.{List, []}
-use mathlib.Core.Bool.{Bool, true, false, not, _&&_, _||_, true≢false, false≢true}
+use mathlib.Core.Bool.{Bool, true, false, not, _&&_, true≢false, false≢true}
 use lib.Dec.{leb, ltb, eqb}
 use lib.ListN.{length, getD, set, length-set, List·getD-eq-default}
 use lib.Seq.{getD-set-same, getD-set-other}
 use borrow.Author.Tests.{leb-false, ltb-true, ltb-false, eqb-true, eqb-false, eq-eqb}
-use Rattle.rules.specs.01-Lists.{_∈_, any, numbers}
+use Rattle.rules.specs.01-Lists.{_∈_, any}
 use Rattle.rules.specs.02-Limits.{limits}
 use Rattle.rules.specs.03-Names.{Name, well-formed, blank, same-name}
 use Rattle.rules.specs.04-Schema.{Schema, Kind, Presence, used-sds}
@@ -38,10 +38,10 @@ module _ {A : Type 0} (l : List A) (i : ℕ) (x d : A) (h : i < length l) where
           inl (same, ap (λ (k : ℕ). getD (set l i x) k d) same ∙ getD-set-same l i x d h)
       go false q = inr (eqb-false j i q, getD-set-other l i j x d (eqb-false j i q))
 
--- a name is used where it is not blank
-named-used : (ns ms : List Name) (e : ℕ) → getD ns e [] ≡ getD ms e [] → used-sds (of-sdss ns) e ≡ used-sds (of-sdss ms) e
+-- an SDS is used where its name is not blank, so alike where the names are the same
+used-alike : (ns ms : List Name) (e : ℕ) → getD ns e [] ≡ getD ms e [] → used-sds (of-sdss ns) e ≡ used-sds (of-sdss ms) e
 unfolding used-sds
-named-used ns ms e q = ap (λ (m : Name). not (blank m)) q
+used-alike ns ms e q = ap (λ (m : Name). not (blank m)) q
 
 name-used : (ns : List Name) (e : ℕ) (m : Name) → getD ns e [] ≡ m → used-sds (of-sdss ns) e ≡ not (blank m)
 unfolding used-sds
@@ -62,10 +62,10 @@ module _ {ns : List Name} (g : Sdss ns) (d : ℕ) (h : d < length ns) where
   less-sds : (d ≡ 0 → ⊥) → Sdss (set ns d [])
   less-sds other = record {
     room = length-set ns d [] ∙ g .room;
-    named = λ e u. subst (λ (m : Name). well-formed m ≡ true) (sym (was e u)) (g .named e (sym (named-used (set ns d []) ns e (was e u)) ∙ u));
-    unique = λ e f u v q. g .unique e f (sym (named-used (set ns d []) ns e (was e u)) ∙ u) (sym (named-used (set ns d []) ns f (was f v)) ∙ v)
+    named = λ e u. subst (λ (m : Name). well-formed m ≡ true) (sym (was e u)) (g .named e (sym (used-alike (set ns d []) ns e (was e u)) ∙ u));
+    unique = λ e f u v q. g .unique e f (sym (used-alike (set ns d []) ns e (was e u)) ∙ u) (sym (used-alike (set ns d []) ns f (was f v)) ∙ v)
         (rw (was e u, was f v) at q);
-    system = was 0 (named-used (set ns d []) ns 0 (getD-set-other ns d 0 [] [] (λ e. other (sym e))) ∙ system-used) ∙ g .system;
+    system = was 0 (used-alike (set ns d []) ns 0 (getD-set-other ns d 0 [] [] (λ e. other (sym e))) ∙ system-used) ∙ g .system;
   }
     where
       was : (e : ℕ) → used-sds (of-sdss (set ns d [])) e ≡ true → getD (set ns d []) e [] ≡ getD ns e []
@@ -78,17 +78,17 @@ module _ {ns : List Name} (g : Sdss ns) (d : ℕ) (h : d < length ns) where
     named = λ e u.
         ⊎-elim
         (λ p. subst (λ (m : Name). well-formed m ≡ true) (sym (p .1)) formed)
-        (λ p. subst (λ (m : Name). well-formed m ≡ true) (sym (p .1)) (g .named e (sym (named-used (set ns d n) ns e (p .1)) ∙ u)))
+        (λ p. subst (λ (m : Name). well-formed m ≡ true) (sym (p .1)) (g .named e (sym (used-alike (set ns d n) ns e (p .1)) ∙ u)))
         (written ns d n [] h e);
     unique = λ e f u v q.
         ⊎-elim
         (λ p. ⊎-elim
         (λ r. p .0 ∙ sym (r .0))
-        (λ r. absurd (clash f (sym (named-used (set ns d n) ns f (r .1)) ∙ v) (sym (same-name-is n (getD ns f []) (rw (p .1, r .1) at q)))))
+        (λ r. absurd (clash f (sym (used-alike (set ns d n) ns f (r .1)) ∙ v) (sym (same-name-is n (getD ns f []) (rw (p .1, r .1) at q)))))
         (written ns d n [] h f))
         (λ p. ⊎-elim
-        (λ r. absurd (clash e (sym (named-used (set ns d n) ns e (p .1)) ∙ u) (same-name-is (getD ns e []) n (rw (p .1, r .1) at q))))
-        (λ r. g .unique e f (sym (named-used (set ns d n) ns e (p .1)) ∙ u) (sym (named-used (set ns d n) ns f (r .1)) ∙ v) (rw (p .1, r .1) at q))
+        (λ r. absurd (clash e (sym (used-alike (set ns d n) ns e (p .1)) ∙ u) (same-name-is (getD ns e []) n (rw (p .1, r .1) at q))))
+        (λ r. g .unique e f (sym (used-alike (set ns d n) ns e (p .1)) ∙ u) (sym (used-alike (set ns d n) ns f (r .1)) ∙ v) (rw (p .1, r .1) at q))
         (written ns d n [] h f))
         (written ns d n [] h e);
     system = ⊎-elim
@@ -142,7 +142,7 @@ remove-sds-keeps d s g =
 
     still : holds-presence s d ≡ false → (p : Presence) → p ∈ s .presences → used-sds (of-sdss (set (s .sdss) d [])) (p .sds) ≡ true
     still e p i =
-        named-used (set (s .sdss) d []) (s .sdss) (p .sds)
+        used-alike (set (s .sdss) d []) (s .sdss) (p .sds)
         (getD-set-other (s .sdss) d (p .sds) [] [] (λ q. true≢false (sym (any-at (λ p. eqb (p .sds) d) i (eq-eqb (p .sds) d q)) ∙ e)))
         ∙ parts-of g .presences .in-used p i
 
@@ -172,5 +172,5 @@ new-sds-keeps n s g =
         let u = parts-of g .presences .in-used p i in
         ⊎-elim
         (λ w. absurd (true≢false (sym u ∙ ap (used-sds (of-sdss (s .sdss))) (w .0) ∙ free)))
-        (λ w. named-used (set (s .sdss) (new-sds-number s) n) (s .sdss) (p .sds) (w .1) ∙ u)
+        (λ w. used-alike (set (s .sdss) (new-sds-number s) n) (s .sdss) (p .sds) (w .1) ∙ u)
         (written (s .sdss) (new-sds-number s) n [] inside (p .sds))

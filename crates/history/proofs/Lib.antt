@@ -6,3 +6,4 @@ pub mod PutAll
 pub mod EndChanges
 pub mod SdsChanges
 pub mod Theorems
+pub mod Removals

@@ -1,0 +1,434 @@
+-- Remove type keeps a schema good. Assumes nothing.
+use Prim.Native.Nat.{ℕ}
+use native.Mathlib.Omega.{arith}
+use mathlib.Core.Path.{_≡_, refl, sym, subst, ap, _∙_}
+use mathlib.Core.Logic.{_⊎_, inl, inr, ⊎-elim}
+use mathlib.Core.List.{List, [], _∷_, List·Memᴰ·not-nil, List·Memᴰ·cases-cons, List·Memᴰ·eq-of-singleton}
+use mathlib.Core.List.List·Memᴰ.{List·Memᴰ·head, List·Memᴰ·tail}
+use mathlib.Core.Bool.{Bool, true, false, cond, _&&_, _||_, true≢false, false≢true}
+use lib.Dec.{leb, eqb}
+use lib.ListN.{length, length-set, getD, set, List·getD-eq-default}
+use lib.Seq.{getD-set-same, getD-set-other, set-out}
+use borrow.Author.Tests.{eqb-true, eqb-false, eq-eqb, leb-true, leb-false}
+use Rattle.rules.specs.01-Lists.{_∈_, any, among, without}
+use Rattle.rules.specs.03-Names.{Name}
+use Rattle.rules.specs.04-Schema.{Schema, Kind, Presence, Application, End, system-presence, kind-of, is-used, is-object, is-attribute, is-link}
+use Rattle.rules.specs.04-Schema.{parents, parents-in, is-parent, reverse, reverse-in, with-reverse, present, holds-type, type-named, presence-before}
+use Rattle.rules.specs.04-Schema.Kind.{unused, object, attribute, designation, paired}
+use Rattle.rules.specs.05-Descent.{Parent}
+use Rattle.rules.specs.06-Good.{Good}
+use Rattle.rules.specs.09-Refusals.{system-sds, has-child, in-application, in-end, still-used}
+use Rattle.rules.specs.09-Refusals.Outcome.{done}
+use Rattle.rules.specs.10-Changes.{with-types, with-presences, less-gone, remove-type, remove-type-refusals}
+use Rattle.rules.specs.13-History.{next}
+use Rattle.rules.proofs.Bools.{or-left, or-right, or-neither, and-both, and-of}
+use Rattle.rules.proofs.01-Lists.{any-at, any-where}
+use Rattle.rules.proofs.05-Descent.{child-object}
+use Rattle.rules.proofs.Edits.{without-in, without-keeps}
+use Rattle.rules.proofs.09-Refusals.{verdict-keeps}
+use Rattle.history.proofs.Carried.{descends-over, without-long}
+use Rattle.history.proofs.Parts.{of-types, of-presences, Types, Presences, Applications, Ends, Parts, object-used, parts-of, whole}
+use Rattle.history.proofs.Orders.{presence-order, without-rises}
+
+-- ---- lists
+
+pub among-in : (l : List ℕ) (n : ℕ) → among l n ≡ true → n ∈ l
+among-in l n e = let (x, i, h) = any-where (eqb n) l e in subst (λ (y : ℕ). y ∈ l) (sym (eqb-true n x h)) i
+
+pub in-among : {l : List ℕ} {n : ℕ} → n ∈ l → among l n ≡ true
+in-among {l} {n} i = any-at (eqb n) i (eq-eqb n n refl)
+
+-- where none passes this one does not
+pub none-at : {A : Type 0} (p : A → Bool) {x : A} {l : List A} → any p l ≡ false → x ∈ l → p x ≡ true → ⊥
+none-at p e i h = true≢false (sym (any-at p i h) ∙ e)
+
+-- ---- presences
+
+module _ {ps : List Presence} where
+  pub held : {p : Presence} → p ∈ ps → present (of-presences ps) (p .sds) (p .type) ≡ true
+  unfolding present
+  held {p} i =
+      any-at (holds-type (p .sds) (p .type)) i
+      (and-of (eqb (p .sds) (p .sds)) (eqb (p .type) (p .type)) (eq-eqb (p .sds) (p .sds) refl) (eq-eqb (p .type) (p .type) refl))
+
+  pub holder : (d t : ℕ) → present (of-presences ps) d t ≡ true → (p : Presence) × (p ∈ ps) × (p .sds ≡ d) × (p .type ≡ t)
+  unfolding present
+  holder d t e =
+      let (p, i, h) = any-where (holds-type d t) ps e in
+      let (a, b) = and-both (eqb (p .sds) d) (eqb (p .type) t) h in
+      (p, i, eqb-true (p .sds) d a, eqb-true (p .type) t b)
+
+-- ---- fewer presences, and of the types those alone that still have one
+
+-- with each type its parents and its reverse are present
+record Closed (ks : List Kind) (ps : List Presence) : Type 0 where
+  with-parents : (d t a : ℕ) → present (of-presences ps) d t ≡ true → Parent (of-types ks) t a → present (of-presences ps) d a ≡ true
+  with-reverse : (d t c r : ℕ) → present (of-presences ps) d t ≡ true → kind-of (of-types ks) t ≡ paired c r → present (of-presences ps) d r ≡ true
+
+-- what is present is what it was, and what is not is unused
+record Left (ks ks′ : List Kind) (ps : List Presence) : Type 0 where
+  long : length ks′ ≡ length ks
+  stays : (d t : ℕ) → present (of-presences ps) d t ≡ true → kind-of (of-types ks′) t ≡ kind-of (of-types ks) t
+  found : (t : ℕ) → is-used (kind-of (of-types ks′) t) ≡ true → (d : ℕ) × (present (of-presences ps) d t ≡ true)
+
+module _ {ks ks′ : List Kind} {ps : List Presence} (closed : Closed ks ps) (left : Left ks ks′ ps) where
+  was : (t : ℕ) (k : Kind) → is-used k ≡ true → kind-of (of-types ks′) t ≡ k → kind-of (of-types ks) t ≡ k
+  was t k u e = let (d, h) = left .found t (ap is-used e ∙ u) in sym (left .stays d t h) ∙ e
+
+  parent-used : (t a : ℕ) → Parent (of-types ks′) t a → is-used (kind-of (of-types ks′) t) ≡ true
+  parent-used t a by = object-used (kind-of (of-types ks′) t) (child-object by)
+
+  parent-was : (t a : ℕ) → Parent (of-types ks′) t a → Parent (of-types ks) t a
+  unfolding parents
+  parent-was t a by =
+      let (d, h) = left .found t (parent-used t a by) in
+      record { listed = subst (λ (k : Kind). a ∈ parents-in k) (left .stays d t h) (by .listed) }
+
+  -- a parent, and a reverse, of a type that is left is left
+  parent-left : (t a : ℕ) → Parent (of-types ks′) t a → kind-of (of-types ks′) a ≡ kind-of (of-types ks) a
+  parent-left t a by =
+      let (d, h) = left .found t (parent-used t a by) in
+      left .stays d a (closed .with-parents d t a h (parent-was t a by))
+
+  reverse-left : (t c r : ℕ) → kind-of (of-types ks′) t ≡ paired c r → kind-of (of-types ks′) r ≡ kind-of (of-types ks) r
+  reverse-left t c r e =
+      let (d, h) = left .found t (ap is-used e) in
+      left .stays d r (closed .with-reverse d t c r h (was t (paired c r) refl e))
+
+  types-left : system-presence ∈ ps → Types ks → Types ks′
+  types-left system g = record {
+    room = left .long ∙ g .room;
+    few = λ t l e. g .few t l (was t (object l) refl e);
+    rises = λ t l e. g .rises t l (was t (object l) refl e);
+    objects = λ t a by. ap is-object (parent-left t a by) ∙ g .objects t a (parent-was t a by);
+    root = left .stays 0 0 (held system) ∙ g .root;
+    only-root = λ t e. g .only-root t (was t (object []) refl e);
+    value-kinds = λ t v e. g .value-kinds t v (was t (attribute v) refl e);
+    categories = λ t c r e. g .categories t c r (was t (paired c r) refl e);
+    different = λ t c r e. g .different t c r (was t (paired c r) refl e);
+    in-turn = λ t c r e. let (c′, h) = g .in-turn t c r (was t (paired c r) refl e) in (c′, reverse-left t c r e ∙ h);
+    not-both = λ t r e h. g .not-both t r (was t (paired 3 r) refl e) (was r (paired 3 t) refl h);
+    acyclic = λ t d. g .acyclic t (descends-over parent-was d);
+  }
+
+  applications-left : {xs : List Application} {ps₀ : List Presence}
+      → ((x : Application) → x ∈ xs → (present (of-presences ps) (x .sds) (x .to) ≡ true) × (present (of-presences ps) (x .sds) (x .attribute) ≡ true))
+      → Applications ks ps₀ xs → Applications ks′ ps xs
+  applications-left both g = record {
+    room = g .room;
+    of-attribute = λ x i. ap is-attribute (left .stays (x .sds) (x .attribute) (both x i .1)) ∙ g .of-attribute x i;
+    to-either = λ x i. ap (λ (k : Kind). is-object k || is-link k) (left .stays (x .sds) (x .to) (both x i .0)) ∙ g .to-either x i;
+    there = λ x i. and-of (present (of-presences ps) (x .sds) (x .to)) (present (of-presences ps) (x .sds) (x .attribute)) (both x i .0) (both x i .1);
+    outside = g .outside;
+    rises = g .rises;
+  }
+
+  ends-left : {es : List End} {ps₀ : List Presence}
+      → ((e : End) → e ∈ es → (present (of-presences ps) (e .sds) (e .link) ≡ true) × (present (of-presences ps) (e .sds) (e .object) ≡ true))
+      → Ends ks ps₀ es → Ends ks′ ps es
+  ends-left both g = record {
+    room = g .room;
+    of-link = λ e i. ap is-link (left .stays (e .sds) (e .link) (both e i .0)) ∙ g .of-link e i;
+    at-object = λ e i. ap is-object (left .stays (e .sds) (e .object) (both e i .1)) ∙ g .at-object e i;
+    there = λ e i. and-of (present (of-presences ps) (e .sds) (e .link)) (present (of-presences ps) (e .sds) (e .object)) (both e i .0) (both e i .1);
+    outside = g .outside;
+    rises = g .rises;
+    mirrored = λ e i c r k. g .mirrored e i c r (was (e .link) (paired c r) refl k);
+  }
+
+presences-left : {ns : List Name} {ks ks′ : List Kind} (q : Presence → Bool) {ps : List Presence} → Closed ks (without q ps) → Left ks ks′ (without q ps)
+    → q system-presence ≡ false → Presences ns ks ps → Presences ns ks′ (without q ps)
+presences-left {ks = ks} q {ps} closed left stays g = record {
+  room = omega (arith, without-long q ps, g .room);
+  of-used = λ p i. ap is-used (left .stays (p .sds) (p .type) (held i)) ∙ g .of-used p (without-in q ps i .0);
+  in-used = λ p i. g .in-used p (without-in q ps i .0);
+  named = λ p i. g .named p (without-in q ps i .0);
+  unique = λ p o i j. g .unique p o (without-in q ps i .0) (without-in q ps j .0);
+  one = λ p o i j. g .one p o (without-in q ps i .0) (without-in q ps j .0);
+  system = without-keeps q ps (g .system) stays;
+  system-alone = λ p i. g .system-alone p (without-in q ps i .0);
+  rises = without-rises presence-order q ps (g .rises);
+  somewhere = left .found;
+  with-parents = λ d t a e by. closed .with-parents d t a e (parent-was closed left t a by);
+  with-reverse = λ d t c r e h. closed .with-reverse d t c r e (was closed left t (paired c r) refl h);
+}
+
+-- ---- the types that are gone
+
+-- type t has a presence
+abbrev has-presence : List Presence → ℕ → Bool
+has-presence ps t = any (λ p. eqb (p .type) t) ps
+
+-- nothing but the types changes
+gone-is : (ts : List ℕ) (s : Schema) → less-gone ts s ≡ with-types s ((less-gone ts s) .types)
+unfolding less-gone
+gone-is [] s = refl
+gone-is (t ∷ ts) s = go (has-presence (s .presences) t) (gone-is ts s) (gone-is ts (with-types s (set (s .types) t unused)))
+  where
+    go : (b : Bool) → less-gone ts s ≡ with-types s ((less-gone ts s) .types)
+        → less-gone ts (with-types s (set (s .types) t unused)) ≡ with-types s ((less-gone ts (with-types s (set (s .types) t unused))) .types)
+        → less-gone ts (cond b s (with-types s (set (s .types) t unused)))
+        ≡ with-types s ((less-gone ts (cond b s (with-types s (set (s .types) t unused)))) .types)
+    go true h k = h
+    go false h k = k
+
+gone-long : (ts : List ℕ) (s : Schema) → length ((less-gone ts s) .types) ≡ length (s .types)
+unfolding less-gone
+gone-long [] s = refl
+gone-long (t ∷ ts) s = go (has-presence (s .presences) t) (gone-long ts s) (gone-long ts (with-types s (set (s .types) t unused)))
+  where
+    go : (b : Bool) → length ((less-gone ts s) .types) ≡ length (s .types)
+        → length ((less-gone ts (with-types s (set (s .types) t unused))) .types) ≡ length (set (s .types) t unused)
+        → length ((less-gone ts (cond b s (with-types s (set (s .types) t unused)))) .types) ≡ length (s .types)
+    go true h k = h
+    go false h k = k ∙ length-set (s .types) t unused
+
+-- a type that is made unused is unused, whatever its number
+set-unused : (ks : List Kind) (t : ℕ) → getD (set ks t unused) t unused ≡ unused
+set-unused ks t = go (leb (length ks) t) refl
+  where
+    go : (b : Bool) → leb (length ks) t ≡ b → getD (set ks t unused) t unused ≡ unused
+    go true e = rw (set-out ks t unused (leb-true (length ks) t e)) (List·getD-eq-default ks unused (leb-true (length ks) t e))
+    go false e = getD-set-same ks t unused unused (leb-false (length ks) t e)
+
+-- what is unused stays so
+still-unused : (ks : List Kind) (t u : ℕ) → getD ks u unused ≡ unused → getD (set ks t unused) u unused ≡ unused
+still-unused ks t u e = go (eqb u t) refl
+  where
+    go : (b : Bool) → eqb u t ≡ b → getD (set ks t unused) u unused ≡ unused
+    go true h = rw (eqb-true u t h) (set-unused ks t)
+    go false h = getD-set-other ks t u unused unused (eqb-false u t h) ∙ e
+
+module _ (u : ℕ) where
+  gone-unused : (ts : List ℕ) (s : Schema) → kind-of s u ≡ unused → kind-of (less-gone ts s) u ≡ unused
+  unfolding less-gone
+  gone-unused [] s e = e
+  gone-unused (t ∷ ts) s e =
+      go (has-presence (s .presences) t) (gone-unused ts s e)
+      (gone-unused ts (with-types s (set (s .types) t unused)) (still-unused (s .types) t u e))
+    where
+      go : (b : Bool) → kind-of (less-gone ts s) u ≡ unused → kind-of (less-gone ts (with-types s (set (s .types) t unused))) u ≡ unused
+          → kind-of (less-gone ts (cond b s (with-types s (set (s .types) t unused)))) u ≡ unused
+      go true h k = h
+      go false h k = k
+
+  -- a type with a presence stays what it is
+  gone-stays : (ts : List ℕ) (s : Schema) → has-presence (s .presences) u ≡ true → kind-of (less-gone ts s) u ≡ kind-of s u
+  unfolding less-gone
+  gone-stays [] s e = refl
+  gone-stays (t ∷ ts) s e =
+      go (has-presence (s .presences) t) refl (gone-stays ts s e) (gone-stays ts (with-types s (set (s .types) t unused)) e)
+    where
+      go : (b : Bool) → has-presence (s .presences) t ≡ b → kind-of (less-gone ts s) u ≡ kind-of s u
+          → kind-of (less-gone ts (with-types s (set (s .types) t unused))) u ≡ kind-of (with-types s (set (s .types) t unused)) u
+          → kind-of (less-gone ts (cond b s (with-types s (set (s .types) t unused)))) u ≡ kind-of s u
+      go true q h k = h
+      go false q h k = k ∙ getD-set-other (s .types) t u unused unused (λ same. true≢false (sym e ∙ ap (has-presence (s .presences)) same ∙ q))
+
+  -- one without is gone
+  gone-goes : (ts : List ℕ) (s : Schema) → u ∈ ts → has-presence (s .presences) u ≡ false → kind-of (less-gone ts s) u ≡ unused
+  unfolding less-gone
+  gone-goes [] s i e = absurd (List·Memᴰ·not-nil i)
+  gone-goes (t ∷ ts) s i e = ⊎-elim here (λ j. there (has-presence (s .presences) t) (gone-goes ts s j e) (gone-goes ts s₁ j e)) (List·Memᴰ·cases-cons i)
+    where
+      s₁ : Schema
+      s₁ = with-types s (set (s .types) t unused)
+
+      here : u ≡ t → kind-of (less-gone ts (cond (has-presence (s .presences) t) s s₁)) u ≡ unused
+      here same = rw (sym (ap (has-presence (s .presences)) same) ∙ e) (gone-unused ts s₁ (rw same (set-unused (s .types) t)))
+
+      there : (b : Bool) → kind-of (less-gone ts s) u ≡ unused → kind-of (less-gone ts s₁) u ≡ unused → kind-of (less-gone ts (cond b s s₁)) u ≡ unused
+      there true h k = h
+      there false h k = k
+
+-- ---- what goes from an SDS
+
+-- a presence of one of the types ts in SDS d
+abbrev goes : ℕ → List ℕ → Presence → Bool
+goes d ts p = eqb (p .sds) d && among ts (p .type)
+
+never-both : (x y : Bool) → (x ≡ true → y ≡ true → ⊥) → x && y ≡ false
+never-both true true f = absurd (f refl refl)
+never-both true false f = refl
+never-both false y f = refl
+
+module _ (d : ℕ) (ts : List ℕ) (ps : List Presence) where
+  present-was : (e u : ℕ) → present (of-presences (without (goes d ts) ps)) e u ≡ true
+      → (present (of-presences ps) e u ≡ true) × (eqb e d && among ts u ≡ false)
+  present-was e u h =
+      let (p, i, same, same′) = holder e u h in
+      let (j, q) = without-in (goes d ts) ps i in
+      (rw (same, same′) at (held j), rw (same, same′) at q)
+
+  present-stays : (e u : ℕ) → present (of-presences ps) e u ≡ true → (e ≡ d → u ∈ ts → ⊥) → present (of-presences (without (goes d ts) ps)) e u ≡ true
+  present-stays e u h n =
+      let (p, i, same, same′) = holder e u h in
+      let out : goes d ts p ≡ false
+      = never-both (eqb (p .sds) d) (among ts (p .type)) (λ a b. n (sym same ∙ eqb-true (p .sds) d a) (rw same′ at (among-in ts (p .type) b))) in
+      rw (same, same′) at (held (without-keeps (goes d ts) ps i out))
+
+-- ---- remove type
+
+-- a type with this reverse
+has-reverse : (k : Kind) (r : ℕ) → r ∈ reverse-in k → (c : ℕ) × (k ≡ paired c r)
+has-reverse unused r i = absurd (List·Memᴰ·not-nil i)
+has-reverse (object ps) r i = absurd (List·Memᴰ·not-nil i)
+has-reverse (attribute v) r i = absurd (List·Memᴰ·not-nil i)
+has-reverse designation r i = absurd (List·Memᴰ·not-nil i)
+has-reverse (paired c q) r i = (c, ap (paired c) (sym (List·Memᴰ·eq-of-singleton i)))
+
+kind-unused : (k : Kind) → is-used k ≡ false → k ≡ unused
+kind-unused unused e = refl
+kind-unused (object ps) e = absurd (true≢false e)
+kind-unused (attribute v) e = absurd (true≢false e)
+kind-unused designation e = absurd (true≢false e)
+kind-unused (paired c r) e = absurd (true≢false e)
+
+module _ {s : Schema} (g : Good s) (d t : ℕ) (outside : d ≡ 0 → ⊥) (free : any (still-used s d) (with-reverse s t) ≡ false) where
+  -- of a pair both are taken or neither
+  pair-closed : (u c r : ℕ) → kind-of s u ≡ paired c r → r ∈ with-reverse s t → u ∈ with-reverse s t
+  unfolding reverse
+  pair-closed u c r k i = ⊎-elim first second (List·Memᴰ·cases-cons i)
+    where
+      first : r ≡ t → u ∈ with-reverse s t
+      first same =
+          let (c′, h) = g .reverse-in-turn u c r k in
+          let own : kind-of s t ≡ paired c′ u = ap (kind-of s) (sym same) ∙ h in
+          let there : u ∈ reverse-in (kind-of s t) = rw own (List·Memᴰ·head refl) in
+          List·Memᴰ·tail there
+
+      second : r ∈ reverse-in (kind-of s t) → u ∈ with-reverse s t
+      second j =
+          let (c′, h) = has-reverse (kind-of s t) r j in
+          let (b, mine) = g .reverse-in-turn u c r k in
+          let (b′, its) = g .reverse-in-turn t c′ r h in
+          let same : paired b u ≡ paired b′ t = sym mine ∙ its in
+          let itself : u ≡ t = cc in
+          List·Memᴰ·head itself
+
+  free-of : (u : ℕ) → u ∈ with-reverse s t → (has-child s d u ≡ false) × (in-application s d u ≡ false) × (in-end s d u ≡ false)
+  unfolding still-used
+  free-of u i =
+      let (a, rest) = or-neither (has-child s d u) (in-application s d u || in-end s d u) (none (still-used s d u) refl) in
+      let (b, c) = or-neither (in-application s d u) (in-end s d u) rest in
+      (a, b, c)
+    where
+      none : (b : Bool) → still-used s d u ≡ b → still-used s d u ≡ false
+      none true e = absurd (none-at (still-used s d) free i e)
+      none false e = e
+
+  -- in SDS d no child of theirs is present, no application and no end speaks of them
+  childless : (u v : ℕ) → u ∈ with-reverse s t → present s d v ≡ true → Parent (of-types (s .types)) v u → ⊥
+  unfolding present parents is-parent has-child
+  childless u v i e by =
+      let (p, j, h) = any-where (holds-type d v) (s .presences) e in
+      let (a, b) = and-both (eqb (p .sds) d) (eqb (p .type) v) h in
+      none-at (λ q. eqb (q .sds) d && is-parent s (q .type) u) (free-of u i .0) j
+      (and-of (eqb (p .sds) d) (is-parent s (p .type) u) a (rw (eqb-true (p .type) v b) (in-among (by .listed))))
+
+  unapplied : (x : Application) → x ∈ s .applications → x .sds ≡ d → (u : ℕ) → u ∈ with-reverse s t → eqb (x .to) u || eqb (x .attribute) u ≡ true → ⊥
+  unfolding in-application
+  unapplied x j same u i e =
+      none-at (λ y. eqb (y .sds) d && (eqb (y .to) u || eqb (y .attribute) u)) (free-of u i .1) j
+      (and-of (eqb (x .sds) d) (eqb (x .to) u || eqb (x .attribute) u) (eq-eqb (x .sds) d same) e)
+
+  endless : (x : End) → x ∈ s .ends → x .sds ≡ d → (u : ℕ) → u ∈ with-reverse s t → eqb (x .link) u || eqb (x .object) u ≡ true → ⊥
+  unfolding in-end
+  endless x j same u i e =
+      none-at (λ y. eqb (y .sds) d && (eqb (y .link) u || eqb (y .object) u)) (free-of u i .2) j
+      (and-of (eqb (x .sds) d) (eqb (x .link) u || eqb (x .object) u) (eq-eqb (x .sds) d same) e)
+
+  -- the presences that are left
+  abbrev rest : List Presence
+  rest = without (goes d (with-reverse s t)) (s .presences)
+
+  -- the schema with them, and then less the types that are gone
+  abbrev without-presences : Schema
+  without-presences = with-presences s rest
+
+  abbrev left-types : List Kind
+  left-types = (less-gone (with-reverse s t) without-presences) .types
+
+  rest-closed : Closed (s .types) rest
+  unfolding present
+  rest-closed = record {
+    with-parents = λ e v a h by.
+        let (w, n) = present-was d (with-reverse s t) (s .presences) e v h in
+        present-stays d (with-reverse s t) (s .presences) e a (parts-of g .presences .with-parents e v a w by)
+        (λ same i. childless a v i (subst (λ (x : ℕ). present s x v ≡ true) same w) by);
+    with-reverse = λ e u c r h k.
+        let (w, n) = present-was d (with-reverse s t) (s .presences) e u h in
+        present-stays d (with-reverse s t) (s .presences) e r (parts-of g .presences .with-reverse e u c r w k)
+        (λ same i. true≢false (sym (and-of (eqb e d) (among (with-reverse s t) u) (eq-eqb e d same) (in-among (pair-closed u c r k i))) ∙ n));
+  }
+
+  types-rest : Left (s .types) left-types rest
+  types-rest = record {
+    long = gone-long (with-reverse s t) without-presences;
+    stays = λ e u h.
+        let (p, i, same, same′) = holder e u h in
+        gone-stays u (with-reverse s t) without-presences (any-at (λ q. eqb (q .type) u) i (eq-eqb (p .type) u same′));
+    found = λ u h. found u h (has-presence rest u) refl;
+  }
+    where
+      used : (u : ℕ) → is-used (kind-of (of-types left-types) u) ≡ true → (b : Bool) → is-used (kind-of s u) ≡ b → is-used (kind-of s u) ≡ true
+      used u h true e = e
+      used u h false e =
+          absurd (false≢true (sym (ap is-used (gone-unused u (with-reverse s t) without-presences (kind-unused (kind-of s u) e))) ∙ h))
+
+      found : (u : ℕ) → is-used (kind-of (of-types left-types) u) ≡ true → (b : Bool) → has-presence rest u ≡ b
+          → (e : ℕ) × (present (of-presences rest) e u ≡ true)
+      found u h true q =
+          let (p, i, same) = any-where (λ q. eqb (q .type) u) rest q in
+          (p .sds, subst (λ (x : ℕ). present (of-presences rest) (p .sds) x ≡ true) (eqb-true (p .type) u same) (held i))
+      found u h false q =
+          let (e, w) = parts-of g .presences .somewhere u (used u h (is-used (kind-of s u)) refl) in
+          (e, present-stays d (with-reverse s t) (s .presences) e u w (λ same i.
+          false≢true (sym (ap is-used (gone-goes u (with-reverse s t) without-presences i q)) ∙ h)))
+
+  pub removed-good : Good (less-gone (with-reverse s t) without-presences)
+  removed-good =
+      subst Good (sym (gone-is (with-reverse s t) without-presences))
+      (whole (record {
+        sdss = p .sdss;
+        types = types-left rest-closed types-rest (without-keeps (goes d (with-reverse s t)) (s .presences) (p .presences .system) system) (p .types);
+        presences = presences-left (goes d (with-reverse s t)) rest-closed types-rest system (p .presences);
+        applications = applications-left rest-closed types-rest applied (p .applications);
+        ends = ends-left rest-closed types-rest ended (p .ends);
+      }))
+    where
+      p : Parts s
+      p = parts-of g
+
+      system : goes d (with-reverse s t) system-presence ≡ false
+      system = never-both (eqb 0 d) (among (with-reverse s t) 0) (λ e _. outside (sym (eqb-true 0 d e)))
+
+      applied : (x : Application) → x ∈ s .applications → (present (of-presences rest) (x .sds) (x .to) ≡ true) × (present (of-presences rest) (x .sds) (x .attribute) ≡ true)
+      applied x i =
+          let (a, b) = and-both (present (of-presences (s .presences)) (x .sds) (x .to)) (present (of-presences (s .presences)) (x .sds) (x .attribute))
+          (p .applications .there x i) in
+          (present-stays d (with-reverse s t) (s .presences) (x .sds) (x .to) a (λ same j.
+          unapplied x i same (x .to) j (or-left (eqb (x .to) (x .to)) (eqb (x .attribute) (x .to)) (eq-eqb (x .to) (x .to) refl))),
+          present-stays d (with-reverse s t) (s .presences) (x .sds) (x .attribute) b (λ same j.
+          unapplied x i same (x .attribute) j
+          (or-right (eqb (x .to) (x .attribute)) (eqb (x .attribute) (x .attribute)) (eq-eqb (x .attribute) (x .attribute) refl))))
+
+      ended : (x : End) → x ∈ s .ends → (present (of-presences rest) (x .sds) (x .link) ≡ true) × (present (of-presences rest) (x .sds) (x .object) ≡ true)
+      ended x i =
+          let (a, b) = and-both (present (of-presences (s .presences)) (x .sds) (x .link)) (present (of-presences (s .presences)) (x .sds) (x .object))
+          (p .ends .there x i) in
+          (present-stays d (with-reverse s t) (s .presences) (x .sds) (x .link) a (λ same j.
+          endless x i same (x .link) j (or-left (eqb (x .link) (x .link)) (eqb (x .object) (x .link)) (eq-eqb (x .link) (x .link) refl))),
+          present-stays d (with-reverse s t) (s .presences) (x .sds) (x .object) b (λ same j.
+          endless x i same (x .object) j (or-right (eqb (x .link) (x .object)) (eqb (x .object) (x .object)) (eq-eqb (x .object) (x .object) refl))))
+
+pub remove-type-keeps : (d : ℕ) (n : Name) (s : Schema) → Good s → Good (next s (remove-type d n s))
+unfolding remove-type system-sds
+remove-type-keeps d n s g =
+    verdict-keeps (λ o. Good (next s o)) (remove-type-refusals d n s)
+    (done t 0 0 (less-gone (with-reverse s t) (with-presences s (without (goes d (with-reverse s t)) (s .presences)))))
+    (λ _. g)
+    (λ passed. removed-good g d t (λ z. true≢false (sym (eq-eqb d 0 z) ∙ passed .1 .0)) (passed .1 .1 .1 .1 .0))
+  where
+    t : ℕ
+    t = type-named s d n

@@ -2,7 +2,7 @@
 use Prim.Native.Nat.{ℕ}
 use native.Mathlib.Omega.{arith}
 use mathlib.Core.Path.{_≡_, refl, sym, subst, ap, _∙_}
-use mathlib.Core.Logic.{_⊎_, inl, inr, ⊎-elim}
+use mathlib.Core.Logic.{⊎-elim}
 use mathlib.Core.List.{List, [], _∷_, List·Memᴰ·not-nil, List·Memᴰ·cases-cons, List·Memᴰ·eq-of-singleton}
 use mathlib.Core.List.List·Memᴰ.{List·Memᴰ·head, List·Memᴰ·tail}
 use mathlib.Core.Bool.{Bool, true, false, cond, _&&_, _||_, true≢false, false≢true}
@@ -13,7 +13,7 @@ use borrow.Author.Tests.{eqb-true, eqb-false, eq-eqb, leb-true, leb-false}
 use Rattle.rules.specs.01-Lists.{_∈_, any, among, without}
 use Rattle.rules.specs.03-Names.{Name}
 use Rattle.rules.specs.04-Schema.{Schema, Kind, Presence, Application, End, system-presence, kind-of, is-used, is-object, is-attribute, is-link}
-use Rattle.rules.specs.04-Schema.{parents, parents-in, is-parent, reverse, reverse-in, with-reverse, present, holds-type, type-named, presence-before}
+use Rattle.rules.specs.04-Schema.{parents, parents-in, is-parent, reverse, reverse-in, with-reverse, present, holds-type, type-named}
 use Rattle.rules.specs.04-Schema.Kind.{unused, object, attribute, designation, paired}
 use Rattle.rules.specs.05-Descent.{Parent}
 use Rattle.rules.specs.06-Good.{Good}
@@ -163,25 +163,33 @@ has-presence ps t = any (λ p. eqb (p .type) t) ps
 gone-is : (ts : List ℕ) (s : Schema) → less-gone ts s ≡ with-types s ((less-gone ts s) .types)
 unfolding less-gone
 gone-is [] s = refl
-gone-is (t ∷ ts) s = go (has-presence (s .presences) t) (gone-is ts s) (gone-is ts (with-types s (set (s .types) t unused)))
+gone-is (t ∷ ts) s = go (has-presence (s .presences) t) (gone-is ts s) (gone-is ts s₁)
   where
-    go : (b : Bool) → less-gone ts s ≡ with-types s ((less-gone ts s) .types)
-        → less-gone ts (with-types s (set (s .types) t unused)) ≡ with-types s ((less-gone ts (with-types s (set (s .types) t unused))) .types)
-        → less-gone ts (cond b s (with-types s (set (s .types) t unused)))
-        ≡ with-types s ((less-gone ts (cond b s (with-types s (set (s .types) t unused)))) .types)
+    s₁ : Schema
+    s₁ = with-types s (set (s .types) t unused)
+
+    go : (b : Bool) → less-gone ts s ≡ with-types s ((less-gone ts s) .types) → less-gone ts s₁ ≡ with-types s₁ ((less-gone ts s₁) .types)
+        → less-gone ts (cond b s s₁) ≡ with-types s ((less-gone ts (cond b s s₁)) .types)
     go true h k = h
     go false h k = k
 
-gone-long : (ts : List ℕ) (s : Schema) → length ((less-gone ts s) .types) ≡ length (s .types)
+-- what a type without presence leaves true when it is made unused stays true
+gone-keeps : (P : List Kind → Type 0) (ts : List ℕ) (s : Schema)
+    → ((ks : List Kind) (t : ℕ) → has-presence (s .presences) t ≡ false → P ks → P (set ks t unused)) → P (s .types) → P ((less-gone ts s) .types)
 unfolding less-gone
-gone-long [] s = refl
-gone-long (t ∷ ts) s = go (has-presence (s .presences) t) (gone-long ts s) (gone-long ts (with-types s (set (s .types) t unused)))
+gone-keeps P [] s f h = h
+gone-keeps P (t ∷ ts) s f h = go (has-presence (s .presences) t) refl (gone-keeps P ts s f h) (gone-keeps P ts s₁ f)
   where
-    go : (b : Bool) → length ((less-gone ts s) .types) ≡ length (s .types)
-        → length ((less-gone ts (with-types s (set (s .types) t unused))) .types) ≡ length (set (s .types) t unused)
-        → length ((less-gone ts (cond b s (with-types s (set (s .types) t unused)))) .types) ≡ length (s .types)
-    go true h k = h
-    go false h k = k ∙ length-set (s .types) t unused
+    s₁ : Schema
+    s₁ = with-types s (set (s .types) t unused)
+
+    go : (b : Bool) → has-presence (s .presences) t ≡ b → P ((less-gone ts s) .types) → (P (s₁ .types) → P ((less-gone ts s₁) .types))
+        → P ((less-gone ts (cond b s s₁)) .types)
+    go true q k l = k
+    go false q k l = l (f (s .types) t q h)
+
+gone-long : (ts : List ℕ) (s : Schema) → length ((less-gone ts s) .types) ≡ length (s .types)
+gone-long ts s = gone-keeps (λ ks. length ks ≡ length (s .types)) ts s (λ ks t _ h. length-set ks t unused ∙ h) refl
 
 -- a type that is made unused is unused, whatever its number
 set-unused : (ks : List Kind) (t : ℕ) → getD (set ks t unused) t unused ≡ unused
@@ -201,29 +209,14 @@ still-unused ks t u e = go (eqb u t) refl
 
 module _ (u : ℕ) where
   gone-unused : (ts : List ℕ) (s : Schema) → kind-of s u ≡ unused → kind-of (less-gone ts s) u ≡ unused
-  unfolding less-gone
-  gone-unused [] s e = e
-  gone-unused (t ∷ ts) s e =
-      go (has-presence (s .presences) t) (gone-unused ts s e)
-      (gone-unused ts (with-types s (set (s .types) t unused)) (still-unused (s .types) t u e))
-    where
-      go : (b : Bool) → kind-of (less-gone ts s) u ≡ unused → kind-of (less-gone ts (with-types s (set (s .types) t unused))) u ≡ unused
-          → kind-of (less-gone ts (cond b s (with-types s (set (s .types) t unused)))) u ≡ unused
-      go true h k = h
-      go false h k = k
+  gone-unused ts s = gone-keeps (λ ks. getD ks u unused ≡ unused) ts s (λ ks t _. still-unused ks t u)
 
   -- a type with a presence stays what it is
   gone-stays : (ts : List ℕ) (s : Schema) → has-presence (s .presences) u ≡ true → kind-of (less-gone ts s) u ≡ kind-of s u
-  unfolding less-gone
-  gone-stays [] s e = refl
-  gone-stays (t ∷ ts) s e =
-      go (has-presence (s .presences) t) refl (gone-stays ts s e) (gone-stays ts (with-types s (set (s .types) t unused)) e)
-    where
-      go : (b : Bool) → has-presence (s .presences) t ≡ b → kind-of (less-gone ts s) u ≡ kind-of s u
-          → kind-of (less-gone ts (with-types s (set (s .types) t unused))) u ≡ kind-of (with-types s (set (s .types) t unused)) u
-          → kind-of (less-gone ts (cond b s (with-types s (set (s .types) t unused)))) u ≡ kind-of s u
-      go true q h k = h
-      go false q h k = k ∙ getD-set-other (s .types) t u unused unused (λ same. true≢false (sym e ∙ ap (has-presence (s .presences)) same ∙ q))
+  gone-stays ts s e =
+      gone-keeps (λ ks. getD ks u unused ≡ kind-of s u) ts s
+      (λ ks t q h. getD-set-other ks t u unused unused (λ same. true≢false (sym e ∙ ap (has-presence (s .presences)) same ∙ q)) ∙ h)
+      refl
 
   -- one without is gone
   gone-goes : (ts : List ℕ) (s : Schema) → u ∈ ts → has-presence (s .presences) u ≡ false → kind-of (less-gone ts s) u ≡ unused
@@ -253,12 +246,12 @@ never-both true false f = refl
 never-both false y f = refl
 
 module _ (d : ℕ) (ts : List ℕ) (ps : List Presence) where
-  present-was : (e u : ℕ) → present (of-presences (without (goes d ts) ps)) e u ≡ true
-      → (present (of-presences ps) e u ≡ true) × (eqb e d && among ts u ≡ false)
+  present-was : (e u : ℕ) → present (of-presences (without (goes d ts) ps)) e u ≡ true → (present (of-presences ps) e u ≡ true) × (e ≡ d → u ∈ ts → ⊥)
   present-was e u h =
       let (p, i, same, same′) = holder e u h in
       let (j, q) = without-in (goes d ts) ps i in
-      (rw (same, same′) at (held j), rw (same, same′) at q)
+      let q′ : eqb e d && among ts u ≡ false = rw (same, same′) at q in
+      (rw (same, same′) at (held j), λ a m. true≢false (sym (and-of (eqb e d) (among ts u) (eq-eqb e d a) (in-among m)) ∙ q′))
 
   present-stays : (e u : ℕ) → present (of-presences ps) e u ≡ true → (e ≡ d → u ∈ ts → ⊥) → present (of-presences (without (goes d ts) ps)) e u ≡ true
   present-stays e u h n =
@@ -326,69 +319,80 @@ module _ {s : Schema} (g : Good s) (d t : ℕ) (outside : d ≡ 0 → ⊥) (free
       none-at (λ q. eqb (q .sds) d && is-parent s (q .type) u) (free-of u i .0) j
       (and-of (eqb (p .sds) d) (is-parent s (p .type) u) a (rw (eqb-true (p .type) v b) (in-among (by .listed))))
 
-  unapplied : (x : Application) → x ∈ s .applications → x .sds ≡ d → (u : ℕ) → u ∈ with-reverse s t → eqb (x .to) u || eqb (x .attribute) u ≡ true → ⊥
+  unapplied : (x : Application) → x ∈ s .applications
+      → (x .sds ≡ d → x .to ∈ with-reverse s t → ⊥) × (x .sds ≡ d → x .attribute ∈ with-reverse s t → ⊥)
   unfolding in-application
-  unapplied x j same u i e =
-      none-at (λ y. eqb (y .sds) d && (eqb (y .to) u || eqb (y .attribute) u)) (free-of u i .1) j
-      (and-of (eqb (x .sds) d) (eqb (x .to) u || eqb (x .attribute) u) (eq-eqb (x .sds) d same) e)
+  unapplied x j = (
+    λ same i. speaks same (x .to) i (or-left (eqb (x .to) (x .to)) (eqb (x .attribute) (x .to)) (eq-eqb (x .to) (x .to) refl)),
+    λ same i. speaks same (x .attribute) i
+        (or-right (eqb (x .to) (x .attribute)) (eqb (x .attribute) (x .attribute)) (eq-eqb (x .attribute) (x .attribute) refl)),
+  )
+    where
+      speaks : x .sds ≡ d → (u : ℕ) → u ∈ with-reverse s t → eqb (x .to) u || eqb (x .attribute) u ≡ true → ⊥
+      speaks same u i e =
+          none-at (λ y. eqb (y .sds) d && (eqb (y .to) u || eqb (y .attribute) u)) (free-of u i .1) j
+          (and-of (eqb (x .sds) d) (eqb (x .to) u || eqb (x .attribute) u) (eq-eqb (x .sds) d same) e)
 
-  endless : (x : End) → x ∈ s .ends → x .sds ≡ d → (u : ℕ) → u ∈ with-reverse s t → eqb (x .link) u || eqb (x .object) u ≡ true → ⊥
+  endless : (x : End) → x ∈ s .ends → (x .sds ≡ d → x .link ∈ with-reverse s t → ⊥) × (x .sds ≡ d → x .object ∈ with-reverse s t → ⊥)
   unfolding in-end
-  endless x j same u i e =
-      none-at (λ y. eqb (y .sds) d && (eqb (y .link) u || eqb (y .object) u)) (free-of u i .2) j
-      (and-of (eqb (x .sds) d) (eqb (x .link) u || eqb (x .object) u) (eq-eqb (x .sds) d same) e)
+  endless x j = (
+    λ same i. speaks same (x .link) i (or-left (eqb (x .link) (x .link)) (eqb (x .object) (x .link)) (eq-eqb (x .link) (x .link) refl)),
+    λ same i. speaks same (x .object) i (or-right (eqb (x .link) (x .object)) (eqb (x .object) (x .object)) (eq-eqb (x .object) (x .object) refl)),
+  )
+    where
+      speaks : x .sds ≡ d → (u : ℕ) → u ∈ with-reverse s t → eqb (x .link) u || eqb (x .object) u ≡ true → ⊥
+      speaks same u i e =
+          none-at (λ y. eqb (y .sds) d && (eqb (y .link) u || eqb (y .object) u)) (free-of u i .2) j
+          (and-of (eqb (x .sds) d) (eqb (x .link) u || eqb (x .object) u) (eq-eqb (x .sds) d same) e)
 
-  -- the presences that are left
+  -- the presences that are left, and the types
   abbrev rest : List Presence
   rest = without (goes d (with-reverse s t)) (s .presences)
 
-  -- the schema with them, and then less the types that are gone
-  abbrev without-presences : Schema
-  without-presences = with-presences s rest
+  abbrev left : Schema
+  left = less-gone (with-reverse s t) (with-presences s rest)
 
-  abbrev left-types : List Kind
-  left-types = (less-gone (with-reverse s t) without-presences) .types
+  stays-present : (e u : ℕ) → present (of-presences (s .presences)) e u ≡ true → (e ≡ d → u ∈ with-reverse s t → ⊥) → present (of-presences rest) e u ≡ true
+  stays-present = present-stays d (with-reverse s t) (s .presences)
 
   rest-closed : Closed (s .types) rest
   unfolding present
   rest-closed = record {
     with-parents = λ e v a h by.
         let (w, n) = present-was d (with-reverse s t) (s .presences) e v h in
-        present-stays d (with-reverse s t) (s .presences) e a (parts-of g .presences .with-parents e v a w by)
+        stays-present e a (parts-of g .presences .with-parents e v a w by)
         (λ same i. childless a v i (subst (λ (x : ℕ). present s x v ≡ true) same w) by);
     with-reverse = λ e u c r h k.
         let (w, n) = present-was d (with-reverse s t) (s .presences) e u h in
-        present-stays d (with-reverse s t) (s .presences) e r (parts-of g .presences .with-reverse e u c r w k)
-        (λ same i. true≢false (sym (and-of (eqb e d) (among (with-reverse s t) u) (eq-eqb e d same) (in-among (pair-closed u c r k i))) ∙ n));
+        stays-present e r (parts-of g .presences .with-reverse e u c r w k) (λ same i. n same (pair-closed u c r k i));
   }
 
-  types-rest : Left (s .types) left-types rest
+  types-rest : Left (s .types) (left .types) rest
   types-rest = record {
-    long = gone-long (with-reverse s t) without-presences;
+    long = gone-long (with-reverse s t) (with-presences s rest);
     stays = λ e u h.
         let (p, i, same, same′) = holder e u h in
-        gone-stays u (with-reverse s t) without-presences (any-at (λ q. eqb (q .type) u) i (eq-eqb (p .type) u same′));
+        gone-stays u (with-reverse s t) (with-presences s rest) (any-at (λ q. eqb (q .type) u) i (eq-eqb (p .type) u same′));
     found = λ u h. found u h (has-presence rest u) refl;
   }
     where
-      used : (u : ℕ) → is-used (kind-of (of-types left-types) u) ≡ true → (b : Bool) → is-used (kind-of s u) ≡ b → is-used (kind-of s u) ≡ true
+      used : (u : ℕ) → is-used (kind-of left u) ≡ true → (b : Bool) → is-used (kind-of s u) ≡ b → is-used (kind-of s u) ≡ true
       used u h true e = e
       used u h false e =
-          absurd (false≢true (sym (ap is-used (gone-unused u (with-reverse s t) without-presences (kind-unused (kind-of s u) e))) ∙ h))
+          absurd (false≢true (sym (ap is-used (gone-unused u (with-reverse s t) (with-presences s rest) (kind-unused (kind-of s u) e))) ∙ h))
 
-      found : (u : ℕ) → is-used (kind-of (of-types left-types) u) ≡ true → (b : Bool) → has-presence rest u ≡ b
-          → (e : ℕ) × (present (of-presences rest) e u ≡ true)
+      found : (u : ℕ) → is-used (kind-of left u) ≡ true → (b : Bool) → has-presence rest u ≡ b → (e : ℕ) × (present (of-presences rest) e u ≡ true)
       found u h true q =
           let (p, i, same) = any-where (λ q. eqb (q .type) u) rest q in
           (p .sds, subst (λ (x : ℕ). present (of-presences rest) (p .sds) x ≡ true) (eqb-true (p .type) u same) (held i))
       found u h false q =
           let (e, w) = parts-of g .presences .somewhere u (used u h (is-used (kind-of s u)) refl) in
-          (e, present-stays d (with-reverse s t) (s .presences) e u w (λ same i.
-          false≢true (sym (ap is-used (gone-goes u (with-reverse s t) without-presences i q)) ∙ h)))
+          let never : u ∈ with-reverse s t → ⊥ = λ i. false≢true (sym (ap is-used (gone-goes u (with-reverse s t) (with-presences s rest) i q)) ∙ h) in
+          (e, stays-present e u w (λ same i. never i))
 
-  pub removed-good : Good (less-gone (with-reverse s t) without-presences)
+  removed-good : Good left
   removed-good =
-      subst Good (sym (gone-is (with-reverse s t) without-presences))
+      subst Good (sym (gone-is (with-reverse s t) (with-presences s rest)))
       (whole (record {
         sdss = p .sdss;
         types = types-left rest-closed types-rest (without-keeps (goes d (with-reverse s t)) (s .presences) (p .presences .system) system) (p .types);
@@ -403,24 +407,20 @@ module _ {s : Schema} (g : Good s) (d t : ℕ) (outside : d ≡ 0 → ⊥) (free
       system : goes d (with-reverse s t) system-presence ≡ false
       system = never-both (eqb 0 d) (among (with-reverse s t) 0) (λ e _. outside (sym (eqb-true 0 d e)))
 
-      applied : (x : Application) → x ∈ s .applications → (present (of-presences rest) (x .sds) (x .to) ≡ true) × (present (of-presences rest) (x .sds) (x .attribute) ≡ true)
+      applied : (x : Application) → x ∈ s .applications
+          → (present (of-presences rest) (x .sds) (x .to) ≡ true) × (present (of-presences rest) (x .sds) (x .attribute) ≡ true)
       applied x i =
           let (a, b) = and-both (present (of-presences (s .presences)) (x .sds) (x .to)) (present (of-presences (s .presences)) (x .sds) (x .attribute))
           (p .applications .there x i) in
-          (present-stays d (with-reverse s t) (s .presences) (x .sds) (x .to) a (λ same j.
-          unapplied x i same (x .to) j (or-left (eqb (x .to) (x .to)) (eqb (x .attribute) (x .to)) (eq-eqb (x .to) (x .to) refl))),
-          present-stays d (with-reverse s t) (s .presences) (x .sds) (x .attribute) b (λ same j.
-          unapplied x i same (x .attribute) j
-          (or-right (eqb (x .to) (x .attribute)) (eqb (x .attribute) (x .attribute)) (eq-eqb (x .attribute) (x .attribute) refl))))
+          let (to-free, attribute-free) = unapplied x i in
+          (stays-present (x .sds) (x .to) a to-free, stays-present (x .sds) (x .attribute) b attribute-free)
 
       ended : (x : End) → x ∈ s .ends → (present (of-presences rest) (x .sds) (x .link) ≡ true) × (present (of-presences rest) (x .sds) (x .object) ≡ true)
       ended x i =
           let (a, b) = and-both (present (of-presences (s .presences)) (x .sds) (x .link)) (present (of-presences (s .presences)) (x .sds) (x .object))
           (p .ends .there x i) in
-          (present-stays d (with-reverse s t) (s .presences) (x .sds) (x .link) a (λ same j.
-          endless x i same (x .link) j (or-left (eqb (x .link) (x .link)) (eqb (x .object) (x .link)) (eq-eqb (x .link) (x .link) refl))),
-          present-stays d (with-reverse s t) (s .presences) (x .sds) (x .object) b (λ same j.
-          endless x i same (x .object) j (or-right (eqb (x .link) (x .object)) (eqb (x .object) (x .object)) (eq-eqb (x .object) (x .object) refl))))
+          let (link-free, object-free) = endless x i in
+          (stays-present (x .sds) (x .link) a link-free, stays-present (x .sds) (x .object) b object-free)
 
 pub remove-type-keeps : (d : ℕ) (n : Name) (s : Schema) → Good s → Good (next s (remove-type d n s))
 unfolding remove-type system-sds

@@ -7,3 +7,5 @@ pub mod EndChanges
 pub mod SdsChanges
 pub mod Theorems
 pub mod Removals
+pub mod Rows
+pub mod Renames

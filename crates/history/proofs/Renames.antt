@@ -1,0 +1,116 @@
+-- A rename keeps a schema good: the same types are present in the same SDSs, and no other bears the new name. Assumes nothing.
+use Prim.Native.Nat.{ℕ, _≤_}
+use native.Mathlib.Omega.{arith}
+use mathlib.Core.Path.{_≡_, refl, sym, ap, _∙_}
+use mathlib.Core.List.{List, []}
+use mathlib.Core.Bool.{Bool, true, false, not, true≢false}
+use lib.Dec.{eqb}
+use lib.ListN.{length}
+use borrow.Author.Tests.{eqb-true, eq-eqb, ne-eqb}
+use Rattle.rules.specs.01-Lists.{_∈_, first, without, put}
+use Rattle.rules.specs.02-Limits.{limits}
+use Rattle.rules.specs.03-Names.{Name, same-name}
+use Rattle.rules.specs.04-Schema.{Schema, Presence, system-presence, used-sds, holds-type, holds-name, present, bears, type-named, presence-before}
+use Rattle.rules.specs.06-Good.{Good}
+use Rattle.rules.specs.09-Refusals.{unknown-sds, system-sds, malformed, borne-by-another}
+use Rattle.rules.specs.09-Refusals.Outcome.{done}
+use Rattle.rules.specs.10-Changes.{with-presences, rename, rename-refusals}
+use Rattle.rules.specs.13-History.{next}
+use Rattle.rules.proofs.Bools.{or-neither, and-both, and-of, and-rest}
+use Rattle.rules.proofs.01-Lists.{any-at, any-none}
+use Rattle.rules.proofs.03-Names.{same-name-is, same-name-refl}
+use Rattle.rules.proofs.Edits.{put-long, put-old, first-in, without-in, without-keeps}
+use Rattle.rules.proofs.09-Refusals.{verdict-keeps}
+use Rattle.history.proofs.Carried.{named-present, flipped, put-all-of}
+use Rattle.history.proofs.Parts.{of-presences, parts-of}
+use Rattle.history.proofs.Rows.{Fits, rows-of, rows-less, rows-more, presence-there, present-over, present-new, present-used}
+use Rattle.history.proofs.Rows.{presences-alike, with-still, without-fewer, known-used, aimed, formed}
+
+module _ (s : Schema) (g : Good s) (d : ℕ) (new : Name) (t : ℕ) where
+  abbrev x : Presence
+  x = record { sds = d; name = new; type = t }
+
+  -- the other presences, and these with it
+  abbrev left : List Presence
+  left = without (holds-type d t) (s .presences)
+
+  abbrev after : List Presence
+  after = put presence-before x left
+
+  -- who bears the new name is of type t
+  bearer : borne-by-another s d t new ≡ false → (q : Presence) → q ∈ s .presences → holds-name d new q ≡ true → q .type ≡ t
+  unfolding borne-by-another bears type-named
+  bearer e q i h =
+      let borne = any-at (holds-name d new) i h in
+      let p = first (holds-name d new) (record { sds = 0; name = []; type = 0 }) (s .presences) in
+      let (j, k) = first-in (holds-name d new) (record { sds = 0; name = []; type = 0 }) (s .presences) borne in
+      let (a, b) = and-both (eqb (q .sds) d) (same-name (q .name) new) h in
+      let (a′, b′) = and-both (eqb (p .sds) d) (same-name (p .name) new) k in
+      let names : q .name ≡ p .name = same-name-is (q .name) new b ∙ sym (same-name-is (p .name) new b′) in
+      let one : q ≡ p = g .local-names-unique q p i j (eqb-true (q .sds) d a ∙ sym (eqb-true (p .sds) d a′))
+      (ap (λ (m : Name). same-name m (p .name)) names ∙ same-name-refl (p .name)) in
+      ap (λ r. r .type) one ∙ eqb-true (p .type) t (flipped (eqb (p .type) t) (and-rest (bears s d new) (not (eqb (p .type) t)) borne e))
+
+  -- without it none of type t is left, nor one of the new name
+  fits : unknown-sds s d ≡ false → system-sds d ≡ false → malformed new ≡ false → present s d t ≡ true → borne-by-another s d t new ≡ false
+      → Fits (s .sdss) (s .types) left x
+  unfolding present used-sds
+  fits known outside well there another = record {
+    of-used = present-used (parts-of g .presences) d t there;
+    in-used = known-used s d known;
+    outside = aimed d outside;
+    named = formed new well;
+    free = any-none (holds-name d new) left (λ q i. other q i (holds-name d new q) refl);
+    new = any-none (holds-type d t) left (λ q i. without-in (holds-type d t) (s .presences) i .1);
+  }
+    where
+      other : (q : Presence) → q ∈ left → (b : Bool) → holds-name d new q ≡ b → holds-name d new q ≡ false
+      other q i true h =
+          let (j, out) = without-in (holds-type d t) (s .presences) i in
+          let in-d = and-both (eqb (q .sds) d) (same-name (q .name) new) h .0 in
+          absurd (true≢false (sym (and-of (eqb (q .sds) d) (eqb (q .type) t) in-d (eq-eqb (q .type) t (bearer another q j h))) ∙ out))
+      other q i false h = h
+
+  -- one out and one in
+  room : present s d t ≡ true → length after ≤ limits .presences
+  unfolding present
+  room there = omega (arith, put-long presence-before x left, without-fewer (holds-type d t) (s .presences) there, g .presence-room)
+
+  still : (e u : ℕ) → present (of-presences (s .presences)) e u ≡ true → present (of-presences after) e u ≡ true
+  still = present-over (s .presences) after (λ p i. go p i (holds-type d t p) refl)
+    where
+      go : (p : Presence) → p ∈ s .presences → (b : Bool) → holds-type d t p ≡ b → present (of-presences after) (p .sds) (p .type) ≡ true
+      go p i true h =
+          let (a, b) = and-both (eqb (p .sds) d) (eqb (p .type) t) h in
+          rw (eqb-true (p .sds) d a, eqb-true (p .type) t b) (present-new x left)
+      go p i false h = presence-there (put-old presence-before x left (without-keeps (holds-type d t) (s .presences) i h))
+
+  was : present s d t ≡ true → (e u : ℕ) → present (of-presences after) e u ≡ true → present (of-presences (s .presences)) e u ≡ true
+  unfolding present
+  was there = present-over after (s .presences) (λ p i.
+      put-all-of presence-before i (λ q. present (of-presences (s .presences)) (q .sds) (q .type) ≡ true) there
+      (λ j. presence-there (without-in (holds-type d t) (s .presences) j .0)))
+
+  renamed : unknown-sds s d ≡ false → system-sds d ≡ false → malformed new ≡ false → present s d t ≡ true → borne-by-another s d t new ≡ false
+      → Good (with-presences s after)
+  renamed known outside well there another =
+      with-still g
+      (presences-alike (parts-of g .presences)
+      (rows-more (rows-less (rows-of (parts-of g .presences)) (holds-type d t) stays) (fits known outside well there another))
+      (room there) still (was there))
+      still
+    where
+      stays : holds-type d t system-presence ≡ false
+      stays = rw (ne-eqb 0 d (λ z. aimed d outside (sym z)))
+
+pub rename-keeps : (d : ℕ) (n new : Name) (s : Schema) → Good s → Good (next s (rename d n new s))
+unfolding rename
+rename-keeps d n new s g =
+    verdict-keeps (λ o. Good (next s o)) (rename-refusals d n new s)
+    (done 0 0 0
+    (with-presences s (put presence-before (record { sds = d; name = new; type = type-named s d n })
+    (without (holds-type d (type-named s d n)) (s .presences)))))
+    (λ _. g)
+    (λ passed.
+    renamed s g d new (type-named s d n) (passed .0) (passed .1 .0) (or-neither (malformed n) (malformed new) (passed .1 .1 .0) .1)
+    (named-present s d n (passed .1 .1 .1 .0)) (passed .1 .1 .1 .1 .0))

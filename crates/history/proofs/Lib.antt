@@ -9,3 +9,4 @@ pub mod Theorems
 pub mod Removals
 pub mod Rows
 pub mod Renames
+pub mod Imports

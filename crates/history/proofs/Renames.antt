@@ -2,6 +2,7 @@
 use Prim.Native.Nat.{ℕ, _≤_}
 use native.Mathlib.Omega.{arith}
 use mathlib.Core.Path.{_≡_, refl, sym, ap, _∙_}
+use mathlib.Core.Logic.{inl}
 use mathlib.Core.List.{List, []}
 use mathlib.Core.Bool.{Bool, true, false, not, true≢false}
 use lib.Dec.{eqb}
@@ -24,7 +25,7 @@ use Rattle.rules.proofs.09-Refusals.{verdict-keeps}
 use Rattle.history.proofs.Carried.{named-present, flipped, put-all-of}
 use Rattle.history.proofs.Parts.{of-presences, parts-of}
 use Rattle.history.proofs.Rows.{Fits, rows-of, rows-less, rows-more, presence-there, present-over, present-new, present-used}
-use Rattle.history.proofs.Rows.{presences-alike, with-still, without-fewer, known-used, aimed, formed}
+use Rattle.history.proofs.Rows.{presences-grown, with-still, without-fewer, known-used, aimed, formed}
 
 module _ (s : Schema) (g : Good s) (d : ℕ) (new : Name) (t : ℕ) where
   abbrev x : Presence
@@ -85,19 +86,19 @@ module _ (s : Schema) (g : Good s) (d : ℕ) (new : Name) (t : ℕ) where
           rw (eqb-true (p .sds) d a, eqb-true (p .type) t b) (present-new x left)
       go p i false h = presence-there (put-old presence-before x left (without-keeps (holds-type d t) (s .presences) i h))
 
-  was : present s d t ≡ true → (e u : ℕ) → present (of-presences after) e u ≡ true → present (of-presences (s .presences)) e u ≡ true
+  was : present s d t ≡ true → (p : Presence) → p ∈ after → present (of-presences (s .presences)) (p .sds) (p .type) ≡ true
   unfolding present
-  was there = present-over after (s .presences) (λ p i.
+  was there p i =
       put-all-of presence-before i (λ q. present (of-presences (s .presences)) (q .sds) (q .type) ≡ true) there
-      (λ j. presence-there (without-in (holds-type d t) (s .presences) j .0)))
+      (λ j. presence-there (without-in (holds-type d t) (s .presences) j .0))
 
   renamed : unknown-sds s d ≡ false → system-sds d ≡ false → malformed new ≡ false → present s d t ≡ true → borne-by-another s d t new ≡ false
       → Good (with-presences s after)
   renamed known outside well there another =
       with-still g
-      (presences-alike (parts-of g .presences)
+      (presences-grown (parts-of g .presences)
       (rows-more (rows-less (rows-of (parts-of g .presences)) (holds-type d t) stays) (fits known outside well there another))
-      (room there) still (was there))
+      (room there) still (λ p i. inl (was there p i)))
       still
     where
       stays : holds-type d t system-presence ≡ false

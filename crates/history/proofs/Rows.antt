@@ -3,23 +3,25 @@
 use Prim.Native.Nat.{ℕ, suc, _≤_}
 use native.Mathlib.Omega.{arith}
 use mathlib.Core.Path.{_≡_, refl, sym, ap, _∙_}
-use mathlib.Core.Logic.{_⊎_, inl, inr, ⊎-elim}
+use mathlib.Core.Logic.{_⊎_, ⊎-elim}
 use mathlib.Core.List.{List, [], _∷_}
-use mathlib.Core.Bool.{Bool, true, false, not, cond, true≢false}
+use mathlib.Core.Bool.{Bool, true, false, not, cond, _||_, true≢false}
 use lib.Dec.{leb, eqb}
 use lib.ListN.{length}
 use borrow.Author.Tests.{eqb-true, eq-eqb}
 use Rattle.rules.specs.01-Lists.{_∈_, any, rising, without, put}
 use Rattle.rules.specs.02-Limits.{limits}
 use Rattle.rules.specs.03-Names.{Name, well-formed, same-name}
-use Rattle.rules.specs.04-Schema.{Schema, Kind, Presence, system-presence, used-sds, kind-of, is-used, holds-type, holds-name, present, presence-before}
+use Rattle.rules.specs.04-Schema.{Schema, Kind, Presence, system-presence, used-sds, kind-of, is-used, holds-type, holds-name, present, bears, presence-before}
+use Rattle.rules.specs.04-Schema.Kind.{paired}
+use Rattle.rules.specs.05-Descent.{Parent}
 use Rattle.rules.specs.06-Good.{Good}
-use Rattle.rules.specs.09-Refusals.{unknown-sds, system-sds, malformed}
+use Rattle.rules.specs.09-Refusals.{unknown-sds, system-sds, malformed, names-taken}
 use Rattle.rules.specs.10-Changes.{with-presences}
 use Rattle.rules.proofs.Bools.{or-neither, and-both, and-of}
 use Rattle.rules.proofs.01-Lists.{any-at, any-where}
 use Rattle.rules.proofs.03-Names.{same-name-is, same-name-refl}
-use Rattle.rules.proofs.Edits.{put-in, put-new, put-old, without-in, without-keeps}
+use Rattle.rules.proofs.Edits.{put-none, put-in, put-new, put-old, without-in, without-keeps}
 use Rattle.history.proofs.Carried.{put-all-of, without-long, flipped}
 use Rattle.history.proofs.Orders.{presence-order, put-rises, without-rises}
 use Rattle.history.proofs.Parts.{of-sdss, of-types, of-presences, Presences, parts-of, whole, applications-over, ends-over}
@@ -55,15 +57,6 @@ module _ (x : Presence) (ps : List Presence) where
   pub present-new : present (of-presences (put presence-before x ps)) (x .sds) (x .type) ≡ true
   present-new = presence-there (put-new presence-before x ps)
 
-  pub present-or : (d t : ℕ) → present (of-presences (put presence-before x ps)) d t ≡ true
-      → ((x .sds ≡ d) × (x .type ≡ t)) ⊎ (present (of-presences ps) d t ≡ true)
-  present-or d t e =
-      let (p, i, a, b) = presence-of (put presence-before x ps) d t e in
-      ⊎-elim
-      (λ h. inl (ap (λ q. q .sds) (sym h) ∙ a, ap (λ q. q .type) (sym h) ∙ b))
-      (λ j. inr (sym (λ k. present (of-presences ps) (a k) (b k)) ∙ presence-there j))
-      (put-in presence-before x ps i)
-
 -- ---- what each presence keeps for itself
 
 pub record Rows (ns : List Name) (ks : List Kind) (ps : List Presence) : Type 0 where
@@ -84,6 +77,11 @@ pub record Fits (ns : List Name) (ks : List Kind) (ps : List Presence) (x : Pres
   pub named : well-formed (x .name) ≡ true
   pub free : any (holds-name (x .sds) (x .name)) ps ≡ false
   pub new : any (holds-type (x .sds) (x .type)) ps ≡ false
+
+-- the parents and the reverse of a type are where it is
+pub record Closed (ks : List Kind) (ps : List Presence) (d t : ℕ) : Type 0 where
+  pub with-parents : (a : ℕ) → Parent (of-types ks) t a → present (of-presences ps) d a ≡ true
+  pub with-reverse : (c r : ℕ) → kind-of (of-types ks) t ≡ paired c r → present (of-presences ps) d r ≡ true
 
 module _ {ns : List Name} {ks : List Kind} {ps : List Presence} where
   pub rows-of : Presences ns ks ps → Rows ns ks ps
@@ -150,15 +148,27 @@ module _ {ns : List Name} {ks : List Kind} {ps : List Presence} where
           (λ m. ⊎-elim (λ k. absurd (second m k)) (λ l. old m l) (put-in presence-before x ps j))
           (put-in presence-before x ps i)
 
+  -- it fits still when another, of another name and type, is put in
+  pub fits-still : (x : Presence) {y : Presence} → Fits ns ks ps y → holds-name (y .sds) (y .name) x ≡ false → holds-type (y .sds) (y .type) x ≡ false
+      → Fits ns ks (put presence-before x ps) y
+  fits-still x {y} f name type = record {
+    of-used = f .of-used;
+    in-used = f .in-used;
+    outside = f .outside;
+    named = f .named;
+    free = put-none presence-before (holds-name (y .sds) (y .name)) x ps name (f .free);
+    new = put-none presence-before (holds-type (y .sds) (y .type)) x ps type (f .new);
+  }
+
   -- the type of a presence is used
   pub present-used : Presences ns ks ps → (d t : ℕ) → present (of-presences ps) d t ≡ true → is-used (kind-of (of-types ks) t) ≡ true
   present-used g d t e = let (p, i, a, b) = presence-of ps d t e in ap (λ u. is-used (kind-of (of-types ks) u)) (sym b) ∙ g .of-used p i
 
-  -- other presences of the same types in the same SDSs
-  pub presences-alike : {ps′ : List Presence} → Presences ns ks ps → Rows ns ks ps′ → length ps′ ≤ limits .presences
+  -- all are present that were, and of the others each with its parents and its reverse
+  pub presences-grown : {ps′ : List Presence} → Presences ns ks ps → Rows ns ks ps′ → length ps′ ≤ limits .presences
       → ((d t : ℕ) → present (of-presences ps) d t ≡ true → present (of-presences ps′) d t ≡ true)
-      → ((d t : ℕ) → present (of-presences ps′) d t ≡ true → present (of-presences ps) d t ≡ true) → Presences ns ks ps′
-  presences-alike g r room still was = record {
+      → ((p : Presence) → p ∈ ps′ → (present (of-presences ps) (p .sds) (p .type) ≡ true) ⊎ Closed ks ps′ (p .sds) (p .type)) → Presences ns ks ps′
+  presences-grown {ps′} g r room still each = record {
     room = room;
     of-used = r .of-used;
     in-used = r .in-used;
@@ -169,9 +179,23 @@ module _ {ns : List Name} {ks : List Kind} {ps : List Presence} where
     system-alone = r .system-alone;
     rises = r .rises;
     somewhere = λ t u. let (d, e) = g .somewhere t u in (d, still d t e);
-    with-parents = λ d t a e by. still d a (g .with-parents d t a (was d t e) by);
-    with-reverse = λ d t c r e k. still d r (g .with-reverse d t c r (was d t e) k);
+    with-parents = λ d t a e. closed d t e .with-parents a;
+    with-reverse = λ d t c r e. closed d t e .with-reverse c r;
   }
+    where
+      at : (p : Presence) → p ∈ ps′ → (d t : ℕ) → p .sds ≡ d → p .type ≡ t → Closed ks ps′ d t
+      at p i d t a b =
+          rw (sym a, sym b)
+          (⊎-elim
+          (λ h. record {
+            with-parents = λ a by. still (p .sds) a (g .with-parents (p .sds) (p .type) a h by);
+            with-reverse = λ c r k. still (p .sds) r (g .with-reverse (p .sds) (p .type) c r h k);
+          })
+          (λ h. h)
+          (each p i))
+
+      closed : (d t : ℕ) → present (of-presences ps′) d t ≡ true → Closed ks ps′ d t
+      closed d t e = let (p, i, a, b) = presence-of ps′ d t e in at p i d t a b
 
 -- a good schema with its presences changed, where all that was present still is
 pub with-still : {s : Schema} → Good s → {ps : List Presence} → Presences (s .sdss) (s .types) ps
@@ -209,3 +233,16 @@ aimed d e z = true≢false (sym (eq-eqb d 0 z) ∙ e)
 pub formed : (n : Name) → malformed n ≡ false → well-formed n ≡ true
 unfolding malformed
 formed n e = flipped (well-formed n) e
+
+pub one-free : (s : Schema) (d : ℕ) (n : Name) → names-taken s d (n ∷ []) ≡ false → bears s d n ≡ false
+unfolding names-taken any
+one-free s d n e = or-neither (bears s d n) false (or-neither (bears s d n || false) false e .0) .0
+
+-- two names that are borne by none and differ
+pub both-free : (s : Schema) (d : ℕ) (n m : Name) → names-taken s d (n ∷ m ∷ []) ≡ false
+    → (bears s d n ≡ false) × (bears s d m ≡ false) × (same-name n m ≡ false)
+unfolding names-taken any
+both-free s d n m e =
+    let (borne, same) = or-neither (bears s d n || (bears s d m || false)) ((same-name n m || false) || false) e in
+    let (first, second) = or-neither (bears s d n) (bears s d m || false) borne in
+    (first, or-neither (bears s d m) false second .0, or-neither (same-name n m) false (or-neither (same-name n m || false) false same .0) .0)

@@ -36,6 +36,7 @@ alone-or-pair (attribute v) = inl refl
 alone-or-pair designation = inl refl
 alone-or-pair (paired c r) = inr (c, r, refl)
 
+-- who has no reverse is of no pair, and a pair has one reverse
 no-pair : (k : Kind) → reverse-in k ≡ [] → (c r : ℕ) → k ≡ paired c r → ⊥
 no-pair k none c r e = let z : _≡_ {A = ℕ} 0 1 = sym (ap length none) ∙ ap (λ (l : Kind). length (reverse-in l)) e in omega arith
 
@@ -168,6 +169,7 @@ module _ (s : Schema) (g : Good s) where
             (λ k. inl (presence-there k)))))
             still
 
+-- the presences that come in, in the two cases
 imported-alone : (target source t : ℕ) (new new-reverse : Name) (s : Schema) → reverse-in (kind-of s t) ≡ []
     → imported target source t new new-reverse s ≡ record { sds = target; name = filled s source t new; type = t } ∷ []
 unfolding imported reverse

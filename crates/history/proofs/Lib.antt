@@ -10,3 +10,5 @@ pub mod Removals
 pub mod Rows
 pub mod Renames
 pub mod Imports
+pub mod RowMore
+pub mod Grown

@@ -2,7 +2,7 @@
 -- its reverse. What was there stays, so it is good. Assumes nothing.
 use Prim.Native.Nat.{ℕ, _≤_}
 use mathlib.Core.Path.{_≡_, refl, sym, ap, _∙_, subst}
-use mathlib.Core.Logic.{_⊎_, ⊎-elim}
+use mathlib.Core.Logic.{_⊎_, inl, inr, ⊎-elim}
 use mathlib.Core.List.{List, [], List·Memᴰ·not-nil}
 use mathlib.Core.Bool.{Bool, true, false, true≢false, false≢true}
 use lib.Dec.{ltb, eqb}
@@ -76,3 +76,136 @@ pub record Grown (ks ks′ : List Kind) (ps ps′ : List Presence) (d : ℕ) : T
   pub old-rows : (p : Presence) → p ∈ ps → p ∈ ps′
   -- a row that was not there is in that SDS, and of a type that was not there
   pub rows : (p : Presence) → p ∈ ps′ → (p ∈ ps) ⊎ ((p .sds ≡ d) × New ks ks′ ps ps′ d (p .type))
+
+module _ (ks ks′ : List Kind) (ps ps′ : List Presence) (d : ℕ) where
+  abbrev Kind-fits : ℕ → Kind → Type 0
+  Kind-fits t k = Fits ks ks′ ps ps′ d t k
+
+  fits-used : (t : ℕ) (k : Kind) → Kind-fits t k → is-used k ≡ true
+  fits-used t unused f = absurd f
+  fits-used t (object qs) f = refl
+  fits-used t (attribute v) f = refl
+  fits-used t designation f = refl
+  fits-used t (paired c r) f = refl
+
+  -- a parent of a new type is an old object type, present there
+  fits-parent : (t : ℕ) (k : Kind) → Kind-fits t k → (a : ℕ) → a ∈ parents-in k
+      → (is-object (kind-of (of-types ks) a) ≡ true) × (present (of-presences ps) d a ≡ true)
+  fits-parent t unused f a i = absurd f
+  fits-parent t (object qs) f a i = (f .objects a i, f .there a i)
+  fits-parent t (attribute v) f a i = absurd (List·Memᴰ·not-nil i)
+  fits-parent t designation f a i = absurd (List·Memᴰ·not-nil i)
+  fits-parent t (paired c r) f a i = absurd (List·Memᴰ·not-nil i)
+
+  module _ (g : Grown ks ks′ ps ps′ d) where
+    new-fits : {t : ℕ} (k : Kind) → New ks ks′ ps ps′ d t → kind-of (of-types ks′) t ≡ k → Kind-fits t k
+    new-fits {t} k n e = subst (Kind-fits t) e (n .fits)
+
+    -- what is said of each kind holds of all where it held of the old and holds of the new
+    said : {A : Type 0} (t : ℕ) (k : Kind) → kind-of (of-types ks′) t ≡ k → (kind-of (of-types ks) t ≡ k → A) → (Kind-fits t k → A) → A
+    said t k e old new = ⊎-elim (λ h. old (sym h ∙ e)) (λ n. new (new-fits k n e)) (g .each t)
+
+    pub kept : (t : ℕ) → is-used (kind-of (of-types ks) t) ≡ true → kind-of (of-types ks′) t ≡ kind-of (of-types ks) t
+    kept t u = ⊎-elim (λ h. h) (λ n. absurd (true≢false (sym u ∙ n .was))) (g .each t)
+
+    kept-kind : (t : ℕ) (k : Kind) → is-used k ≡ true → kind-of (of-types ks) t ≡ k → kind-of (of-types ks′) t ≡ k
+    kept-kind t k u e = kept t (ap is-used e ∙ u) ∙ e
+
+    kept-used : (t : ℕ) → is-used (kind-of (of-types ks) t) ≡ true → is-used (kind-of (of-types ks′) t) ≡ true
+    kept-used t u = ap is-used (kept t u) ∙ u
+
+    -- every parent is an old object type
+    parent-old : Types ks → (t a : ℕ) → Parent (of-types ks′) t a → is-object (kind-of (of-types ks) a) ≡ true
+    unfolding parents
+    parent-old old t a p =
+        ⊎-elim
+        (λ h. old .objects t a (record { listed = subst (λ (k : Kind). a ∈ parents-in k) h (p .listed) }))
+        (λ n. fits-parent t (kind-of (of-types ks′) t) (n .fits) a (p .listed) .0)
+        (g .each t)
+
+    -- an old type has the parents that it had
+    parent-was : (t a : ℕ) → is-used (kind-of (of-types ks) t) ≡ true → Parent (of-types ks′) t a → Parent (of-types ks) t a
+    unfolding parents
+    parent-was t a u p = record { listed = subst (λ (k : Kind). a ∈ parents-in k) (kept t u) (p .listed) }
+
+    module _ (old : Types ks) where
+      old-object : {t a : ℕ} → Parent (of-types ks′) t a → is-used (kind-of (of-types ks) a) ≡ true
+      old-object {t} {a} p = object-used (kind-of (of-types ks) a) (parent-old old t a p)
+
+      -- a way up ends at an old type, and one that begins at an old type is an old way
+      descends-old : {t a : ℕ} → Descends (of-types ks′) t a → is-used (kind-of (of-types ks) a) ≡ true
+      descends-old (by-parent p) = old-object p
+      descends-old (by-step p w) = descends-old w
+
+      descends-was : {t a : ℕ} → is-used (kind-of (of-types ks) t) ≡ true → Descends (of-types ks′) t a → Descends (of-types ks) t a
+      descends-was u (by-parent {t = t} {a = a} p) = by-parent (parent-was t a u p)
+      descends-was u (by-step {t = t} {p = q} p w) = by-step (parent-was t q u p) (descends-was (old-object p) w)
+
+      pub types-grown : Types ks′
+      types-grown = record {
+        room = g .room;
+        few = λ t qs e. said t (object qs) e (old .few t qs) (λ f. f .few);
+        rises = λ t qs e. said t (object qs) e (old .rises t qs) (λ f. f .rises);
+        objects = λ t a p. let o = parent-old old t a p in ap is-object (kept a (object-used (kind-of (of-types ks) a) o)) ∙ o;
+        root = kept-kind 0 (object []) refl (old .root);
+        only-root = λ t e. said t (object []) e (old .only-root t) (λ f. absurd (f .some refl));
+        value-kinds = λ t v e. said t (attribute v) e (old .value-kinds t v) (λ f. f);
+        categories = λ t c r e. said t (paired c r) e (old .categories t c r) (λ f. f .category);
+        different = λ t c r e. said t (paired c r) e (old .different t c r) (λ f. f .different);
+        in-turn = λ t c r e. said t (paired c r) e
+            (λ h. let (c′, h′) = old .in-turn t c r h in (c′, kept-kind r (paired c′ t) refl h′))
+            (λ f. (f .back, f .in-turn));
+        not-both = λ t r e e′. said t (paired 3 r) e
+            (λ h. let (c′, h′) = old .in-turn t 3 r h in old .not-both t r h (sym (kept r (ap is-used h′)) ∙ e′))
+            (λ f. f .not-both refl (same-category (sym (f .in-turn) ∙ e′)));
+        acyclic = λ t w. old .acyclic t (descends-was (descends-old w) w);
+      }
+        where
+          same-category : {c c′ r : ℕ} → paired c r ≡ paired c′ r → c ≡ c′
+          same-category e = cc
+
+    -- ---- the presences
+
+    pub still : (e t : ℕ) → present (of-presences ps) e t ≡ true → present (of-presences ps′) e t ≡ true
+    still e t h =
+        let r = present-row ps e t h in
+        subst (λ (x : ℕ). present (of-presences ps′) e x ≡ true) (r .is-type)
+        (subst (λ (x : ℕ). present (of-presences ps′) x (r .row .type) ≡ true) (r .is-sds) (row-present ps′ (r .row) (g .old-rows (r .row) (r .is-in))))
+
+    -- a type is where it was, or is new there
+    came : (e t : ℕ) → present (of-presences ps′) e t ≡ true → (present (of-presences ps) e t ≡ true) ⊎ ((e ≡ d) × New ks ks′ ps ps′ d t)
+    came e t h = let r = present-row ps′ e t h in ⊎-elim (λ i. inl (there r i)) (λ n. inr (sym (r .is-sds) ∙ n .0, subst (New ks ks′ ps ps′ d) (r .is-type) (n .1))) (g .rows (r .row) (r .is-in))
+      where
+        there : (r : Row-of ps′ e t) → r .row ∈ ps → present (of-presences ps) e t ≡ true
+        there r i =
+            subst (λ (x : ℕ). present (of-presences ps) e x ≡ true) (r .is-type)
+            (subst (λ (x : ℕ). present (of-presences ps) x (r .row .type) ≡ true) (r .is-sds) (row-present ps (r .row) i))
+
+    pub presences-grown : {ns : List Name} → Presences ns ks ps → Rows ns ps′ → Presences ns ks′ ps′
+    unfolding parents
+    presences-grown old rs = record {
+      room = rs .room;
+      of-used = λ p i. ⊎-elim (λ j. kept-used (p .type) (old .of-used p j)) (λ n. fits-used (p .type) (kind-of (of-types ks′) (p .type)) (n .1 .fits)) (g .rows p i);
+      in-used = rs .in-used;
+      named = rs .named;
+      unique = rs .unique;
+      one = rs .one;
+      system = rs .system;
+      system-alone = rs .system-alone;
+      rises = rs .rises;
+      somewhere = λ t u. ⊎-elim (λ h. let (e, q) = old .somewhere t (ap is-used (sym h) ∙ u) in (e, still e t q)) (λ n. (d, n .there)) (g .each t);
+      with-parents = λ e t a h p. ⊎-elim
+          (λ q. still e a (old .with-parents e t a q (parent-was t a (used e t q) p)))
+          (λ n. subst (λ (x : ℕ). present (of-presences ps′) x a ≡ true) (sym (n .0))
+          (still d a (fits-parent t (kind-of (of-types ks′) t) (n .1 .fits) a (p .listed) .1)))
+          (came e t h);
+      with-reverse = λ e t c r h k. ⊎-elim
+          (λ q. still e r (old .with-reverse e t c r q (sym (kept t (used e t q)) ∙ k)))
+          (λ n. subst (λ (x : ℕ). present (of-presences ps′) x r ≡ true) (sym (n .0)) (new-fits (paired c r) (n .1) k .there))
+          (came e t h);
+    }
+      where
+        used : (e t : ℕ) → present (of-presences ps) e t ≡ true → is-used (kind-of (of-types ks) t) ≡ true
+        used e t h =
+            let r = present-row ps e t h in
+            subst (λ (x : ℕ). is-used (kind-of (of-types ks) x) ≡ true) (r .is-type) (old .of-used (r .row) (r .is-in))

@@ -4,20 +4,22 @@ use Prim.Native.Nat.{ℕ, _≤_}
 use mathlib.Core.Path.{_≡_, refl, sym, ap, _∙_, subst}
 use mathlib.Core.Logic.{_⊎_, inl, inr, ⊎-elim}
 use mathlib.Core.List.{List, [], List·Memᴰ·not-nil}
-use mathlib.Core.Bool.{Bool, true, false, true≢false, false≢true}
+use mathlib.Core.Bool.{true, false, true≢false}
 use lib.Dec.{ltb, eqb}
 use lib.ListN.{length}
 use borrow.Author.Tests.{eqb-true, eq-eqb}
-use Rattle.rules.specs.01-Lists.{_∈_, any, rising}
+use Rattle.rules.specs.01-Lists.{_∈_, rising}
 use Rattle.rules.specs.02-Limits.{limits}
 use Rattle.rules.specs.03-Names.{Name}
 use Rattle.rules.specs.04-Schema.{Schema, Kind, Presence, kind-of, is-used, is-object, parents, parents-in, holds-type, present}
 use Rattle.rules.specs.04-Schema.Kind.{unused, object, attribute, designation, paired}
 use Rattle.rules.specs.05-Descent.{Parent, Descends}
 use Rattle.rules.specs.05-Descent.Descends.{by-parent, by-step}
+use Rattle.rules.specs.06-Good.{Good}
+use Rattle.rules.specs.10-Changes.{with-types, with-presences}
 use Rattle.rules.proofs.Bools.{and-both, and-of}
 use Rattle.rules.proofs.01-Lists.{any-at, any-where}
-use Rattle.history.proofs.Parts.{of-types, of-presences, Types, Presences, object-used}
+use Rattle.history.proofs.Parts.{of-types, of-presences, Types, Presences, object-used, parts-of, whole, applications-over, ends-over}
 use Rattle.history.proofs.RowMore.{Rows}
 
 -- a type is present by a row, and by no other
@@ -209,3 +211,18 @@ module _ (ks ks′ : List Kind) (ps ps′ : List Presence) (d : ℕ) where
         used e t h =
             let r = present-row ps e t h in
             subst (λ (x : ℕ). is-used (kind-of (of-types ks) x) ≡ true) (r .is-type) (old .of-used (r .row) (r .is-in))
+
+-- nothing else speaks of types or presences but applications and ends, and theirs stay
+pub grown-good : {s : Schema} → Good s → (ks′ : List Kind) (ps′ : List Presence) (d : ℕ) → Grown (s .types) ks′ (s .presences) ps′ d → Rows (s .sdss) ps′
+    → Good (with-presences (with-types s ks′) ps′)
+grown-good {s} good ks′ ps′ d g rs =
+    let p = parts-of good in
+    let same = kept (s .types) ks′ (s .presences) ps′ d g in
+    let there = still (s .types) ks′ (s .presences) ps′ d g in
+    whole (record {
+      sdss = p .sdss;
+      types = types-grown (s .types) ks′ (s .presences) ps′ d g (p .types);
+      presences = presences-grown (s .types) ks′ (s .presences) ps′ d g (p .presences) rs;
+      applications = applications-over (s .types) ks′ (s .presences) ps′ same there (p .applications);
+      ends = ends-over (s .types) ks′ (s .presences) ps′ same there (p .ends);
+    })

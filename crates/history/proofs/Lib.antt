@@ -12,3 +12,4 @@ pub mod Renames
 pub mod Imports
 pub mod RowMore
 pub mod Grown
+pub mod NewTypes

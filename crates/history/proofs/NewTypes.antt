@@ -3,31 +3,36 @@ use Prim.Native.Nat.{ℕ, _+_, _≤_, _<_}
 use native.Mathlib.Omega.{arith}
 use mathlib.Core.Path.{_≡_, refl, sym, ap, _∙_, subst}
 use mathlib.Core.Logic.{_⊎_, inl, inr, ⊎-elim}
-use mathlib.Core.List.{List, [], _∷_}
+use mathlib.Core.List.{List, [], _∷_, map, List·Memᴰ·not-nil, List·Memᴰ·cases-cons}
+use mathlib.Core.List.List·Memᴰ.{List·Memᴰ·head, List·Memᴰ·tail}
 use mathlib.Core.Bool.{Bool, true, false, not, _||_, true≢false, false≢true}
 use lib.Dec.{leb, ltb, eqb}
-use lib.ListN.{length, getD, set, length-set}
+use lib.ListN.{length, getD, set, length-set, length-map}
 use lib.Seq.{getD-set-same, getD-set-other}
 use borrow.Author.Tests.{ltb-false, eqb-true, eqb-false, eq-eqb}
-use Rattle.rules.specs.01-Lists.{_∈_, any, put}
+use Rattle.rules.specs.01-Lists.{_∈_, any, among, repeated, rising, put}
 use Rattle.rules.specs.02-Limits.{limits}
-use Rattle.rules.specs.03-Names.{Name, well-formed, same-name}
-use Rattle.rules.specs.04-Schema.{Schema, Kind, Presence, used-sds, kind-of, is-used, present, bears, presence-before}
-use Rattle.rules.specs.04-Schema.Kind.{unused, attribute, designation}
+use Rattle.rules.specs.03-Names.{Name, well-formed, names-in}
+use Rattle.rules.specs.04-Schema.{Schema, Kind, Presence, used-sds, kind-of, is-used, is-object, present, bears}
+use Rattle.rules.specs.04-Schema.{type-named, presence-before}
+use Rattle.rules.specs.04-Schema.Kind.{unused, object, attribute, designation}
 use Rattle.rules.specs.06-Good.{Good}
-use Rattle.rules.specs.09-Refusals.{unknown-sds, system-sds, malformed, unknown-value-kind, names-taken, free-types, presences-full, types-full}
+use Rattle.rules.specs.09-Refusals.{unknown-sds, system-sds, malformed, unknown-value-kind, not-1-to-4, no-such-name, no-object}
+use Rattle.rules.specs.09-Refusals.{names-taken, free-types, presences-full, types-full}
 use Rattle.rules.specs.09-Refusals.Outcome.{done}
 use Rattle.rules.specs.10-Changes.{with-type, new-type, new-attribute, new-attribute-refusals, new-designation, new-designation-refusals}
+use Rattle.rules.specs.10-Changes.{put-all, parents-named, new-object, new-object-refusals}
 use Rattle.rules.specs.13-History.{next}
 use Rattle.rules.proofs.Bools.{or-neither}
-use Rattle.rules.proofs.01-Lists.{place-in}
-use Rattle.rules.proofs.Edits.{put-in, put-new, put-old}
+use Rattle.rules.proofs.01-Lists.{any-at, place-in}
+use Rattle.rules.proofs.Edits.{put-long, put-in, put-new, put-old}
 use Rattle.rules.proofs.05-Descent.{members-in}
 use Rattle.rules.proofs.09-Refusals.{verdict-keeps}
-use Rattle.history.proofs.Carried.{flipped}
-use Rattle.history.proofs.Parts.{of-types, of-presences, parts-of}
-use Rattle.history.proofs.RowMore.{Rows, rows-of, row-more}
-use Rattle.history.proofs.Grown.{row-present, present-row, Fits, New, Grown, grown-good}
+use Rattle.history.proofs.Carried.{named-present, flipped}
+use Rattle.history.proofs.Orders.{number-order, put-rises}
+use Rattle.history.proofs.Parts.{of-types, parts-of}
+use Rattle.history.proofs.RowMore.{rows-of, row-more}
+use Rattle.history.proofs.Grown.{row-present, present-row, Parents-fit, Fits, New, Grown, grown-good}
 
 -- ---- what the refusals leave
 
@@ -75,6 +80,43 @@ unused-nowhere {s} good d t u = go (present s d t) refl
         let r = present-row (s .presences) d t e in
         absurd (true≢false (sym (good .presence-type (r .row) (r .is-in)) ∙ ap (λ (x : ℕ). is-used (kind-of s x)) (r .is-type) ∙ u))
     go false e = e
+
+-- ---- several put in
+
+pub none-at : {A : Type 0} (p : A → Bool) {x : A} {l : List A} → any p l ≡ false → x ∈ l → p x ≡ false
+none-at p {x} {l} e i = go (p x) refl
+  where
+    go : (b : Bool) → p x ≡ b → p x ≡ false
+    go true h = absurd (true≢false (sym (any-at p i h) ∙ e))
+    go false h = h
+
+map-in : {A B : Type 0} (f : A → B) (l : List A) {y : B} → y ∈ map f l → (x : A) × (x ∈ l) × (y ≡ f x)
+map-in f [] i = absurd (List·Memᴰ·not-nil i)
+map-in f (x ∷ l) i =
+    ⊎-elim (λ e. (x, List·Memᴰ·head refl, e)) (λ m. let (z, j, e) = map-in f l m in (z, List·Memᴰ·tail j, e)) (List·Memᴰ·cases-cons i)
+
+module _ {A : Type 0} (before : A → A → Bool) where
+  put-all-long : (l rs : List A) → length (put-all before l rs) ≡ length l + length rs
+  unfolding put-all
+  put-all-long [] rs = omega arith
+  put-all-long (a ∷ l) rs = omega (arith, put-all-long l (put before a rs), put-long before a rs)
+
+  put-all-in : (l rs : List A) {y : A} → y ∈ put-all before l rs → (y ∈ l) ⊎ (y ∈ rs)
+  unfolding put-all
+  put-all-in [] rs i = inr i
+  put-all-in (a ∷ l) rs i =
+      ⊎-elim (λ m. inl (List·Memᴰ·tail m)) (λ m. ⊎-elim (λ e. inl (List·Memᴰ·head e)) inr (put-in before a rs m)) (put-all-in l (put before a rs) i)
+
+put-all-rises : (l rs : List ℕ) → rising ltb rs ≡ true → repeated l ≡ false → ((x : ℕ) → x ∈ l → x ∈ rs → ⊥) → rising ltb (put-all ltb l rs) ≡ true
+unfolding put-all repeated
+put-all-rises [] rs r e apart = r
+put-all-rises (a ∷ l) rs r e apart =
+    let (once, rest) = or-neither (among l a) (repeated l) e in
+    put-all-rises l (put ltb a rs) (put-rises number-order a rs r (apart a (List·Memᴰ·head refl))) rest
+    (λ x i j. ⊎-elim
+    (λ h. true≢false (sym (any-at (eqb a) i (eq-eqb a x (sym h))) ∙ once))
+    (apart x (List·Memᴰ·tail i))
+    (put-in ltb a rs j))
 
 -- ---- one type
 
@@ -151,3 +193,42 @@ new-designation-keeps d n s g =
     (done (new-type s) 0 0 (with-type (new-type s) designation d n s))
     (λ _. g)
     (λ passed. lowest g designation d n tt (passed .0) (passed .1 .0) (passed .1 .1 .0) (passed .1 .1 .1 .0) (passed .1 .1 .1 .1 .0))
+
+-- the parents that are named: 1 to 4, object types of that SDS, none twice
+named-fit : (s : Schema) (d : ℕ) (run : List ℕ) → not-1-to-4 (names-in run) ≡ false → any (no-such-name s d) (names-in run) ≡ false
+    → any (no-object s) (parents-named s d run) ≡ false → repeated (parents-named s d run) ≡ false
+    → Parents-fit (s .types) (s .presences) d (put-all ltb (parents-named s d run) [])
+unfolding not-1-to-4 no-object present rising
+named-fit s d run c5 c6 c7 c8 = record {
+  some = λ e. absurd (let none = ap (λ (l : List ℕ). length l) e in omega (arith, long, many));
+  few = omega (arith, long, few);
+  rises = put-all-rises (parents-named s d run) [] refl c8 (λ x i j. List·Memᴰ·not-nil j);
+  objects = λ a i. flipped (is-object (kind-of s a)) (none-at (no-object s) c7 (one-of a i));
+  there = λ a i.
+      let (n, j, e) = map-in (type-named s d) (names-in run) (one-of a i) in
+      subst (λ (x : ℕ). present s d x ≡ true) (sym e) (named-present s d n (none-at (no-such-name s d) c6 j));
+}
+  where
+    long : length (put-all ltb (parents-named s d run) []) ≡ length (names-in run)
+    long = omega (arith, put-all-long ltb (parents-named s d run) [], length-map (names-in run) (type-named s d))
+
+    many : 1 ≤ length (names-in run)
+    many = ltb-false (length (names-in run)) 1 (or-neither (ltb (length (names-in run)) 1) (ltb 4 (length (names-in run))) c5 .0)
+
+    few : length (names-in run) ≤ 4
+    few = ltb-false 4 (length (names-in run)) (or-neither (ltb (length (names-in run)) 1) (ltb 4 (length (names-in run))) c5 .1)
+
+    one-of : (a : ℕ) → a ∈ put-all ltb (parents-named s d run) [] → a ∈ parents-named s d run
+    one-of a i = ⊎-elim (λ m. m) (λ m. absurd (List·Memᴰ·not-nil m)) (put-all-in ltb (parents-named s d run) [] i)
+
+pub new-object-keeps : (d : ℕ) (n : Name) (run : List ℕ) (s : Schema) → Good s → Good (next s (new-object d n run s))
+unfolding new-object
+new-object-keeps d n run s g =
+    verdict-keeps (λ o. Good (next s o)) (new-object-refusals d n run s)
+    (done (new-type s) 0 0 (with-type (new-type s) (object (put-all ltb (parents-named s d run) [])) d n s))
+    (λ _. g)
+    (λ passed.
+    let kinds = passed .1 .1 .1 in
+    let rest = kinds .1 .1 .1 .1 in
+    lowest g (object (put-all ltb (parents-named s d run) [])) d n (named-fit s d run (kinds .0) (kinds .1 .0) (kinds .1 .1 .0) (kinds .1 .1 .1 .0))
+    (passed .0) (passed .1 .0) (or-neither (malformed n) (any malformed (names-in run)) (passed .1 .1 .0) .0) (rest .0) (rest .1 .0))

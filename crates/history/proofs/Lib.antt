@@ -13,3 +13,4 @@ pub mod Imports
 pub mod RowMore
 pub mod Grown
 pub mod NewTypes
+pub mod NewPair

@@ -6,7 +6,7 @@ use mathlib.Core.Logic.{_⊎_, inl, inr, ⊎-elim}
 use mathlib.Core.List.{List, [], _∷_}
 use mathlib.Core.Bool.{Bool, true, false, _&&_, _||_, true≢false}
 use lib.Dec.{ltb, eqb}
-use lib.ListN.{length, getD, set, length-set}
+use lib.ListN.{length, set, length-set}
 use lib.Seq.{getD-set-same, getD-set-other}
 use borrow.Author.Tests.{ltb-false, eqb-true, eqb-false, eq-eqb, ne-eqb}
 use Rattle.rules.specs.01-Lists.{any, put}
@@ -30,7 +30,7 @@ use Rattle.history.proofs.Grown.{row-present, Reverse-fits, Fits, New, 
 use Rattle.history.proofs.NewTypes.{known, aimed, formed, room-for, free-number, unused-nowhere}
 
 -- what the refusals leave of the names and of the categories
-pub record Apart (s : Schema) (d : ℕ) (n m : Name) : Type 0 where
+record Apart (s : Schema) (d : ℕ) (n m : Name) : Type 0 where
   pub one : bears s d n ≡ false
   pub two : bears s d m ≡ false
   pub different : same-name n m ≡ false
@@ -46,7 +46,7 @@ apart s d n m e =
       different = or-neither (same-name n m) false (or-neither (same-name n m || false) (false || false) equal .0) .0;
     }
 
-pub record Categories (c c′ : ℕ) : Type 0 where
+record Categories (c c′ : ℕ) : Type 0 where
   pub one : c ≤ 3
   pub two : c′ ≤ 3
   pub not-both : c ≡ 3 → c′ ≡ 3 → ⊥
@@ -141,7 +141,7 @@ module _ {s : Schema} (good : Good s) (t r d : ℕ) (n m : Name) (c c′ : ℕ) 
         comes p x e at w =
             (ap (λ (q : Presence). q .sds) e ∙ at, subst (New (s .types) ks (s .presences) ps d) (sym (ap (λ (q : Presence). q .type) e)) w)
 
-    pub one-pair : used-sds s d ≡ true → (d ≡ 0 → ⊥) → well-formed n ≡ true → well-formed m ≡ true → Apart s d n m
+    one-pair : used-sds s d ≡ true → (d ≡ 0 → ⊥) → well-formed n ≡ true → well-formed m ≡ true → Apart s d n m
         → length (s .presences) + 2 ≤ limits .presences → Good (with-pair t r d n m c c′ s)
     unfolding used-sds bears present
     one-pair used outside formed formed′ names room =

@@ -83,7 +83,7 @@ unused-nowhere {s} good d t u = go (present s d t) refl
 
 -- ---- several put in
 
-pub none-at : {A : Type 0} (p : A → Bool) {x : A} {l : List A} → any p l ≡ false → x ∈ l → p x ≡ false
+none-at : {A : Type 0} (p : A → Bool) {x : A} {l : List A} → any p l ≡ false → x ∈ l → p x ≡ false
 none-at p {x} {l} e i = go (p x) refl
   where
     go : (b : Bool) → p x ≡ b → p x ≡ false
@@ -145,8 +145,10 @@ module _ {s : Schema} (good : Good s) (t : ℕ) (k : Kind) (d : ℕ) (n : Name) 
       each = λ u. each u (eqb u t) refl;
       old-rows = λ p i. put-old presence-before row (s .presences) i;
       rows = λ p i. ⊎-elim
-          (λ e. inr (ap (λ (q : Presence). q .sds) e,
-          subst (New (s .types) more-types (s .presences) more-presences d) (sym (ap (λ (q : Presence). q .type) e)) new))
+          (λ e. inr (
+            ap (λ (q : Presence). q .sds) e,
+            subst (New (s .types) more-types (s .presences) more-presences d) (sym (ap (λ (q : Presence). q .type) e)) new,
+          ))
           inl
           (put-in presence-before row (s .presences) i);
     }
@@ -156,7 +158,7 @@ module _ {s : Schema} (good : Good s) (t : ℕ) (k : Kind) (d : ℕ) (n : Name) 
         each u true e = inr (subst (New (s .types) more-types (s .presences) more-presences d) (sym (eqb-true u t e)) new)
         each u false e = inl (getD-set-other (s .types) t u k unused (eqb-false u t e))
 
-    pub one-type : used-sds s d ≡ true → (d ≡ 0 → ⊥) → well-formed n ≡ true → bears s d n ≡ false → length (s .presences) + 1 ≤ limits .presences
+    one-type : used-sds s d ≡ true → (d ≡ 0 → ⊥) → well-formed n ≡ true → bears s d n ≡ false → length (s .presences) + 1 ≤ limits .presences
         → Good (with-type t k d n s)
     unfolding used-sds bears present
     one-type used outside formed unborne room =

@@ -22,7 +22,7 @@ use Rattle.rules.proofs.01-Lists.{any-at, any-where}
 use Rattle.history.proofs.Parts.{of-types, of-presences, Types, Presences, object-used, parts-of, whole, applications-over, ends-over}
 use Rattle.history.proofs.RowMore.{Rows}
 
--- a type is present by a row, and by no other
+-- a row makes its type present in its SDS, and a type is present by a row
 pub row-present : (ps : List Presence) (p : Presence) → p ∈ ps → present (of-presences ps) (p .sds) (p .type) ≡ true
 unfolding present
 row-present ps p i =

@@ -5,11 +5,11 @@ use mathlib.Core.Path.{_≡_, refl, sym, ap, _∙_, subst}
 use mathlib.Core.Logic.{_⊎_, inl, inr, ⊎-elim}
 use mathlib.Core.List.{List, [], _∷_, map, List·Memᴰ·not-nil, List·Memᴰ·cases-cons}
 use mathlib.Core.List.List·Memᴰ.{List·Memᴰ·head, List·Memᴰ·tail}
-use mathlib.Core.Bool.{Bool, true, false, not, _||_, true≢false, false≢true}
+use mathlib.Core.Bool.{Bool, true, false, not, _||_, true≢false}
 use lib.Dec.{leb, ltb, eqb}
 use lib.ListN.{length, getD, set, length-set, length-map}
 use lib.Seq.{getD-set-same, getD-set-other}
-use borrow.Author.Tests.{ltb-false, eqb-true, eqb-false, eq-eqb}
+use borrow.Author.Tests.{not-true, not-false, ltb-false, eqb-true, eqb-false, eq-eqb}
 use Rattle.rules.specs.01-Lists.{_∈_, any, among, repeated, rising, put}
 use Rattle.rules.specs.02-Limits.{limits}
 use Rattle.rules.specs.03-Names.{Name, well-formed, names-in}
@@ -28,7 +28,7 @@ use Rattle.rules.proofs.01-Lists.{any-at, place-in}
 use Rattle.rules.proofs.Edits.{put-long, put-in, put-new, put-old}
 use Rattle.rules.proofs.05-Descent.{members-in}
 use Rattle.rules.proofs.09-Refusals.{verdict-keeps}
-use Rattle.history.proofs.Carried.{named-present, flipped}
+use Rattle.history.proofs.Carried.{named-present}
 use Rattle.history.proofs.Orders.{number-order, put-rises}
 use Rattle.history.proofs.Parts.{of-types, parts-of}
 use Rattle.history.proofs.RowMore.{rows-of, row-more}
@@ -38,7 +38,7 @@ use Rattle.history.proofs.Grown.{row-present, present-row, Parents-fit,
 
 pub known : (s : Schema) (d : ℕ) → unknown-sds s d ≡ false → used-sds s d ≡ true
 unfolding unknown-sds
-known s d e = flipped (used-sds s d) (or-neither (leb (limits .sdss) d) (not (used-sds s d)) e .1)
+known s d e = not-false (used-sds s d) (or-neither (leb (limits .sdss) d) (not (used-sds s d)) e .1)
 
 pub aimed : (d : ℕ) → system-sds d ≡ false → d ≡ 0 → ⊥
 unfolding system-sds
@@ -46,7 +46,7 @@ aimed d e z = true≢false (sym (eq-eqb d 0 z) ∙ e)
 
 pub formed : (n : Name) → malformed n ≡ false → well-formed n ≡ true
 unfolding malformed
-formed n e = flipped (well-formed n) e
+formed n e = not-false (well-formed n) e
 
 unborne : (s : Schema) (d : ℕ) (n : Name) → names-taken s d (n ∷ []) ≡ false → bears s d n ≡ false
 unfolding names-taken any
@@ -64,11 +64,7 @@ pub free-number : (s : Schema) (i : ℕ) → i < length (free-types s)
 unfolding free-types
 free-number s i h =
     let (low, e) = members-in (λ t. not (is-used (kind-of s t))) (getD (free-types s) i 0) (place-in 0 (free-types s) i h) in
-    (low, turned (is-used (kind-of s (getD (free-types s) i 0))) e)
-  where
-    turned : (b : Bool) → not b ≡ true → b ≡ false
-    turned true e = absurd (false≢true e)
-    turned false e = refl
+    (low, not-true (is-used (kind-of s (getD (free-types s) i 0))) e)
 
 -- what is unused is nowhere
 pub unused-nowhere : {s : Schema} → Good s → (d t : ℕ) → is-used (kind-of s t) ≡ false → present s d t ≡ false
@@ -205,7 +201,7 @@ named-fit s d run c5 c6 c7 c8 = record {
   some = λ e. absurd (let none = ap (λ (l : List ℕ). length l) e in omega (arith, long, many));
   few = omega (arith, long, few);
   rises = put-all-rises (parents-named s d run) [] refl c8 (λ x i j. List·Memᴰ·not-nil j);
-  objects = λ a i. flipped (is-object (kind-of s a)) (none-at (no-object s) c7 (one-of a i));
+  objects = λ a i. not-false (is-object (kind-of s a)) (none-at (no-object s) c7 (one-of a i));
   there = λ a i.
       let (n, j, e) = map-in (type-named s d) (names-in run) (one-of a i) in
       subst (λ (x : ℕ). present s d x ≡ true) (sym e) (named-present s d n (none-at (no-such-name s d) c6 j));

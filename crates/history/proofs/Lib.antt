@@ -14,3 +14,4 @@ pub mod RowMore
 pub mod Grown
 pub mod NewTypes
 pub mod NewPair
+pub mod All

@@ -5,24 +5,24 @@ use mathlib.Core.Path.{_≡_, refl, sym, _∙_}
 use mathlib.Core.List.{List}
 use mathlib.Core.Bool.{Bool, true, false, not, _&&_, _||_, true≢false}
 use lib.ListN.{length}
-use borrow.Author.Tests.{ltb-false, eq-eqb}
+use borrow.Author.Tests.{not-false, ltb-false, eq-eqb}
 use Rattle.rules.specs.01-Lists.{any, without, put}
 use Rattle.rules.specs.02-Limits.{limits}
 use Rattle.rules.specs.03-Names.{Name}
 use Rattle.rules.specs.04-Schema.{Schema, Kind, Presence, Application, kind-of, is-object, is-attribute, is-link, present, type-named}
 use Rattle.rules.specs.04-Schema.{applied, is-application, application-before}
 use Rattle.rules.specs.06-Good.{Good}
-use Rattle.rules.specs.09-Refusals.{no-such-name, no-object, no-attribute, no-link, applications-full, system-sds}
+use Rattle.rules.specs.09-Refusals.{no-such-name, no-object, no-attribute, no-link, applications-full}
 use Rattle.rules.specs.09-Refusals.Outcome.{done}
 use Rattle.rules.specs.10-Changes.{with-applications, apply, apply-refusals, unapply, unapply-refusals}
 use Rattle.rules.specs.13-History.{next}
 use Rattle.rules.proofs.Bools.{or-neither, and-of}
 use Rattle.rules.proofs.01-Lists.{any-at}
-use Rattle.rules.proofs.Edits.{put-long, without-in}
+use Rattle.rules.proofs.Edits.{put-long, put-each, without-in, without-long}
 use Rattle.rules.proofs.09-Refusals.{verdict-keeps}
-use Rattle.history.proofs.Carried.{without-long, put-all-of, named-present, flipped}
-use Rattle.history.proofs.Parts.{of-types, of-presences, Applications, parts-of, whole}
+use Rattle.history.proofs.Parts.{of-types, of-presences, Applications, parts-of, with-applications-good}
 use Rattle.history.proofs.Orders.{application-order, put-rises, without-rises}
+use Rattle.history.proofs.Passed.{aimed, named-present}
 
 module _ {ks : List Kind} {ps : List Presence} {xs : List Application} (g : Applications ks ps xs) where
   fewer : (p : Application → Bool) → Applications ks ps (without p xs)
@@ -41,12 +41,12 @@ module _ {ks : List Kind} {ps : List Presence} {xs : List Application} (g : Appl
       → (x .sds ≡ 0 → ⊥) → any (is-application (x .sds) (x .to) (x .attribute)) xs ≡ false → Applications ks ps (put application-before x xs)
   one-more x room is to there outside new = record {
     room = omega (arith, put-long application-before x xs);
-    of-attribute = λ y i. put-all-of application-before i (λ z. is-attribute (kind-of (of-types ks) (z .attribute)) ≡ true) is (g .of-attribute y);
-    to-either = λ y i. put-all-of application-before i (λ z. is-object (kind-of (of-types ks) (z .to)) || is-link (kind-of (of-types ks) (z .to)) ≡ true)
+    of-attribute = λ y i. put-each application-before i (λ z. is-attribute (kind-of (of-types ks) (z .attribute)) ≡ true) is (g .of-attribute y);
+    to-either = λ y i. put-each application-before i (λ z. is-object (kind-of (of-types ks) (z .to)) || is-link (kind-of (of-types ks) (z .to)) ≡ true)
         to (g .to-either y);
-    there = λ y i. put-all-of application-before i
+    there = λ y i. put-each application-before i
         (λ z. present (of-presences ps) (z .sds) (z .to) && present (of-presences ps) (z .sds) (z .attribute) ≡ true) there (g .there y);
-    outside = λ y i. put-all-of application-before i (λ z. z .sds ≡ 0 → ⊥) outside (g .outside y);
+    outside = λ y i. put-each application-before i (λ z. z .sds ≡ 0 → ⊥) outside (g .outside y);
     rises = put-rises application-order x xs (g .rises) (λ i.
         true≢false (sym (any-at (is-application (x .sds) (x .to) (x .attribute)) i itself) ∙ new));
   }
@@ -54,30 +54,24 @@ module _ {ks : List Kind} {ps : List Presence} {xs : List Application} (g : Appl
       itself : is-application (x .sds) (x .to) (x .attribute) x ≡ true
       itself = rw (eq-eqb (x .sds) (x .sds) refl, eq-eqb (x .to) (x .to) refl, eq-eqb (x .attribute) (x .attribute) refl)
 
--- nothing else speaks of them
-changed : {s : Schema} → Good s → {xs : List Application} → Applications (s .types) (s .presences) xs → Good (with-applications s xs)
-changed g a =
-    let p = parts-of g in
-    whole (record { sdss = p .sdss; types = p .types; presences = p .presences; applications = a; ends = p .ends })
-
 pub unapply-keeps : (d : ℕ) (a n : Name) (s : Schema) → Good s → Good (next s (unapply d a n s))
 unfolding unapply
 unapply-keeps d a n s g =
     verdict-keeps (λ o. Good (next s o)) (unapply-refusals d a n s)
     (done 0 0 0 (with-applications s (without (is-application d (type-named s d n) (type-named s d a)) (s .applications))))
     (λ _. g)
-    (λ _. changed g (fewer (parts-of g .applications) (is-application d (type-named s d n) (type-named s d a))))
+    (λ _. with-applications-good g (fewer (parts-of g .applications) (is-application d (type-named s d n) (type-named s d a))))
 
 pub apply-keeps : (d : ℕ) (a n : Name) (s : Schema) → Good s → Good (next s (apply d a n s))
-unfolding apply present applied applications-full system-sds no-attribute no-object no-link
+unfolding apply present applied applications-full no-attribute no-object no-link
 apply-keeps d a n s g =
     verdict-keeps (λ o. Good (next s o)) (apply-refusals d a n s)
     (done 0 0 0 (with-applications s (put application-before x (s .applications))))
     (λ _. g)
     (λ passed.
     let kinds = passed .1 .1 .1 .1 .0 in
-    changed g
-    (one-more (parts-of g .applications) x (room (passed .1 .1 .1 .1 .1 .1 .0)) (attribute kinds) (to kinds) (there (passed .1 .1 .1 .0)) (aimed (passed .1 .0))
+    with-applications-good g
+    (one-more (parts-of g .applications) x (room (passed .1 .1 .1 .1 .1 .1 .0)) (attribute kinds) (to kinds) (there (passed .1 .1 .1 .0)) (aimed d (passed .1 .0))
     (passed .1 .1 .1 .1 .1 .0)))
   where
     x : Application
@@ -86,9 +80,6 @@ apply-keeps d a n s g =
     room : applications-full s 1 ≡ false → length (s .applications) + 1 ≤ limits .applications
     room e = ltb-false (limits .applications) (length (s .applications) + 1) e
 
-    aimed : system-sds d ≡ false → d ≡ 0 → ⊥
-    aimed e z = true≢false (sym (eq-eqb d 0 z) ∙ e)
-
     there : no-such-name s d a || no-such-name s d n ≡ false → present s d (type-named s d n) && present s d (type-named s d a) ≡ true
     there e =
         let (p, q) = or-neither (no-such-name s d a) (no-such-name s d n) e in
@@ -96,7 +87,7 @@ apply-keeps d a n s g =
 
     attribute : no-attribute s (type-named s d a) || (no-object s (type-named s d n) && no-link s (type-named s d n)) ≡ false
         → is-attribute (kind-of s (type-named s d a)) ≡ true
-    attribute e = flipped (is-attribute (kind-of s (type-named s d a)))
+    attribute e = not-false (is-attribute (kind-of s (type-named s d a)))
         (or-neither (no-attribute s (type-named s d a)) (no-object s (type-named s d n) && no-link s (type-named s d n)) e .0)
 
     to : no-attribute s (type-named s d a) || (no-object s (type-named s d n) && no-link s (type-named s d n)) ≡ false

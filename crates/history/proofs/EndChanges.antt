@@ -7,28 +7,28 @@ use mathlib.Core.List.{List, [], _∷_, map, List·Memᴰ·not-nil, List·Memᴰ
 use mathlib.Core.List.List·Memᴰ.{List·Memᴰ·head, List·Memᴰ·tail}
 use mathlib.Core.Bool.{Bool, true, false, _&&_, _||_, true≢false}
 use lib.Dec.{eqb}
-use lib.ListN.{length, getD, length-map}
-use borrow.Author.Tests.{ltb-false, eqb-true, eq-eqb}
+use lib.ListN.{length, length-map}
+use borrow.Author.Tests.{not-false, ltb-false, eqb-true, eq-eqb}
 use Rattle.rules.specs.01-Lists.{_∈_, without}
 use Rattle.rules.specs.02-Limits.{limits}
 use Rattle.rules.specs.03-Names.{Name}
 use Rattle.rules.specs.04-Schema.{Schema, Kind, Presence, Side, End, kind-of, is-object, is-link, reverse-in, reverse, with-reverse, present}
 use Rattle.rules.specs.04-Schema.{type-named, has-end, is-end, side-code, other-side, end-before}
-use Rattle.rules.specs.04-Schema.Kind.{unused, object, attribute, designation, paired}
+use Rattle.rules.specs.04-Schema.Kind.{paired}
 use Rattle.rules.specs.04-Schema.Side.{origin, destination}
 use Rattle.rules.specs.06-Good.{Good}
-use Rattle.rules.specs.09-Refusals.{no-such-name, no-object, no-link, ends-full, system-sds}
+use Rattle.rules.specs.09-Refusals.{no-such-name, no-object, no-link, ends-full}
 use Rattle.rules.specs.09-Refusals.Outcome.{done}
 use Rattle.rules.specs.10-Changes.{with-ends, put-all, both-ends, is-one-of, add-end, add-end-refusals, remove-end, remove-end-refusals}
 use Rattle.rules.specs.13-History.{next}
 use Rattle.rules.proofs.Bools.{or-neither, and-both, and-of}
 use Rattle.rules.proofs.01-Lists.{any-at, any-where, Different}
-use Rattle.rules.proofs.Edits.{without-in, without-keeps}
+use Rattle.rules.proofs.Edits.{put-all-long, put-all-in, put-all-old, put-all-new, without-in, without-keeps, without-long}
 use Rattle.rules.proofs.09-Refusals.{verdict-keeps}
-use Rattle.history.proofs.Carried.{without-long, named-present, flipped}
-use Rattle.history.proofs.Parts.{of-types, of-presences, of-ends, Types, Ends, parts-of, whole}
-use Rattle.history.proofs.Orders.{side-is, end-order, without-rises}
-use Rattle.history.proofs.PutAll.{put-all-long, put-all-in, put-all-old, put-all-new, put-all-rises}
+use Rattle.history.proofs.KindLaws.{alone-or-pair, no-pair, one-reverse}
+use Rattle.history.proofs.Parts.{of-types, of-presences, of-ends, Types, Ends, parts-of, with-ends-good}
+use Rattle.history.proofs.Orders.{side-is, end-order, put-all-rises, without-rises}
+use Rattle.history.proofs.Passed.{aimed, named-present}
 
 -- ---- an end is known by its four parts
 
@@ -115,7 +115,7 @@ module _ {ks : List Kind} {ps : List Presence} {es : List End} (ty : Types ks) (
     at-object = λ e i. each e i .at-object;
     there = λ e i. each e i .there;
     outside = λ e i. each e i .outside;
-    rises = put-all-rises end-before end-order new es (g .rises) apart none;
+    rises = put-all-rises end-order new es (g .rises) apart none;
     mirrored = λ e i c r k. in-has (put-all end-before new es) (mirror r e)
         (⊎-elim (λ j. put-all-new end-before new es (f e j c r k)) (λ j. put-all-old end-before new es (closed e j c r k)) (put-all-in end-before new es i));
   }
@@ -152,23 +152,11 @@ data Both (s : Schema) (a : End) : List End → Type 0 where
 
 both : (s : Schema) (a : End) → Both s a (both-ends (a .sds) (a .link) (a .side) (a .object) s)
 unfolding both-ends reverse
-both s a = go (kind-of s (a .link)) refl
-  where
-    single : {k : Kind} → reverse-in k ≡ [] → kind-of s (a .link) ≡ k → (c r : ℕ) → kind-of s (a .link) ≡ paired c r → ⊥
-    single e h c r f =
-        let long : length (reverse-in (paired c r)) ≡ 0 = ap (λ (k : Kind). length (reverse-in k)) (sym f ∙ h) ∙ ap length e in
-        omega arith
-
-    go : (k : Kind) → kind-of s (a .link) ≡ k → Both s a (a ∷ map (λ r. mirror r a) (reverse-in k))
-    go unused h = alone (single refl h)
-    go (object ps) h = alone (single refl h)
-    go (attribute v) h = alone (single refl h)
-    go designation h = alone (single refl h)
-    go (paired c r) h = together c r h
-
--- a type has one reverse
-one-reverse : {k : Kind} {c r c′ r′ : ℕ} → k ≡ paired c r → k ≡ paired c′ r′ → r ≡ r′
-one-reverse e f = ap (λ (k : Kind). getD (reverse-in k) 0 0) (sym e ∙ f)
+both s a =
+    ⊎-elim
+    (λ e. subst (λ (rs : List ℕ). Both s a (a ∷ map (λ r. mirror r a) rs)) (sym e) (alone (no-pair (kind-of s (a .link)) e)))
+    (λ (c, r, e). subst (λ (k : Kind). Both s a (a ∷ map (λ r. mirror r a) (reverse-in k))) (sym e) (together c r e))
+    (alone-or-pair (kind-of s (a .link)))
 
 module _ {s : Schema} (g : Good s) {a : End} where
   both-closed : {new : List End} → Both s a new → Closed (s .types) new
@@ -222,24 +210,18 @@ module _ {s : Schema} (g : Good s) {a : End} where
 
 -- ---- the calls
 
--- nothing else speaks of ends
-changed : {s : Schema} → Good s → {es : List End} → Ends (s .types) (s .presences) es → Good (with-ends s es)
-changed g e =
-    let p = parts-of g in
-    whole (record { sdss = p .sdss; types = p .types; presences = p .presences; applications = p .applications; ends = e })
-
 pub remove-end-keeps : (side : Side) (d : ℕ) (n m : Name) (s : Schema) → Good s → Good (next s (remove-end side d n m s))
 unfolding remove-end
 remove-end-keeps side d n m s g =
     verdict-keeps (λ o. Good (next s o)) (remove-end-refusals side d n m s)
     (done 0 0 0 (with-ends s (without (is-one-of (both-ends d (type-named s d n) side (type-named s d m) s)) (s .ends))))
     (λ _. g)
-    (λ _. changed g
+    (λ _. with-ends-good g
     (fewer-ends (parts-of g .types) (parts-of g .ends) (both-ends d (type-named s d n) side (type-named s d m) s)
     (both-closed g (both s (record { sds = d; link = type-named s d n; side = side; object = type-named s d m })))))
 
 pub add-end-keeps : (side : Side) (d : ℕ) (n m : Name) (s : Schema) → Good s → Good (next s (add-end side d n m s))
-unfolding add-end both-ends present has-end ends-full system-sds no-object no-link
+unfolding add-end both-ends present has-end ends-full no-object no-link
 add-end-keeps side d n m s g =
     verdict-keeps (λ o. Good (next s o)) (add-end-refusals side d n m s)
     (done 0 0 0 (with-ends s (put-all end-before new (s .ends))))
@@ -247,8 +229,8 @@ add-end-keeps side d n m s g =
     (λ passed.
     let kinds = passed .1 .1 .1 .1 .0 in
     let fit : Fit (s .types) (s .presences) a
-    = record { of-link = link kinds; at-object = object-type kinds; there = there (passed .1 .1 .1 .0); outside = aimed (passed .1 .0) } in
-    changed g
+    = record { of-link = link kinds; at-object = object-type kinds; there = there (passed .1 .1 .1 .0); outside = aimed d (passed .1 .0) } in
+    with-ends-good g
     (more-ends (parts-of g .types) (parts-of g .ends) new (room (passed .1 .1 .1 .1 .1 .1 .0)) (both-fit g (both s a) fit) (both-different g (both s a))
     (both-new g (both s a) (λ i. true≢false (sym (in-has (s .ends) a i) ∙ passed .1 .1 .1 .1 .1 .0))) (both-closed g (both s a))))
   where
@@ -265,16 +247,13 @@ add-end-keeps side d n m s g =
       length-map (reverse s (type-named s d n)) (λ r. mirror r a),
     )
 
-    aimed : system-sds d ≡ false → d ≡ 0 → ⊥
-    aimed e z = true≢false (sym (eq-eqb d 0 z) ∙ e)
-
     there : no-such-name s d n || no-such-name s d m ≡ false → present s d (type-named s d n) && present s d (type-named s d m) ≡ true
     there e =
         let (p, q) = or-neither (no-such-name s d n) (no-such-name s d m) e in
         and-of (present s d (type-named s d n)) (present s d (type-named s d m)) (named-present s d n p) (named-present s d m q)
 
     link : no-link s (type-named s d n) || no-object s (type-named s d m) ≡ false → is-link (kind-of s (type-named s d n)) ≡ true
-    link e = flipped (is-link (kind-of s (type-named s d n))) (or-neither (no-link s (type-named s d n)) (no-object s (type-named s d m)) e .0)
+    link e = not-false (is-link (kind-of s (type-named s d n))) (or-neither (no-link s (type-named s d n)) (no-object s (type-named s d m)) e .0)
 
     object-type : no-link s (type-named s d n) || no-object s (type-named s d m) ≡ false → is-object (kind-of s (type-named s d m)) ≡ true
-    object-type e = flipped (is-object (kind-of s (type-named s d m))) (or-neither (no-link s (type-named s d n)) (no-object s (type-named s d m)) e .1)
+    object-type e = not-false (is-object (kind-of s (type-named s d m))) (or-neither (no-link s (type-named s d n)) (no-object s (type-named s d m)) e .1)

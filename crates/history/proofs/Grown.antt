@@ -2,45 +2,23 @@
 -- its reverse. What was there stays, so it is good. Assumes nothing.
 use Prim.Native.Nat.{ℕ, _≤_}
 use mathlib.Core.Path.{_≡_, refl, sym, ap, _∙_, subst}
-use mathlib.Core.Logic.{_⊎_, inl, inr, ⊎-elim}
+use mathlib.Core.Logic.{_⊎_, ⊎-elim}
 use mathlib.Core.List.{List, [], List·Memᴰ·not-nil}
 use mathlib.Core.Bool.{true, false, true≢false}
-use lib.Dec.{ltb, eqb}
+use lib.Dec.{ltb}
 use lib.ListN.{length}
-use borrow.Author.Tests.{eqb-true, eq-eqb}
 use Rattle.rules.specs.01-Lists.{_∈_, rising}
 use Rattle.rules.specs.02-Limits.{limits}
 use Rattle.rules.specs.03-Names.{Name}
-use Rattle.rules.specs.04-Schema.{Schema, Kind, Presence, kind-of, is-used, is-object, parents, parents-in, holds-type, present}
+use Rattle.rules.specs.04-Schema.{Schema, Kind, Presence, kind-of, is-used, is-object, parents, parents-in, present}
 use Rattle.rules.specs.04-Schema.Kind.{unused, object, attribute, designation, paired}
 use Rattle.rules.specs.05-Descent.{Parent, Descends}
 use Rattle.rules.specs.05-Descent.Descends.{by-parent, by-step}
 use Rattle.rules.specs.06-Good.{Good}
 use Rattle.rules.specs.10-Changes.{with-types, with-presences}
-use Rattle.rules.proofs.Bools.{and-both, and-of}
-use Rattle.rules.proofs.01-Lists.{any-at, any-where}
-use Rattle.history.proofs.Parts.{of-types, of-presences, Types, Presences, object-used, parts-of, whole, applications-over, ends-over}
-use Rattle.history.proofs.RowMore.{Rows}
-
--- a row makes its type present in its SDS, and a type is present by a row
-pub row-present : (ps : List Presence) (p : Presence) → p ∈ ps → present (of-presences ps) (p .sds) (p .type) ≡ true
-unfolding present
-row-present ps p i =
-    any-at (holds-type (p .sds) (p .type)) i
-    (and-of (eqb (p .sds) (p .sds)) (eqb (p .type) (p .type)) (eq-eqb (p .sds) (p .sds) refl) (eq-eqb (p .type) (p .type) refl))
-
-pub record Row-of (ps : List Presence) (d t : ℕ) : Type 0 where
-  pub row : Presence
-  pub is-in : row ∈ ps
-  pub is-sds : row .sds ≡ d
-  pub is-type : row .type ≡ t
-
-pub present-row : (ps : List Presence) (d t : ℕ) → present (of-presences ps) d t ≡ true → Row-of ps d t
-unfolding present
-present-row ps d t e =
-    let (p, i, h) = any-where (holds-type d t) ps e in
-    let (a, b) = and-both (eqb (p .sds) d) (eqb (p .type) t) h in
-    record { row = p; is-in = i; is-sds = eqb-true (p .sds) d a; is-type = eqb-true (p .type) t b }
+use Rattle.history.proofs.KindLaws.{object-used}
+use Rattle.history.proofs.Parts.{of-types, of-presences, Types, Rows, Closed, Presences, presence-there, parts-of, whole, applications-over, ends-over}
+use Rattle.history.proofs.Rows.{present-over}
 
 -- "An object type has 1 to 4 different parents, all object types", present in that SDS
 pub record Parents-fit (ks : List Kind) (ps : List Presence) (d : ℕ) (qs : List ℕ) : Type 0 where
@@ -169,48 +147,33 @@ module _ (ks ks′ : List Kind) (ps ps′ : List Presence) (d : ℕ) where
     -- ---- the presences
 
     pub still : (e t : ℕ) → present (of-presences ps) e t ≡ true → present (of-presences ps′) e t ≡ true
-    still e t h =
-        let r = present-row ps e t h in
-        subst (λ (x : ℕ). present (of-presences ps′) e x ≡ true) (r .is-type)
-        (subst (λ (x : ℕ). present (of-presences ps′) x (r .row .type) ≡ true) (r .is-sds) (row-present ps′ (r .row) (g .old-rows (r .row) (r .is-in))))
+    still = present-over ps ps′ (λ p i. presence-there (g .old-rows p i))
 
-    -- a type is where it was, or is new there
-    came : (e t : ℕ) → present (of-presences ps′) e t ≡ true → (present (of-presences ps) e t ≡ true) ⊎ ((e ≡ d) × New ks ks′ ps ps′ d t)
-    came e t h = let r = present-row ps′ e t h in ⊎-elim (λ i. inl (there r i)) (λ n. inr (sym (r .is-sds) ∙ n .0, subst (New ks ks′ ps ps′ d) (r .is-type) (n .1))) (g .rows (r .row) (r .is-in))
-      where
-        there : (r : Row-of ps′ e t) → r .row ∈ ps → present (of-presences ps) e t ≡ true
-        there r i =
-            subst (λ (x : ℕ). present (of-presences ps) e x ≡ true) (r .is-type)
-            (subst (λ (x : ℕ). present (of-presences ps) x (r .row .type) ≡ true) (r .is-sds) (row-present ps (r .row) i))
+    -- an old type asks what it asked, and a new one has what it asks
+    closed-old : {e t : ℕ} → Closed ks ps e t → Closed ks′ ps′ e t
+    closed-old {e} {t} c = record {
+      of-used = kept-used t (c .of-used);
+      with-parents = λ a p. still e a (c .with-parents a (parent-was t a (c .of-used) p));
+      with-reverse = λ b r k. still e r (c .with-reverse b r (sym (kept t (c .of-used)) ∙ k));
+    }
+
+    closed-new : {t : ℕ} → New ks ks′ ps ps′ d t → Closed ks′ ps′ d t
+    unfolding parents
+    closed-new {t} n = record {
+      of-used = fits-used t (kind-of (of-types ks′) t) (n .fits);
+      with-parents = λ a p. still d a (fits-parent t (kind-of (of-types ks′) t) (n .fits) a (p .listed) .1);
+      with-reverse = λ c r k. new-fits (paired c r) n k .there;
+    }
 
     pub presences-grown : {ns : List Name} → Presences ns ks ps → Rows ns ps′ → Presences ns ks′ ps′
-    unfolding parents
     presences-grown old rs = record {
-      room = rs .room;
-      of-used = λ p i. ⊎-elim (λ j. kept-used (p .type) (old .of-used p j)) (λ n. fits-used (p .type) (kind-of (of-types ks′) (p .type)) (n .1 .fits)) (g .rows p i);
-      in-used = rs .in-used;
-      named = rs .named;
-      unique = rs .unique;
-      one = rs .one;
-      system = rs .system;
-      system-alone = rs .system-alone;
-      rises = rs .rises;
+      rows = rs;
+      each = λ p i. ⊎-elim
+          (λ j. closed-old (old .each p j))
+          (λ n. subst (λ (x : ℕ). Closed ks′ ps′ x (p .type)) (sym (n .0)) (closed-new (n .1)))
+          (g .rows p i);
       somewhere = λ t u. ⊎-elim (λ h. let (e, q) = old .somewhere t (ap is-used (sym h) ∙ u) in (e, still e t q)) (λ n. (d, n .there)) (g .each t);
-      with-parents = λ e t a h p. ⊎-elim
-          (λ q. still e a (old .with-parents e t a q (parent-was t a (used e t q) p)))
-          (λ n. subst (λ (x : ℕ). present (of-presences ps′) x a ≡ true) (sym (n .0))
-          (still d a (fits-parent t (kind-of (of-types ks′) t) (n .1 .fits) a (p .listed) .1)))
-          (came e t h);
-      with-reverse = λ e t c r h k. ⊎-elim
-          (λ q. still e r (old .with-reverse e t c r q (sym (kept t (used e t q)) ∙ k)))
-          (λ n. subst (λ (x : ℕ). present (of-presences ps′) x r ≡ true) (sym (n .0)) (new-fits (paired c r) (n .1) k .there))
-          (came e t h);
     }
-      where
-        used : (e t : ℕ) → present (of-presences ps) e t ≡ true → is-used (kind-of (of-types ks) t) ≡ true
-        used e t h =
-            let r = present-row ps e t h in
-            subst (λ (x : ℕ). is-used (kind-of (of-types ks) x) ≡ true) (r .is-type) (old .of-used (r .row) (r .is-in))
 
 -- nothing else speaks of types or presences but applications and ends, and theirs stay
 pub grown-good : {s : Schema} → Good s → (ks′ : List Kind) (ps′ : List Presence) (d : ℕ) → Grown (s .types) ks′ (s .presences) ps′ d → Rows (s .sdss) ps′

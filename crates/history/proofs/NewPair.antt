@@ -21,31 +21,16 @@ use Rattle.rules.specs.09-Refusals.Outcome.{done}
 use Rattle.rules.specs.10-Changes.{new-type, second-new-type, with-pair, new-pair, new-pair-refusals}
 use Rattle.rules.specs.13-History.{next}
 use Rattle.rules.proofs.Bools.{or-neither}
-use Rattle.rules.proofs.Edits.{put-long, put-in, put-new, put-old, put-none}
+use Rattle.rules.proofs.Edits.{put-long, put-in, put-old, set-either}
 use Rattle.rules.proofs.05-Descent.{members-once}
 use Rattle.rules.proofs.09-Refusals.{verdict-keeps}
 use Rattle.history.proofs.Parts.{of-types, of-presences, parts-of}
-use Rattle.history.proofs.RowMore.{rows-of, row-more}
-use Rattle.history.proofs.Grown.{row-present, Reverse-fits, Fits, New, Grown, grown-good}
-use Rattle.history.proofs.NewTypes.{known, aimed, formed, room-for, free-number, unused-nowhere}
+use Rattle.history.proofs.Passed.{formed, both-free, types-room}
+use Rattle.history.proofs.Rows.{present-still, present-new, Row-fits, row-fits, fits-still, rows-more}
+use Rattle.history.proofs.Grown.{Reverse-fits, Fits, New, Grown, grown-good}
+use Rattle.history.proofs.NewTypes.{free-number, unused-nowhere}
 
--- what the refusals leave of the names and of the categories
-record Apart (s : Schema) (d : ℕ) (n m : Name) : Type 0 where
-  pub one : bears s d n ≡ false
-  pub two : bears s d m ≡ false
-  pub different : same-name n m ≡ false
-
-apart : (s : Schema) (d : ℕ) (n m : Name) → names-taken s d (n ∷ m ∷ []) ≡ false → Apart s d n m
-unfolding names-taken any
-apart s d n m e =
-    let (borne, equal) = or-neither (bears s d n || (bears s d m || false)) ((same-name n m || false) || (false || false)) e in
-    let (one, rest) = or-neither (bears s d n) (bears s d m || false) borne in
-    record {
-      one = one;
-      two = or-neither (bears s d m) false rest .0;
-      different = or-neither (same-name n m) false (or-neither (same-name n m || false) (false || false) equal .0) .0;
-    }
-
+-- what the refusal leaves of the categories
 record Categories (c c′ : ℕ) : Type 0 where
   pub one : c ≤ 3
   pub two : c′ ≤ 3
@@ -89,10 +74,10 @@ module _ {s : Schema} (good : Good s) (t r d : ℕ) (n m : Name) (c c′ : ℕ) 
     reverse-kind = getD-set-same (set (s .types) t (paired c r)) r (paired c′ t) unused (omega (arith, length-set (s .types) t (paired c r), good .type-room))
 
     there : present (of-presences ps) d t ≡ true
-    there = row-present ps row (put-old presence-before reverse-row half (put-new presence-before row (s .presences)))
+    there = present-still reverse-row half d t (present-new row (s .presences))
 
     reverse-there : present (of-presences ps) d r ≡ true
-    reverse-there = row-present ps reverse-row (put-new presence-before reverse-row half)
+    reverse-there = present-new reverse-row half
 
     new : New (s .types) ks (s .presences) ps d t
     new = record { was = free; fits = subst (Fits (s .types) ks (s .presences) ps d t) (sym kind) fits; there = there }
@@ -120,7 +105,14 @@ module _ {s : Schema} (good : Good s) (t r d : ℕ) (n m : Name) (c c′ : ℕ) 
     grown : Grown (s .types) ks (s .presences) ps d
     grown = record {
       room = length-set (set (s .types) t (paired c r)) r (paired c′ t) ∙ length-set (s .types) t (paired c r) ∙ good .type-room;
-      each = λ u. each u (eqb u r) refl (eqb u t) refl;
+      each = λ u. ⊎-elim
+          (λ p. inr (subst (New (s .types) ks (s .presences) ps d) (sym (p .0)) reverse-new))
+          (λ p. ⊎-elim
+          (λ q. inr (subst (New (s .types) ks (s .presences) ps d) (sym (q .0)) new))
+          (λ q. inl (p .1 ∙ q .1))
+          (set-either (s .types) t (paired c r) unused (omega (arith, good .type-room)) u))
+          (set-either (set (s .types) t (paired c r)) r (paired c′ t) unused
+          (omega (arith, length-set (s .types) t (paired c r), good .type-room)) u);
       old-rows = λ p i. put-old presence-before reverse-row half (put-old presence-before row (s .presences) i);
       rows = λ p i. ⊎-elim
           (λ e. inr (comes p reverse-row e refl reverse-new))
@@ -128,30 +120,18 @@ module _ {s : Schema} (good : Good s) (t r d : ℕ) (n m : Name) (c c′ : ℕ) 
           (put-in presence-before reverse-row half i);
     }
       where
-        each : (u : ℕ) (a : Bool) → eqb u r ≡ a → (b : Bool) → eqb u t ≡ b
-            → (kind-of (of-types ks) u ≡ kind-of (of-types (s .types)) u) ⊎ New (s .types) ks (s .presences) ps d u
-        each u true e b f = inr (subst (New (s .types) ks (s .presences) ps d) (sym (eqb-true u r e)) reverse-new)
-        each u false e true f = inr (subst (New (s .types) ks (s .presences) ps d) (sym (eqb-true u t f)) new)
-        each u false e false f = inl
-            (getD-set-other (set (s .types) t (paired c r)) r u (paired c′ t) unused (eqb-false u r e)
-            ∙ getD-set-other (s .types) t u (paired c r) unused (eqb-false u t f))
-
         comes : (p x : Presence) → p ≡ x → x .sds ≡ d → New (s .types) ks (s .presences) ps d (x .type)
             → (p .sds ≡ d) × New (s .types) ks (s .presences) ps d (p .type)
         comes p x e at w =
             (ap (λ (q : Presence). q .sds) e ∙ at, subst (New (s .types) ks (s .presences) ps d) (sym (ap (λ (q : Presence). q .type) e)) w)
 
-    one-pair : used-sds s d ≡ true → (d ≡ 0 → ⊥) → well-formed n ≡ true → well-formed m ≡ true → Apart s d n m
-        → length (s .presences) + 2 ≤ limits .presences → Good (with-pair t r d n m c c′ s)
-    unfolding used-sds bears present
-    one-pair used outside formed formed′ names room =
+    one-pair : length (s .presences) + 2 ≤ limits .presences → Row-fits (s .sdss) (s .presences) row → Row-fits (s .sdss) (s .presences) reverse-row
+        → same-name n m ≡ false → Good (with-pair t r d n m c c′ s)
+    one-pair room fit-row fit-reverse differ =
         grown-good good ks ps d grown
-        (row-more
-        (row-more (rows-of (parts-of good .presences)) row (omega arith) used formed outside (names .one) (unused-nowhere good d t free))
-        reverse-row (omega (arith, put-long presence-before row (s .presences))) used formed′ outside
-        (put-none presence-before (holds-name d m) row (s .presences) (rw (eq-eqb d d refl) (names .different)) (names .two))
-        (put-none presence-before (holds-type d r) row (s .presences) (rw (eq-eqb d d refl) (ne-eqb t r (λ e. other (sym e))))
-        (unused-nowhere good d r reverse-free)))
+        (rows-more (rows-more (parts-of good .presences .rows) row (omega arith) fit-row)
+        reverse-row (omega (arith, put-long presence-before row (s .presences)))
+        (fits-still row fit-reverse (rw (eq-eqb d d refl) differ) (rw (eq-eqb d d refl) (ne-eqb t r (λ e. other (sym e))))))
 
 -- the lowest two unused numbers are two
 two-numbers : (s : Schema) → 2 ≤ length (free-types s) → second-new-type s ≡ new-type s → ⊥
@@ -167,8 +147,11 @@ new-pair-keeps d n m c c′ s g =
     (λ passed.
     let rest = passed .1 .1 .1 in
     let (a, b) = or-neither (malformed n) (malformed m) (passed .1 .1 .0) in
-    let (many, room) = room-for s 2 (rest .1 .1 .0) in
-    let (low, free) = free-number s 0 (omega arith) in
-    let (reverse-low, reverse-free) = free-number s 1 many in
-    one-pair g (new-type s) (second-new-type s) d n m c c′ low reverse-low (two-numbers s many) free reverse-free (categories c c′ (rest .0))
-    (known s d (passed .0)) (aimed d (passed .1 .0)) (formed n a) (formed m b) (apart s d n m (rest .1 .0)) room)
+    let (free, free′, differ) = both-free s d n m (rest .1 .0) in
+    let (many, room) = types-room s 2 (rest .1 .1 .0) in
+    let (low, unused-t) = free-number s 0 (omega arith) in
+    let (reverse-low, unused-r) = free-number s 1 many in
+    one-pair g (new-type s) (second-new-type s) d n m c c′ low reverse-low (two-numbers s many) unused-t unused-r (categories c c′ (rest .0)) room
+    (row-fits s d (new-type s) n (passed .0) (passed .1 .0) (formed n a) free (unused-nowhere g d (new-type s) unused-t))
+    (row-fits s d (second-new-type s) m (passed .0) (passed .1 .0) (formed m b) free′ (unused-nowhere g d (second-new-type s) unused-r))
+    differ)

@@ -24,39 +24,17 @@ use Rattle.rules.specs.10-Changes.{with-type, new-type, new-attribute, new-attr
 use Rattle.rules.specs.10-Changes.{put-all, parents-named, new-object, new-object-refusals}
 use Rattle.rules.specs.13-History.{next}
 use Rattle.rules.proofs.Bools.{or-neither}
-use Rattle.rules.proofs.01-Lists.{any-at, place-in}
-use Rattle.rules.proofs.Edits.{put-long, put-in, put-new, put-old}
+use Rattle.rules.proofs.01-Lists.{none-at, place-in, map-in, unrepeated}
+use Rattle.rules.proofs.Edits.{put-in, put-old, put-all-long, put-all-in, set-either}
 use Rattle.rules.proofs.05-Descent.{members-in}
 use Rattle.rules.proofs.09-Refusals.{verdict-keeps}
-use Rattle.history.proofs.Carried.{named-present}
-use Rattle.history.proofs.Orders.{number-order, put-rises}
-use Rattle.history.proofs.Parts.{of-types, parts-of}
-use Rattle.history.proofs.RowMore.{rows-of, row-more}
-use Rattle.history.proofs.Grown.{row-present, present-row, Parents-fit, Fits, New, Grown, grown-good}
+use Rattle.history.proofs.Orders.{number-order, put-all-rises}
+use Rattle.history.proofs.Parts.{presence-of, parts-of}
+use Rattle.history.proofs.Passed.{formed, named-present, one-free, types-room}
+use Rattle.history.proofs.Rows.{present-new, Row-fits, row-fits, rows-more}
+use Rattle.history.proofs.Grown.{Parents-fit, Fits, New, Grown, grown-good}
 
--- ---- what the refusals leave
-
-pub known : (s : Schema) (d : ℕ) → unknown-sds s d ≡ false → used-sds s d ≡ true
-unfolding unknown-sds
-known s d e = not-false (used-sds s d) (or-neither (leb (limits .sdss) d) (not (used-sds s d)) e .1)
-
-pub aimed : (d : ℕ) → system-sds d ≡ false → d ≡ 0 → ⊥
-unfolding system-sds
-aimed d e z = true≢false (sym (eq-eqb d 0 z) ∙ e)
-
-pub formed : (n : Name) → malformed n ≡ false → well-formed n ≡ true
-unfolding malformed
-formed n e = not-false (well-formed n) e
-
-unborne : (s : Schema) (d : ℕ) (n : Name) → names-taken s d (n ∷ []) ≡ false → bears s d n ≡ false
-unfolding names-taken any
-unborne s d n e = or-neither (bears s d n) false (or-neither (bears s d n || false) false e .0) .0
-
-pub room-for : (s : Schema) (many : ℕ) → types-full s many ≡ false → (many ≤ length (free-types s)) × (length (s .presences) + many ≤ limits .presences)
-unfolding types-full presences-full
-room-for s many e =
-    let (a, b) = or-neither (ltb (length (free-types s)) many) (presences-full s many) e in
-    (ltb-false (length (free-types s)) many a, ltb-false (limits .presences) (length (s .presences) + many) b)
+-- ---- numbers that are free
 
 -- a free number is one, and unused
 pub free-number : (s : Schema) (i : ℕ) → i < length (free-types s)
@@ -73,46 +51,9 @@ unused-nowhere {s} good d t u = go (present s d t) refl
   where
     go : (b : Bool) → present s d t ≡ b → present s d t ≡ false
     go true e =
-        let r = present-row (s .presences) d t e in
-        absurd (true≢false (sym (good .presence-type (r .row) (r .is-in)) ∙ ap (λ (x : ℕ). is-used (kind-of s x)) (r .is-type) ∙ u))
+        let (p, i, a, b) = presence-of (s .presences) d t e in
+        absurd (true≢false (sym (good .presence-type p i) ∙ ap (λ (x : ℕ). is-used (kind-of s x)) b ∙ u))
     go false e = e
-
--- ---- several put in
-
-none-at : {A : Type 0} (p : A → Bool) {x : A} {l : List A} → any p l ≡ false → x ∈ l → p x ≡ false
-none-at p {x} {l} e i = go (p x) refl
-  where
-    go : (b : Bool) → p x ≡ b → p x ≡ false
-    go true h = absurd (true≢false (sym (any-at p i h) ∙ e))
-    go false h = h
-
-map-in : {A B : Type 0} (f : A → B) (l : List A) {y : B} → y ∈ map f l → (x : A) × (x ∈ l) × (y ≡ f x)
-map-in f [] i = absurd (List·Memᴰ·not-nil i)
-map-in f (x ∷ l) i =
-    ⊎-elim (λ e. (x, List·Memᴰ·head refl, e)) (λ m. let (z, j, e) = map-in f l m in (z, List·Memᴰ·tail j, e)) (List·Memᴰ·cases-cons i)
-
-module _ {A : Type 0} (before : A → A → Bool) where
-  put-all-long : (l rs : List A) → length (put-all before l rs) ≡ length l + length rs
-  unfolding put-all
-  put-all-long [] rs = omega arith
-  put-all-long (a ∷ l) rs = omega (arith, put-all-long l (put before a rs), put-long before a rs)
-
-  put-all-in : (l rs : List A) {y : A} → y ∈ put-all before l rs → (y ∈ l) ⊎ (y ∈ rs)
-  unfolding put-all
-  put-all-in [] rs i = inr i
-  put-all-in (a ∷ l) rs i =
-      ⊎-elim (λ m. inl (List·Memᴰ·tail m)) (λ m. ⊎-elim (λ e. inl (List·Memᴰ·head e)) inr (put-in before a rs m)) (put-all-in l (put before a rs) i)
-
-put-all-rises : (l rs : List ℕ) → rising ltb rs ≡ true → repeated l ≡ false → ((x : ℕ) → x ∈ l → x ∈ rs → ⊥) → rising ltb (put-all ltb l rs) ≡ true
-unfolding put-all repeated
-put-all-rises [] rs r e apart = r
-put-all-rises (a ∷ l) rs r e apart =
-    let (once, rest) = or-neither (among l a) (repeated l) e in
-    put-all-rises l (put ltb a rs) (put-rises number-order a rs r (apart a (List·Memᴰ·head refl))) rest
-    (λ x i j. ⊎-elim
-    (λ h. true≢false (sym (any-at (eqb a) i (eq-eqb a x (sym h))) ∙ once))
-    (apart x (List·Memᴰ·tail i))
-    (put-in ltb a rs j))
 
 -- ---- one type
 
@@ -132,13 +73,16 @@ module _ {s : Schema} (good : Good s) (t : ℕ) (k : Kind) (d : ℕ) (n : Name) 
       was = free;
       fits = subst (Fits (s .types) more-types (s .presences) more-presences d t)
           (sym (getD-set-same (s .types) t k unused (omega (arith, good .type-room)))) fits;
-      there = row-present more-presences row (put-new presence-before row (s .presences));
+      there = present-new row (s .presences);
     }
 
     grown : Grown (s .types) more-types (s .presences) more-presences d
     grown = record {
       room = length-set (s .types) t k ∙ good .type-room;
-      each = λ u. each u (eqb u t) refl;
+      each = λ u. ⊎-elim
+          (λ p. inr (subst (New (s .types) more-types (s .presences) more-presences d) (sym (p .0)) new))
+          (λ p. inl (p .1))
+          (set-either (s .types) t k unused (omega (arith, good .type-room)) u);
       old-rows = λ p i. put-old presence-before row (s .presences) i;
       rows = λ p i. ⊎-elim
           (λ e. inr (
@@ -148,18 +92,9 @@ module _ {s : Schema} (good : Good s) (t : ℕ) (k : Kind) (d : ℕ) (n : Name) 
           inl
           (put-in presence-before row (s .presences) i);
     }
-      where
-        each : (u : ℕ) (b : Bool) → eqb u t ≡ b
-            → (kind-of (of-types more-types) u ≡ kind-of (of-types (s .types)) u) ⊎ New (s .types) more-types (s .presences) more-presences d u
-        each u true e = inr (subst (New (s .types) more-types (s .presences) more-presences d) (sym (eqb-true u t e)) new)
-        each u false e = inl (getD-set-other (s .types) t u k unused (eqb-false u t e))
 
-    one-type : used-sds s d ≡ true → (d ≡ 0 → ⊥) → well-formed n ≡ true → bears s d n ≡ false → length (s .presences) + 1 ≤ limits .presences
-        → Good (with-type t k d n s)
-    unfolding used-sds bears present
-    one-type used outside formed unborne room =
-        grown-good good more-types more-presences d grown
-        (row-more (rows-of (parts-of good .presences)) row room used formed outside unborne (unused-nowhere good d t free))
+    one-type : length (s .presences) + 1 ≤ limits .presences → Row-fits (s .sdss) (s .presences) row → Good (with-type t k d n s)
+    one-type room fit = grown-good good more-types more-presences d grown (rows-more (parts-of good .presences .rows) row room fit)
 
 -- ---- the calls
 
@@ -170,9 +105,10 @@ lowest : {s : Schema} → Good s → (k : Kind) (d : ℕ) (n : Name)
     → unknown-sds s d ≡ false → system-sds d ≡ false → malformed n ≡ false → names-taken s d (n ∷ []) ≡ false → types-full s 1 ≡ false
     → Good (with-type (new-type s) k d n s)
 lowest {s} good k d n fits c2 c3 c4 c11 c14 =
-    let (many, room) = room-for s 1 c14 in
+    let (many, room) = types-room s 1 c14 in
     let (low, free) = free-number s 0 many in
-    one-type good (new-type s) k d n low free fits (known s d c2) (aimed d c3) (formed n c4) (unborne s d n c11) room
+    one-type good (new-type s) k d n low free fits room
+    (row-fits s d (new-type s) n c2 c3 (formed n c4) (one-free s d n c11) (unused-nowhere good d (new-type s) free))
 
 pub new-attribute-keeps : (d : ℕ) (n : Name) (v : ℕ) (s : Schema) → Good s → Good (next s (new-attribute d n v s))
 unfolding new-attribute unknown-value-kind
@@ -200,7 +136,7 @@ unfolding not-1-to-4 no-object present rising
 named-fit s d run c5 c6 c7 c8 = record {
   some = λ e. absurd (let none = ap (λ (l : List ℕ). length l) e in omega (arith, long, many));
   few = omega (arith, long, few);
-  rises = put-all-rises (parents-named s d run) [] refl c8 (λ x i j. List·Memᴰ·not-nil j);
+  rises = put-all-rises number-order (parents-named s d run) [] refl (unrepeated (parents-named s d run) c8) (λ x i j. List·Memᴰ·not-nil j);
   objects = λ a i. not-false (is-object (kind-of s a)) (none-at (no-object s) c7 (one-of a i));
   there = λ a i.
       let (n, j, e) = map-in (type-named s d) (names-in run) (one-of a i) in

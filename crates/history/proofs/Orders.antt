@@ -2,10 +2,10 @@
 -- Assumes nothing.
 use Prim.Native.Nat.{ℕ, _<_}
 use native.Mathlib.Omega.{arith}
-use mathlib.Core.Path.{_≡_, refl, sym, ap, _∙_}
+use mathlib.Core.Path.{_≡_, refl, sym, ap, subst, _∙_}
 use mathlib.Core.Logic.{⊎-elim}
 use mathlib.Core.List.{List, [], _∷_, List·Memᴰ·not-nil, List·Memᴰ·cases-cons}
-use mathlib.Core.List.List·Memᴰ.{List·Memᴰ·head}
+use mathlib.Core.List.List·Memᴰ.{List·Memᴰ·head, List·Memᴰ·tail}
 use mathlib.Core.Bool.{Bool, true, false, not, cond, _&&_, _||_, false≢true}
 use lib.Dec.{ltb, eqb}
 use borrow.Author.Tests.{ltb-true, ltb-false, lt-ltb, eqb-true, eq-eqb}
@@ -13,9 +13,11 @@ use Rattle.rules.specs.01-Lists.{_∈_, rising, without, put}
 use Rattle.rules.specs.03-Names.{Name, name-before}
 use Rattle.rules.specs.04-Schema.{Side, side-code, presence-before, application-before, end-before}
 use Rattle.rules.specs.04-Schema.Side.{origin, destination}
+use Rattle.rules.specs.10-Changes.{put-all}
 use Rattle.rules.proofs.Bools.{or-cases, or-left, or-right, or-neither, and-both, and-of}
+use Rattle.rules.proofs.01-Lists.{Different}
 use Rattle.rules.proofs.03-Names.{same-name-is, name-transitive, name-connected}
-use Rattle.rules.proofs.Edits.{tail-rising, put-rising, without-in}
+use Rattle.rules.proofs.Edits.{tail-rising, put-rising, put-in, without-in}
 
 pub record Order {A : Type 0} (before : A → A → Bool) : Type 0 where
   pub connected : (x y : A) → before x y ≡ false → before y x ≡ false → x ≡ y
@@ -158,6 +160,14 @@ module _ {A : Type 0} {before : A → A → Bool} (o : Order before) where
       go : (x : A) → x ∈ rs → before x a ≡ false → (t : Bool) → before a x ≡ t → before a x ≡ true
       go x i e true q = q
       go x i e false q = absurd (n (rw (o .connected a x q e) i))
+
+  pub put-all-rises : (new rs : List A) → rising before rs ≡ true → Different new → ((y : A) → y ∈ new → y ∈ rs → ⊥)
+      → rising before (put-all before new rs) ≡ true
+  unfolding put-all
+  put-all-rises [] rs r apart none = r
+  put-all-rises (a ∷ new) rs r apart none =
+      put-all-rises new (put before a rs) (put-rises a rs r (none a (List·Memᴰ·head refl))) (apart .1) (λ y i j.
+      ⊎-elim (λ e. apart .0 (subst (λ (x : A). x ∈ new) e i)) (none y (List·Memᴰ·tail i)) (put-in before a rs j))
 
   rising-all : (x : A) (rs : List A) → rising before (x ∷ rs) ≡ true → (y : A) → y ∈ rs → before x y ≡ true
   unfolding rising

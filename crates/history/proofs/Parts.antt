@@ -2,22 +2,25 @@
 -- Assumes nothing.
 use Prim.Native.Nat.{ℕ, _≤_}
 use mathlib.Core.Path.{_≡_, refl, sym, ap, _∙_}
-use mathlib.Core.Logic.{⊎-elim}
 use mathlib.Core.List.{List, []}
-use mathlib.Core.Bool.{true, _&&_, _||_, false≢true}
-use lib.Dec.{ltb}
+use mathlib.Core.Bool.{true, _&&_, _||_}
+use lib.Dec.{ltb, eqb}
 use lib.ListN.{length, getD}
+use borrow.Author.Tests.{eqb-true, eq-eqb}
 use Rattle.rules.specs.01-Lists.{_∈_, rising}
 use Rattle.rules.specs.02-Limits.{limits}
 use Rattle.rules.specs.03-Names.{Name, well-formed, same-name}
 use Rattle.rules.specs.04-Schema.{Schema, Kind, Presence, Application, End, system-name, system-presence, used-sds, kind-of}
-use Rattle.rules.specs.04-Schema.{is-used, is-object, is-attribute, is-link, parents, present, has-end, other-side, presence-before}
+use Rattle.rules.specs.04-Schema.{is-used, is-object, is-attribute, is-link, parents, holds-type, present, has-end, other-side, presence-before}
 use Rattle.rules.specs.04-Schema.{application-before, end-before}
-use Rattle.rules.specs.04-Schema.Kind.{unused, object, attribute, designation, paired}
+use Rattle.rules.specs.04-Schema.Kind.{object, attribute, paired}
 use Rattle.rules.specs.05-Descent.{Parent, Descends}
 use Rattle.rules.specs.06-Good.{Good}
-use Rattle.rules.proofs.Bools.{or-cases, and-both, and-of}
-use Rattle.history.proofs.Carried.{descends-over}
+use Rattle.rules.specs.10-Changes.{with-sdss, with-applications, with-ends}
+use Rattle.rules.proofs.Bools.{and-both, and-of}
+use Rattle.rules.proofs.01-Lists.{any-at, any-where}
+use Rattle.rules.proofs.05-Descent.{descends-over}
+use Rattle.history.proofs.KindLaws.{object-used, attribute-used, link-used, either-used}
 
 -- a schema that has these tables and no others
 abbrev pub of-sdss : List Name → Schema
@@ -52,9 +55,9 @@ pub record Types (ks : List Kind) : Type 0 where
   pub not-both : (t r : ℕ) → kind-of (of-types ks) t ≡ paired 3 r → kind-of (of-types ks) r ≡ paired 3 t → ⊥
   pub acyclic : (t : ℕ) → Descends (of-types ks) t t → ⊥
 
-pub record Presences (ns : List Name) (ks : List Kind) (ps : List Presence) : Type 0 where
+-- the presences by themselves, before any type is asked about
+pub record Rows (ns : List Name) (ps : List Presence) : Type 0 where
   pub room : length ps ≤ limits .presences
-  pub of-used : (p : Presence) → p ∈ ps → is-used (kind-of (of-types ks) (p .type)) ≡ true
   pub in-used : (p : Presence) → p ∈ ps → used-sds (of-sdss ns) (p .sds) ≡ true
   pub named : (p : Presence) → p ∈ ps → well-formed (p .name) ≡ true
   pub unique : (p q : Presence) → p ∈ ps → q ∈ ps → p .sds ≡ q .sds → same-name (p .name) (q .name) ≡ true → p ≡ q
@@ -62,9 +65,17 @@ pub record Presences (ns : List Name) (ks : List Kind) (ps : List Presence) : Ty
   pub system : system-presence ∈ ps
   pub system-alone : (p : Presence) → p ∈ ps → p .sds ≡ 0 → p ≡ system-presence
   pub rises : rising presence-before ps ≡ true
+
+-- what its type asks of a presence of t in d: t is used, and its parents and its reverse are there
+pub record Closed (ks : List Kind) (ps : List Presence) (d t : ℕ) : Type 0 where
+  pub of-used : is-used (kind-of (of-types ks) t) ≡ true
+  pub with-parents : (a : ℕ) → Parent (of-types ks) t a → present (of-presences ps) d a ≡ true
+  pub with-reverse : (c r : ℕ) → kind-of (of-types ks) t ≡ paired c r → present (of-presences ps) d r ≡ true
+
+pub record Presences (ns : List Name) (ks : List Kind) (ps : List Presence) : Type 0 where
+  pub rows : Rows ns ps
+  pub each : (p : Presence) → p ∈ ps → Closed ks ps (p .sds) (p .type)
   pub somewhere : (t : ℕ) → is-used (kind-of (of-types ks) t) ≡ true → (d : ℕ) × (present (of-presences ps) d t ≡ true)
-  pub with-parents : (d t a : ℕ) → present (of-presences ps) d t ≡ true → Parent (of-types ks) t a → present (of-presences ps) d a ≡ true
-  pub with-reverse : (d t c r : ℕ) → present (of-presences ps) d t ≡ true → kind-of (of-types ks) t ≡ paired c r → present (of-presences ps) d r ≡ true
 
 pub record Applications (ks : List Kind) (ps : List Presence) (xs : List Application) : Type 0 where
   pub room : length xs ≤ limits .applications
@@ -90,6 +101,28 @@ pub record Parts (s : Schema) : Type 0 where
   pub presences : Presences (s .sdss) (s .types) (s .presences)
   pub applications : Applications (s .types) (s .presences) (s .applications)
   pub ends : Ends (s .types) (s .presences) (s .ends)
+
+-- a presence makes its type present in its SDS, and a type is present by a presence
+pub presence-there : {ps : List Presence} {p : Presence} → p ∈ ps → present (of-presences ps) (p .sds) (p .type) ≡ true
+unfolding present
+presence-there {p = p} i =
+    any-at (holds-type (p .sds) (p .type)) i
+    (and-of (eqb (p .sds) (p .sds)) (eqb (p .type) (p .type)) (eq-eqb (p .sds) (p .sds) refl) (eq-eqb (p .type) (p .type) refl))
+
+pub presence-of : (ps : List Presence) (d t : ℕ) → present (of-presences ps) d t ≡ true
+    → (p : Presence) × (p ∈ ps) × (p .sds ≡ d) × (p .type ≡ t)
+unfolding present
+presence-of ps d t e =
+    let (p, i, h) = any-where (holds-type d t) ps e in
+    let (a, b) = and-both (eqb (p .sds) d) (eqb (p .type) t) h in
+    (p, i, eqb-true (p .sds) d a, eqb-true (p .type) t b)
+
+pub closed-at : {ns : List Name} {ks : List Kind} {ps : List Presence} → Presences ns ks ps
+    → (d t : ℕ) → present (of-presences ps) d t ≡ true → Closed ks ps d t
+closed-at {ks = ks} {ps = ps} g d t e = let (p, i, a, b) = presence-of ps d t e in at p i a b
+  where
+    at : (p : Presence) → p ∈ ps → p .sds ≡ d → p .type ≡ t → Closed ks ps d t
+    at p i a b = rw (sym a, sym b) (g .each p i)
 
 -- a parent is one by the types alone
 module _ {s : Schema} where
@@ -120,18 +153,22 @@ parts-of {s} g = record {
     acyclic = λ t d. g .acyclic t (descends-over parent-of d);
   };
   presences = record {
-    room = g .presence-room;
-    of-used = g .presence-type;
-    in-used = g .presence-sds;
-    named = g .presence-named;
-    unique = g .local-names-unique;
-    one = g .one-presence;
-    system = g .system-holds;
-    system-alone = g .system-alone;
-    rises = g .presences-rising;
+    rows = record {
+      room = g .presence-room;
+      in-used = g .presence-sds;
+      named = g .presence-named;
+      unique = g .local-names-unique;
+      one = g .one-presence;
+      system = g .system-holds;
+      system-alone = g .system-alone;
+      rises = g .presences-rising;
+    };
+    each = λ p i. record {
+      of-used = g .presence-type p i;
+      with-parents = λ a by. g .parents-present (p .sds) (p .type) a (presence-there i) (parent-of (p .type) a by);
+      with-reverse = λ c r k. g .reverse-present (p .sds) (p .type) c r (presence-there i) k;
+    };
     somewhere = g .somewhere;
-    with-parents = λ d t a e p. g .parents-present d t a e (parent-of t a p);
-    with-reverse = g .reverse-present;
   };
   applications = record {
     room = g .application-room;
@@ -157,16 +194,16 @@ unfolding used-sds present has-end
 whole {s} p = record {
   sds-room = p .sdss .room;
   type-room = p .types .room;
-  presence-room = p .presences .room;
+  presence-room = p .presences .rows .room;
   application-room = p .applications .room;
   end-room = p .ends .room;
   sds-named = p .sdss .named;
   sds-names-unique = p .sdss .unique;
-  presence-type = p .presences .of-used;
-  presence-sds = p .presences .in-used;
-  presence-named = p .presences .named;
-  local-names-unique = p .presences .unique;
-  one-presence = p .presences .one;
+  presence-type = λ q i. p .presences .each q i .of-used;
+  presence-sds = p .presences .rows .in-used;
+  presence-named = p .presences .rows .named;
+  local-names-unique = p .presences .rows .unique;
+  one-presence = p .presences .rows .one;
   parents-few = p .types .few;
   parents-rising = p .types .rises;
   parents-objects = λ t a by. p .types .objects t a (parent-in t a by);
@@ -184,45 +221,58 @@ whole {s} p = record {
   end-object = p .ends .at-object;
   end-present = p .ends .there;
   system-named = p .sdss .system;
-  system-holds = p .presences .system;
-  system-alone = p .presences .system-alone;
+  system-holds = p .presences .rows .system;
+  system-alone = p .presences .rows .system-alone;
   system-no-application = p .applications .outside;
   system-no-end = p .ends .outside;
-  presences-rising = p .presences .rises;
+  presences-rising = p .presences .rows .rises;
   applications-rising = p .applications .rises;
   ends-rising = p .ends .rises;
   acyclic = λ t d. p .types .acyclic t (descends-over parent-in d);
   somewhere = p .presences .somewhere;
-  parents-present = λ d t a e by. p .presences .with-parents d t a e (parent-in t a by);
-  reverse-present = p .presences .with-reverse;
+  parents-present = λ d t a e by. closed-at (p .presences) d t e .with-parents a (parent-in t a by);
+  reverse-present = λ d t c r e k. closed-at (p .presences) d t e .with-reverse c r k;
   mirrored = p .ends .mirrored;
 }
 
+-- ---- with one table changed that no other speaks of, or only in part
+
+pub with-applications-good : {s : Schema} → Good s → {xs : List Application} → Applications (s .types) (s .presences) xs → Good (with-applications s xs)
+with-applications-good g a =
+    let p = parts-of g in
+    whole (record { sdss = p .sdss; types = p .types; presences = p .presences; applications = a; ends = p .ends })
+
+pub with-ends-good : {s : Schema} → Good s → {es : List End} → Ends (s .types) (s .presences) es → Good (with-ends s es)
+with-ends-good g e =
+    let p = parts-of g in
+    whole (record { sdss = p .sdss; types = p .types; presences = p .presences; applications = p .applications; ends = e })
+
+-- presences speak of SDSs only in that theirs are used
+pub with-sdss-good : {s : Schema} → Good s → {ns : List Name} → Sdss ns
+    → ((p : Presence) → p ∈ s .presences → used-sds (of-sdss ns) (p .sds) ≡ true) → Good (with-sdss s ns)
+with-sdss-good {s} g {ns} sdss used =
+    let p = parts-of g in
+    whole (record {
+      sdss = sdss;
+      types = p .types;
+      presences = record { rows = over (p .presences .rows); each = p .presences .each; somewhere = p .presences .somewhere };
+      applications = p .applications;
+      ends = p .ends;
+    })
+  where
+    over : Rows (s .sdss) (s .presences) → Rows ns (s .presences)
+    over r = record {
+      room = r .room;
+      in-used = used;
+      named = r .named;
+      unique = r .unique;
+      one = r .one;
+      system = r .system;
+      system-alone = r .system-alone;
+      rises = r .rises;
+    }
+
 -- ---- over types that are what they were, and presences that are still there
-
-pub object-used : (k : Kind) → is-object k ≡ true → is-used k ≡ true
-object-used unused e = absurd (false≢true e)
-object-used (object ps) e = refl
-object-used (attribute v) e = absurd (false≢true e)
-object-used designation e = absurd (false≢true e)
-object-used (paired c r) e = absurd (false≢true e)
-
-pub attribute-used : (k : Kind) → is-attribute k ≡ true → is-used k ≡ true
-attribute-used unused e = absurd (false≢true e)
-attribute-used (object ps) e = absurd (false≢true e)
-attribute-used (attribute v) e = refl
-attribute-used designation e = absurd (false≢true e)
-attribute-used (paired c r) e = absurd (false≢true e)
-
-pub link-used : (k : Kind) → is-link k ≡ true → is-used k ≡ true
-link-used unused e = absurd (false≢true e)
-link-used (object ps) e = absurd (false≢true e)
-link-used (attribute v) e = absurd (false≢true e)
-link-used designation e = refl
-link-used (paired c r) e = refl
-
-pub either-used : (k : Kind) → is-object k || is-link k ≡ true → is-used k ≡ true
-either-used k e = ⊎-elim (object-used k) (link-used k) (or-cases (is-object k) (is-link k) e)
 
 module _ (ks ks′ : List Kind) (ps ps′ : List Presence)
     (same : (t : ℕ) → is-used (kind-of (of-types ks) t) ≡ true → kind-of (of-types ks′) t ≡ kind-of (of-types ks) t)

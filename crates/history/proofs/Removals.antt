@@ -1,6 +1,5 @@
 -- Remove type keeps a schema good. Assumes nothing.
 use Prim.Native.Nat.{ℕ}
-use native.Mathlib.Omega.{arith}
 use mathlib.Core.Path.{_≡_, refl, sym, subst, ap, _∙_}
 use mathlib.Core.Logic.{⊎-elim}
 use mathlib.Core.List.{List, [], _∷_, List·Memᴰ·not-nil, List·Memᴰ·cases-cons, List·Memᴰ·eq-of-singleton}
@@ -13,57 +12,26 @@ use borrow.Author.Tests.{eqb-true, eqb-false, eq-eqb, leb-true, leb-false}
 use Rattle.rules.specs.01-Lists.{_∈_, any, among, without}
 use Rattle.rules.specs.03-Names.{Name}
 use Rattle.rules.specs.04-Schema.{Schema, Kind, Presence, Application, End, system-presence, kind-of, is-used, is-object, is-attribute, is-link}
-use Rattle.rules.specs.04-Schema.{parents, parents-in, is-parent, reverse, reverse-in, with-reverse, present, holds-type, type-named}
+use Rattle.rules.specs.04-Schema.{parents, parents-in, is-parent, reverse, reverse-in, with-reverse, present, type-named}
 use Rattle.rules.specs.04-Schema.Kind.{unused, object, attribute, designation, paired}
 use Rattle.rules.specs.05-Descent.{Parent}
 use Rattle.rules.specs.06-Good.{Good}
-use Rattle.rules.specs.09-Refusals.{system-sds, has-child, in-application, in-end, still-used}
+use Rattle.rules.specs.09-Refusals.{has-child, in-application, in-end, still-used}
 use Rattle.rules.specs.09-Refusals.Outcome.{done}
 use Rattle.rules.specs.10-Changes.{with-types, with-presences, less-gone, remove-type, remove-type-refusals}
 use Rattle.rules.specs.13-History.{next}
 use Rattle.rules.proofs.Bools.{or-left, or-right, or-neither, and-both, and-of}
-use Rattle.rules.proofs.01-Lists.{any-at, any-where}
-use Rattle.rules.proofs.05-Descent.{child-object}
+use Rattle.rules.proofs.01-Lists.{any-at, any-where, none-at, among-in, in-among}
+use Rattle.rules.proofs.05-Descent.{descends-over, child-object}
 use Rattle.rules.proofs.Edits.{without-in, without-keeps}
 use Rattle.rules.proofs.09-Refusals.{verdict-keeps}
-use Rattle.history.proofs.Carried.{descends-over, without-long}
-use Rattle.history.proofs.Parts.{of-types, of-presences, Types, Presences, Applications, Ends, Parts, object-used, parts-of, whole}
-use Rattle.history.proofs.Orders.{presence-order, without-rises}
-
--- ---- lists
-
-pub among-in : (l : List ℕ) (n : ℕ) → among l n ≡ true → n ∈ l
-among-in l n e = let (x, i, h) = any-where (eqb n) l e in subst (λ (y : ℕ). y ∈ l) (sym (eqb-true n x h)) i
-
-pub in-among : {l : List ℕ} {n : ℕ} → n ∈ l → among l n ≡ true
-in-among {l} {n} i = any-at (eqb n) i (eq-eqb n n refl)
-
--- where none passes this one does not
-pub none-at : {A : Type 0} (p : A → Bool) {x : A} {l : List A} → any p l ≡ false → x ∈ l → p x ≡ true → ⊥
-none-at p e i h = true≢false (sym (any-at p i h) ∙ e)
-
--- ---- presences
-
-module _ {ps : List Presence} where
-  pub held : {p : Presence} → p ∈ ps → present (of-presences ps) (p .sds) (p .type) ≡ true
-  unfolding present
-  held {p} i =
-      any-at (holds-type (p .sds) (p .type)) i
-      (and-of (eqb (p .sds) (p .sds)) (eqb (p .type) (p .type)) (eq-eqb (p .sds) (p .sds) refl) (eq-eqb (p .type) (p .type) refl))
-
-  pub holder : (d t : ℕ) → present (of-presences ps) d t ≡ true → (p : Presence) × (p ∈ ps) × (p .sds ≡ d) × (p .type ≡ t)
-  unfolding present
-  holder d t e =
-      let (p, i, h) = any-where (holds-type d t) ps e in
-      let (a, b) = and-both (eqb (p .sds) d) (eqb (p .type) t) h in
-      (p, i, eqb-true (p .sds) d a, eqb-true (p .type) t b)
+use Rattle.history.proofs.KindLaws.{object-used, kind-unused, has-reverse}
+use Rattle.history.proofs.Parts.{of-types, of-presences, Types, Closed, Presences, Applications, Ends, Parts, presence-there, presence-of, closed-at}
+use Rattle.history.proofs.Parts.{parts-of, whole}
+use Rattle.history.proofs.Passed.{aimed}
+use Rattle.history.proofs.Rows.{rows-less}
 
 -- ---- fewer presences, and of the types those alone that still have one
-
--- with each type its parents and its reverse are present
-record Closed (ks : List Kind) (ps : List Presence) : Type 0 where
-  with-parents : (d t a : ℕ) → present (of-presences ps) d t ≡ true → Parent (of-types ks) t a → present (of-presences ps) d a ≡ true
-  with-reverse : (d t c r : ℕ) → present (of-presences ps) d t ≡ true → kind-of (of-types ks) t ≡ paired c r → present (of-presences ps) d r ≡ true
 
 -- what is present is what it was, and what is not is unused
 record Left (ks ks′ : List Kind) (ps : List Presence) : Type 0 where
@@ -71,7 +39,11 @@ record Left (ks ks′ : List Kind) (ps : List Presence) : Type 0 where
   stays : (d t : ℕ) → present (of-presences ps) d t ≡ true → kind-of (of-types ks′) t ≡ kind-of (of-types ks) t
   found : (t : ℕ) → is-used (kind-of (of-types ks′) t) ≡ true → (d : ℕ) × (present (of-presences ps) d t ≡ true)
 
-module _ {ks ks′ : List Kind} {ps : List Presence} (closed : Closed ks ps) (left : Left ks ks′ ps) where
+-- what is present is there with its parents and its reverse
+abbrev All-closed : List Kind → List Presence → Type 0
+All-closed ks ps = (d t : ℕ) → present (of-presences ps) d t ≡ true → Closed ks ps d t
+
+module _ {ks ks′ : List Kind} {ps : List Presence} (closed : All-closed ks ps) (left : Left ks ks′ ps) where
   was : (t : ℕ) (k : Kind) → is-used k ≡ true → kind-of (of-types ks′) t ≡ k → kind-of (of-types ks) t ≡ k
   was t k u e = let (d, h) = left .found t (ap is-used e ∙ u) in sym (left .stays d t h) ∙ e
 
@@ -88,12 +60,12 @@ module _ {ks ks′ : List Kind} {ps : List Presence} (closed : Closed ks ps) (le
   parent-left : (t a : ℕ) → Parent (of-types ks′) t a → kind-of (of-types ks′) a ≡ kind-of (of-types ks) a
   parent-left t a by =
       let (d, h) = left .found t (parent-used t a by) in
-      left .stays d a (closed .with-parents d t a h (parent-was t a by))
+      left .stays d a (closed d t h .with-parents a (parent-was t a by))
 
   reverse-left : (t c r : ℕ) → kind-of (of-types ks′) t ≡ paired c r → kind-of (of-types ks′) r ≡ kind-of (of-types ks) r
   reverse-left t c r e =
       let (d, h) = left .found t (ap is-used e) in
-      left .stays d r (closed .with-reverse d t c r h (was t (paired c r) refl e))
+      left .stays d r (closed d t h .with-reverse c r (was t (paired c r) refl e))
 
   types-left : system-presence ∈ ps → Types ks → Types ks′
   types-left system g = record {
@@ -101,7 +73,7 @@ module _ {ks ks′ : List Kind} {ps : List Presence} (closed : Closed ks ps) (le
     few = λ t l e. g .few t l (was t (object l) refl e);
     rises = λ t l e. g .rises t l (was t (object l) refl e);
     objects = λ t a by. ap is-object (parent-left t a by) ∙ g .objects t a (parent-was t a by);
-    root = left .stays 0 0 (held system) ∙ g .root;
+    root = left .stays 0 0 (presence-there system) ∙ g .root;
     only-root = λ t e. g .only-root t (was t (object []) refl e);
     value-kinds = λ t v e. g .value-kinds t v (was t (attribute v) refl e);
     categories = λ t c r e. g .categories t c r (was t (paired c r) refl e);
@@ -136,21 +108,18 @@ module _ {ks ks′ : List Kind} {ps : List Presence} (closed : Closed ks ps) (le
     mirrored = λ e i c r k. g .mirrored e i c r (was (e .link) (paired c r) refl k);
   }
 
-presences-left : {ns : List Name} {ks ks′ : List Kind} (q : Presence → Bool) {ps : List Presence} → Closed ks (without q ps) → Left ks ks′ (without q ps)
-    → q system-presence ≡ false → Presences ns ks ps → Presences ns ks′ (without q ps)
-presences-left {ks = ks} q {ps} closed left stays g = record {
-  room = omega (arith, without-long q ps, g .room);
-  of-used = λ p i. ap is-used (left .stays (p .sds) (p .type) (held i)) ∙ g .of-used p (without-in q ps i .0);
-  in-used = λ p i. g .in-used p (without-in q ps i .0);
-  named = λ p i. g .named p (without-in q ps i .0);
-  unique = λ p o i j. g .unique p o (without-in q ps i .0) (without-in q ps j .0);
-  one = λ p o i j. g .one p o (without-in q ps i .0) (without-in q ps j .0);
-  system = without-keeps q ps (g .system) stays;
-  system-alone = λ p i. g .system-alone p (without-in q ps i .0);
-  rises = without-rises presence-order q ps (g .rises);
+presences-left : {ns : List Name} {ks ks′ : List Kind} (q : Presence → Bool) {ps : List Presence} → All-closed ks (without q ps)
+    → Left ks ks′ (without q ps) → q system-presence ≡ false → Presences ns ks ps → Presences ns ks′ (without q ps)
+presences-left q closed left stays g = record {
+  rows = rows-less (g .rows) q stays;
+  each = λ p i.
+      let c = closed (p .sds) (p .type) (presence-there i) in
+      record {
+        of-used = ap is-used (left .stays (p .sds) (p .type) (presence-there i)) ∙ c .of-used;
+        with-parents = λ a by. c .with-parents a (parent-was closed left (p .type) a by);
+        with-reverse = λ b r k. c .with-reverse b r (was closed left (p .type) (paired b r) refl k);
+      };
   somewhere = left .found;
-  with-parents = λ d t a e by. closed .with-parents d t a e (parent-was closed left t a by);
-  with-reverse = λ d t c r e h. closed .with-reverse d t c r e (was closed left t (paired c r) refl h);
 }
 
 -- ---- the types that are gone
@@ -248,34 +217,19 @@ never-both false y f = refl
 module _ (d : ℕ) (ts : List ℕ) (ps : List Presence) where
   present-was : (e u : ℕ) → present (of-presences (without (goes d ts) ps)) e u ≡ true → (present (of-presences ps) e u ≡ true) × (e ≡ d → u ∈ ts → ⊥)
   present-was e u h =
-      let (p, i, same, same′) = holder e u h in
+      let (p, i, same, same′) = presence-of (without (goes d ts) ps) e u h in
       let (j, q) = without-in (goes d ts) ps i in
       let q′ : eqb e d && among ts u ≡ false = rw (same, same′) at q in
-      (rw (same, same′) at (held j), λ a m. true≢false (sym (and-of (eqb e d) (among ts u) (eq-eqb e d a) (in-among m)) ∙ q′))
+      (rw (same, same′) at (presence-there j), λ a m. true≢false (sym (and-of (eqb e d) (among ts u) (eq-eqb e d a) (in-among m)) ∙ q′))
 
   present-stays : (e u : ℕ) → present (of-presences ps) e u ≡ true → (e ≡ d → u ∈ ts → ⊥) → present (of-presences (without (goes d ts) ps)) e u ≡ true
   present-stays e u h n =
-      let (p, i, same, same′) = holder e u h in
+      let (p, i, same, same′) = presence-of ps e u h in
       let out : goes d ts p ≡ false
       = never-both (eqb (p .sds) d) (among ts (p .type)) (λ a b. n (sym same ∙ eqb-true (p .sds) d a) (rw same′ at (among-in ts (p .type) b))) in
-      rw (same, same′) at (held (without-keeps (goes d ts) ps i out))
+      rw (same, same′) at (presence-there (without-keeps (goes d ts) ps i out))
 
 -- ---- remove type
-
--- a type with this reverse
-has-reverse : (k : Kind) (r : ℕ) → r ∈ reverse-in k → (c : ℕ) × (k ≡ paired c r)
-has-reverse unused r i = absurd (List·Memᴰ·not-nil i)
-has-reverse (object ps) r i = absurd (List·Memᴰ·not-nil i)
-has-reverse (attribute v) r i = absurd (List·Memᴰ·not-nil i)
-has-reverse designation r i = absurd (List·Memᴰ·not-nil i)
-has-reverse (paired c q) r i = (c, ap (paired c) (sym (List·Memᴰ·eq-of-singleton i)))
-
-kind-unused : (k : Kind) → is-used k ≡ false → k ≡ unused
-kind-unused unused e = refl
-kind-unused (object ps) e = absurd (true≢false e)
-kind-unused (attribute v) e = absurd (true≢false e)
-kind-unused designation e = absurd (true≢false e)
-kind-unused (paired c r) e = absurd (true≢false e)
 
 module _ {s : Schema} (g : Good s) (d t : ℕ) (outside : d ≡ 0 → ⊥) (free : any (still-used s d) (with-reverse s t) ≡ false) where
   -- of a pair both are taken or neither
@@ -302,22 +256,18 @@ module _ {s : Schema} (g : Good s) (d t : ℕ) (outside : d ≡ 0 → ⊥) (free
   free-of : (u : ℕ) → u ∈ with-reverse s t → (has-child s d u ≡ false) × (in-application s d u ≡ false) × (in-end s d u ≡ false)
   unfolding still-used
   free-of u i =
-      let (a, rest) = or-neither (has-child s d u) (in-application s d u || in-end s d u) (none (still-used s d u) refl) in
+      let (a, rest) = or-neither (has-child s d u) (in-application s d u || in-end s d u) (none-at (still-used s d) free i) in
       let (b, c) = or-neither (in-application s d u) (in-end s d u) rest in
       (a, b, c)
-    where
-      none : (b : Bool) → still-used s d u ≡ b → still-used s d u ≡ false
-      none true e = absurd (none-at (still-used s d) free i e)
-      none false e = e
 
   -- in SDS d no child of theirs is present, no application and no end speaks of them
   childless : (u v : ℕ) → u ∈ with-reverse s t → present s d v ≡ true → Parent (of-types (s .types)) v u → ⊥
   unfolding present parents is-parent has-child
   childless u v i e by =
-      let (p, j, h) = any-where (holds-type d v) (s .presences) e in
-      let (a, b) = and-both (eqb (p .sds) d) (eqb (p .type) v) h in
-      none-at (λ q. eqb (q .sds) d && is-parent s (q .type) u) (free-of u i .0) j
-      (and-of (eqb (p .sds) d) (is-parent s (p .type) u) a (rw (eqb-true (p .type) v b) (in-among (by .listed))))
+      let (p, j, a, b) = presence-of (s .presences) d v e in
+      true≢false
+      (sym (and-of (eqb (p .sds) d) (is-parent s (p .type) u) (eq-eqb (p .sds) d a) (rw b (in-among (by .listed))))
+      ∙ none-at (λ q. eqb (q .sds) d && is-parent s (q .type) u) (free-of u i .0) j)
 
   unapplied : (x : Application) → x ∈ s .applications
       → (x .sds ≡ d → x .to ∈ with-reverse s t → ⊥) × (x .sds ≡ d → x .attribute ∈ with-reverse s t → ⊥)
@@ -330,8 +280,9 @@ module _ {s : Schema} (g : Good s) (d t : ℕ) (outside : d ≡ 0 → ⊥) (free
     where
       speaks : x .sds ≡ d → (u : ℕ) → u ∈ with-reverse s t → eqb (x .to) u || eqb (x .attribute) u ≡ true → ⊥
       speaks same u i e =
-          none-at (λ y. eqb (y .sds) d && (eqb (y .to) u || eqb (y .attribute) u)) (free-of u i .1) j
-          (and-of (eqb (x .sds) d) (eqb (x .to) u || eqb (x .attribute) u) (eq-eqb (x .sds) d same) e)
+          true≢false
+          (sym (and-of (eqb (x .sds) d) (eqb (x .to) u || eqb (x .attribute) u) (eq-eqb (x .sds) d same) e)
+          ∙ none-at (λ y. eqb (y .sds) d && (eqb (y .to) u || eqb (y .attribute) u)) (free-of u i .1) j)
 
   endless : (x : End) → x ∈ s .ends → (x .sds ≡ d → x .link ∈ with-reverse s t → ⊥) × (x .sds ≡ d → x .object ∈ with-reverse s t → ⊥)
   unfolding in-end
@@ -342,8 +293,9 @@ module _ {s : Schema} (g : Good s) (d t : ℕ) (outside : d ≡ 0 → ⊥) (free
     where
       speaks : x .sds ≡ d → (u : ℕ) → u ∈ with-reverse s t → eqb (x .link) u || eqb (x .object) u ≡ true → ⊥
       speaks same u i e =
-          none-at (λ y. eqb (y .sds) d && (eqb (y .link) u || eqb (y .object) u)) (free-of u i .2) j
-          (and-of (eqb (x .sds) d) (eqb (x .link) u || eqb (x .object) u) (eq-eqb (x .sds) d same) e)
+          true≢false
+          (sym (and-of (eqb (x .sds) d) (eqb (x .link) u || eqb (x .object) u) (eq-eqb (x .sds) d same) e)
+          ∙ none-at (λ y. eqb (y .sds) d && (eqb (y .link) u || eqb (y .object) u)) (free-of u i .2) j)
 
   -- the presences that are left, and the types
   abbrev rest : List Presence
@@ -355,23 +307,23 @@ module _ {s : Schema} (g : Good s) (d t : ℕ) (outside : d ≡ 0 → ⊥) (free
   stays-present : (e u : ℕ) → present (of-presences (s .presences)) e u ≡ true → (e ≡ d → u ∈ with-reverse s t → ⊥) → present (of-presences rest) e u ≡ true
   stays-present = present-stays d (with-reverse s t) (s .presences)
 
-  rest-closed : Closed (s .types) rest
+  rest-closed : All-closed (s .types) rest
   unfolding present
-  rest-closed = record {
-    with-parents = λ e v a h by.
-        let (w, n) = present-was d (with-reverse s t) (s .presences) e v h in
-        stays-present e a (parts-of g .presences .with-parents e v a w by)
-        (λ same i. childless a v i (subst (λ (x : ℕ). present s x v ≡ true) same w) by);
-    with-reverse = λ e u c r h k.
-        let (w, n) = present-was d (with-reverse s t) (s .presences) e u h in
-        stays-present e r (parts-of g .presences .with-reverse e u c r w k) (λ same i. n same (pair-closed u c r k i));
-  }
+  rest-closed e v h =
+      let (w, n) = present-was d (with-reverse s t) (s .presences) e v h in
+      let c = closed-at (parts-of g .presences) e v w in
+      record {
+        of-used = c .of-used;
+        with-parents = λ a by. stays-present e a (c .with-parents a by)
+            (λ same i. childless a v i (subst (λ (x : ℕ). present s x v ≡ true) same w) by);
+        with-reverse = λ b r k. stays-present e r (c .with-reverse b r k) (λ same i. n same (pair-closed v b r k i));
+      }
 
   types-rest : Left (s .types) (left .types) rest
   types-rest = record {
     long = gone-long (with-reverse s t) (with-presences s rest);
     stays = λ e u h.
-        let (p, i, same, same′) = holder e u h in
+        let (p, i, same, same′) = presence-of rest e u h in
         gone-stays u (with-reverse s t) (with-presences s rest) (any-at (λ q. eqb (q .type) u) i (eq-eqb (p .type) u same′));
     found = λ u h. found u h (has-presence rest u) refl;
   }
@@ -384,7 +336,7 @@ module _ {s : Schema} (g : Good s) (d t : ℕ) (outside : d ≡ 0 → ⊥) (free
       found : (u : ℕ) → is-used (kind-of left u) ≡ true → (b : Bool) → has-presence rest u ≡ b → (e : ℕ) × (present (of-presences rest) e u ≡ true)
       found u h true q =
           let (p, i, same) = any-where (λ q. eqb (q .type) u) rest q in
-          (p .sds, subst (λ (x : ℕ). present (of-presences rest) (p .sds) x ≡ true) (eqb-true (p .type) u same) (held i))
+          (p .sds, subst (λ (x : ℕ). present (of-presences rest) (p .sds) x ≡ true) (eqb-true (p .type) u same) (presence-there i))
       found u h false q =
           let (e, w) = parts-of g .presences .somewhere u (used u h (is-used (kind-of s u)) refl) in
           let never : u ∈ with-reverse s t → ⊥ = λ i. false≢true (sym (ap is-used (gone-goes u (with-reverse s t) (with-presences s rest) i q)) ∙ h) in
@@ -395,7 +347,7 @@ module _ {s : Schema} (g : Good s) (d t : ℕ) (outside : d ≡ 0 → ⊥) (free
       subst Good (sym (gone-is (with-reverse s t) (with-presences s rest)))
       (whole (record {
         sdss = p .sdss;
-        types = types-left rest-closed types-rest (without-keeps (goes d (with-reverse s t)) (s .presences) (p .presences .system) system) (p .types);
+        types = types-left rest-closed types-rest (without-keeps (goes d (with-reverse s t)) (s .presences) (p .presences .rows .system) system) (p .types);
         presences = presences-left (goes d (with-reverse s t)) rest-closed types-rest system (p .presences);
         applications = applications-left rest-closed types-rest applied (p .applications);
         ends = ends-left rest-closed types-rest ended (p .ends);
@@ -423,12 +375,12 @@ module _ {s : Schema} (g : Good s) (d t : ℕ) (outside : d ≡ 0 → ⊥) (free
           (stays-present (x .sds) (x .link) a link-free, stays-present (x .sds) (x .object) b object-free)
 
 pub remove-type-keeps : (d : ℕ) (n : Name) (s : Schema) → Good s → Good (next s (remove-type d n s))
-unfolding remove-type system-sds
+unfolding remove-type
 remove-type-keeps d n s g =
     verdict-keeps (λ o. Good (next s o)) (remove-type-refusals d n s)
     (done t 0 0 (less-gone (with-reverse s t) (with-presences s (without (goes d (with-reverse s t)) (s .presences)))))
     (λ _. g)
-    (λ passed. removed-good g d t (λ z. true≢false (sym (eq-eqb d 0 z) ∙ passed .1 .0)) (passed .1 .1 .1 .1 .0))
+    (λ passed. removed-good g d t (aimed d (passed .1 .0)) (passed .1 .1 .1 .1 .0))
   where
     t : ℕ
     t = type-named s d n

@@ -1,5 +1,5 @@
 -- A rename keeps a schema good: the same types are present in the same SDSs, and no other bears the new name. Assumes nothing.
-use Prim.Native.Nat.{ℕ, _≤_}
+use Prim.Native.Nat.{ℕ, _+_, _≤_}
 use native.Mathlib.Omega.{arith}
 use mathlib.Core.Path.{_≡_, refl, sym, ap, _∙_}
 use mathlib.Core.Logic.{inl}
@@ -7,7 +7,7 @@ use mathlib.Core.List.{List, []}
 use mathlib.Core.Bool.{Bool, true, false, not, true≢false}
 use lib.Dec.{eqb}
 use lib.ListN.{length}
-use borrow.Author.Tests.{eqb-true, eq-eqb, ne-eqb}
+use borrow.Author.Tests.{not-false, eqb-true, eq-eqb, ne-eqb}
 use Rattle.rules.specs.01-Lists.{_∈_, first, without, put}
 use Rattle.rules.specs.02-Limits.{limits}
 use Rattle.rules.specs.03-Names.{Name, same-name}
@@ -20,12 +20,11 @@ use Rattle.rules.specs.13-History.{next}
 use Rattle.rules.proofs.Bools.{or-neither, and-both, and-of, and-rest}
 use Rattle.rules.proofs.01-Lists.{any-at, any-none}
 use Rattle.rules.proofs.03-Names.{same-name-is, same-name-refl}
-use Rattle.rules.proofs.Edits.{put-long, put-old, first-in, without-in, without-keeps}
+use Rattle.rules.proofs.Edits.{put-each, put-old, first-in, without-in, without-keeps, without-fewer}
 use Rattle.rules.proofs.09-Refusals.{verdict-keeps}
-use Rattle.history.proofs.Carried.{named-present, flipped, put-all-of}
-use Rattle.history.proofs.Parts.{of-presences, parts-of}
-use Rattle.history.proofs.Rows.{Fits, rows-of, rows-less, rows-more, presence-there, present-over, present-new, present-used}
-use Rattle.history.proofs.Rows.{presences-grown, with-still, without-fewer, known-used, aimed, formed}
+use Rattle.history.proofs.Parts.{of-presences, presence-there, parts-of}
+use Rattle.history.proofs.Passed.{known, aimed, formed, named-present}
+use Rattle.history.proofs.Rows.{present-over, present-new, Row-fits, rows-less, rows-more, with-presences-good}
 
 module _ (s : Schema) (g : Good s) (d : ℕ) (new : Name) (t : ℕ) where
   abbrev x : Presence
@@ -50,15 +49,14 @@ module _ (s : Schema) (g : Good s) (d : ℕ) (new : Name) (t : ℕ) where
       let names : q .name ≡ p .name = same-name-is (q .name) new b ∙ sym (same-name-is (p .name) new b′) in
       let one : q ≡ p = g .local-names-unique q p i j (eqb-true (q .sds) d a ∙ sym (eqb-true (p .sds) d a′))
       (ap (λ (m : Name). same-name m (p .name)) names ∙ same-name-refl (p .name)) in
-      ap (λ r. r .type) one ∙ eqb-true (p .type) t (flipped (eqb (p .type) t) (and-rest (bears s d new) (not (eqb (p .type) t)) borne e))
+      ap (λ r. r .type) one ∙ eqb-true (p .type) t (not-false (eqb (p .type) t) (and-rest (bears s d new) (not (eqb (p .type) t)) borne e))
 
   -- without it none of type t is left, nor one of the new name
-  fits : unknown-sds s d ≡ false → system-sds d ≡ false → malformed new ≡ false → present s d t ≡ true → borne-by-another s d t new ≡ false
-      → Fits (s .sdss) (s .types) left x
-  unfolding present used-sds
-  fits known outside well there another = record {
-    of-used = present-used (parts-of g .presences) d t there;
-    in-used = known-used s d known;
+  fits : unknown-sds s d ≡ false → system-sds d ≡ false → malformed new ≡ false → borne-by-another s d t new ≡ false
+      → Row-fits (s .sdss) left x
+  unfolding used-sds
+  fits is-known outside well another = record {
+    in-used = known s d is-known;
     outside = aimed d outside;
     named = formed new well;
     free = any-none (holds-name d new) left (λ q i. other q i (holds-name d new q) refl);
@@ -73,9 +71,9 @@ module _ (s : Schema) (g : Good s) (d : ℕ) (new : Name) (t : ℕ) where
       other q i false h = h
 
   -- one out and one in
-  room : present s d t ≡ true → length after ≤ limits .presences
+  room : present s d t ≡ true → length left + 1 ≤ limits .presences
   unfolding present
-  room there = omega (arith, put-long presence-before x left, without-fewer (holds-type d t) (s .presences) there, g .presence-room)
+  room there = omega (arith, without-fewer (holds-type d t) (s .presences) there, g .presence-room)
 
   still : (e u : ℕ) → present (of-presences (s .presences)) e u ≡ true → present (of-presences after) e u ≡ true
   still = present-over (s .presences) after (λ p i. go p i (holds-type d t p) refl)
@@ -89,17 +87,16 @@ module _ (s : Schema) (g : Good s) (d : ℕ) (new : Name) (t : ℕ) where
   was : present s d t ≡ true → (p : Presence) → p ∈ after → present (of-presences (s .presences)) (p .sds) (p .type) ≡ true
   unfolding present
   was there p i =
-      put-all-of presence-before i (λ q. present (of-presences (s .presences)) (q .sds) (q .type) ≡ true) there
+      put-each presence-before i (λ q. present (of-presences (s .presences)) (q .sds) (q .type) ≡ true) there
       (λ j. presence-there (without-in (holds-type d t) (s .presences) j .0))
 
   renamed : unknown-sds s d ≡ false → system-sds d ≡ false → malformed new ≡ false → present s d t ≡ true → borne-by-another s d t new ≡ false
       → Good (with-presences s after)
-  renamed known outside well there another =
-      with-still g
-      (presences-grown (parts-of g .presences)
-      (rows-more (rows-less (rows-of (parts-of g .presences)) (holds-type d t) stays) (fits known outside well there another))
-      (room there) still (λ p i. inl (was there p i)))
+  renamed is-known outside well there another =
+      with-presences-good g
+      (rows-more (rows-less (parts-of g .presences .rows) (holds-type d t) stays) x (room there) (fits is-known outside well another))
       still
+      (λ p i. inl (was there p i))
     where
       stays : holds-type d t system-presence ≡ false
       stays = rw (ne-eqb 0 d (λ z. aimed d outside (sym z)))

@@ -2,41 +2,31 @@
 use Prim.Native.Nat.{ℕ, _<_}
 use native.Mathlib.Omega.{arith}
 use mathlib.Core.Path.{_≡_, refl, sym, ap, subst, _∙_}
-use mathlib.Core.Logic.{_⊎_, inl, inr, ⊎-elim}
+use mathlib.Core.Logic.{⊎-elim}
 use mathlib.Core.List.{List, []}
 use mathlib.Core.Bool.{Bool, true, false, not, _&&_, true≢false, false≢true}
 use lib.Dec.{leb, ltb, eqb}
 use lib.ListN.{length, getD, set, length-set, List·getD-eq-default}
-use lib.Seq.{getD-set-same, getD-set-other}
-use borrow.Author.Tests.{leb-false, ltb-true, ltb-false, eqb-true, eqb-false, eq-eqb}
+use lib.Seq.{getD-set-other}
+use borrow.Author.Tests.{not-true, leb-false, ltb-true, ltb-false, eq-eqb}
 use Rattle.rules.specs.01-Lists.{_∈_, any}
 use Rattle.rules.specs.02-Limits.{limits}
 use Rattle.rules.specs.03-Names.{Name, well-formed, blank, same-name}
-use Rattle.rules.specs.04-Schema.{Schema, Kind, Presence, used-sds}
+use Rattle.rules.specs.04-Schema.{Schema, Presence, used-sds}
 use Rattle.rules.specs.06-Good.{Good}
-use Rattle.rules.specs.09-Refusals.{unknown-sds, system-sds, malformed, sds-name-taken, holds-presence, free-sdss, no-free-sds}
+use Rattle.rules.specs.09-Refusals.{unknown-sds, sds-name-taken, holds-presence, free-sdss, no-free-sds}
 use Rattle.rules.specs.09-Refusals.Outcome.{done}
 use Rattle.rules.specs.10-Changes.{with-sdss, new-sds, new-sds-number, new-sds-refusals, remove-sds, remove-sds-refusals}
 use Rattle.rules.specs.13-History.{next}
 use Rattle.rules.proofs.Bools.{or-neither, and-of}
 use Rattle.rules.proofs.01-Lists.{any-at, place-in, numbers-in}
 use Rattle.rules.proofs.03-Names.{same-name-is, same-name-refl}
+use Rattle.rules.proofs.Edits.{set-either}
 use Rattle.rules.proofs.09-Refusals.{verdict-keeps}
-use Rattle.history.proofs.Carried.{flipped}
-use Rattle.history.proofs.Parts.{of-sdss, Sdss, Presences, parts-of, whole}
+use Rattle.history.proofs.Parts.{of-sdss, Sdss, parts-of, with-sdss-good}
+use Rattle.history.proofs.Passed.{aimed, formed}
 
 -- ---- one name written
-
--- what stands at a place of a list of which one element was written
-module _ {A : Type 0} (l : List A) (i : ℕ) (x d : A) (h : i < length l) where
-  pub written : (j : ℕ) → ((j ≡ i) × (getD (set l i x) j d ≡ x)) ⊎ ((j ≡ i → ⊥) × (getD (set l i x) j d ≡ getD l j d))
-  written j = go (eqb j i) refl
-    where
-      go : (t : Bool) → eqb j i ≡ t → ((j ≡ i) × (getD (set l i x) j d ≡ x)) ⊎ ((j ≡ i → ⊥) × (getD (set l i x) j d ≡ getD l j d))
-      go true q =
-          let same = eqb-true j i q in
-          inl (same, ap (λ (k : ℕ). getD (set l i x) k d) same ∙ getD-set-same l i x d h)
-      go false q = inr (eqb-false j i q, getD-set-other l i j x d (eqb-false j i q))
 
 -- an SDS is used where its name is not blank, so alike where the names are the same
 used-alike : (ns ms : List Name) (e : ℕ) → getD ns e [] ≡ getD ms e [] → used-sds (of-sdss ns) e ≡ used-sds (of-sdss ms) e
@@ -69,7 +59,7 @@ module _ {ns : List Name} (g : Sdss ns) (d : ℕ) (h : d < length ns) where
   }
     where
       was : (e : ℕ) → used-sds (of-sdss (set ns d [])) e ≡ true → getD (set ns d []) e [] ≡ getD ns e []
-      was e u = ⊎-elim (λ p. absurd (false≢true (sym (name-used (set ns d []) e [] (p .1)) ∙ u))) (λ p. p .1) (written ns d [] [] h e)
+      was e u = ⊎-elim (λ p. absurd (false≢true (sym (name-used (set ns d []) e [] (p .1)) ∙ u))) (λ p. p .1) (set-either ns d [] [] h e)
 
   -- an SDS more, under a name that none bears
   more-sds : (n : Name) → used-sds (of-sdss ns) d ≡ false → well-formed n ≡ true → any (λ m. not (blank m) && same-name m n) ns ≡ false → Sdss (set ns d n)
@@ -79,22 +69,22 @@ module _ {ns : List Name} (g : Sdss ns) (d : ℕ) (h : d < length ns) where
         ⊎-elim
         (λ p. subst (λ (m : Name). well-formed m ≡ true) (sym (p .1)) formed)
         (λ p. subst (λ (m : Name). well-formed m ≡ true) (sym (p .1)) (g .named e (sym (used-alike (set ns d n) ns e (p .1)) ∙ u)))
-        (written ns d n [] h e);
+        (set-either ns d n [] h e);
     unique = λ e f u v q.
         ⊎-elim
         (λ p. ⊎-elim
         (λ r. p .0 ∙ sym (r .0))
         (λ r. absurd (clash f (sym (used-alike (set ns d n) ns f (r .1)) ∙ v) (sym (same-name-is n (getD ns f []) (rw (p .1, r .1) at q)))))
-        (written ns d n [] h f))
+        (set-either ns d n [] h f))
         (λ p. ⊎-elim
         (λ r. absurd (clash e (sym (used-alike (set ns d n) ns e (p .1)) ∙ u) (same-name-is (getD ns e []) n (rw (p .1, r .1) at q))))
         (λ r. g .unique e f (sym (used-alike (set ns d n) ns e (p .1)) ∙ u) (sym (used-alike (set ns d n) ns f (r .1)) ∙ v) (rw (p .1, r .1) at q))
-        (written ns d n [] h f))
-        (written ns d n [] h e);
+        (set-either ns d n [] h f))
+        (set-either ns d n [] h e);
     system = ⊎-elim
         (λ p. absurd (true≢false (sym system-used ∙ ap (used-sds (of-sdss ns)) (p .0) ∙ free)))
         (λ p. p .1 ∙ g .system)
-        (written ns d n [] h 0);
+        (set-either ns d n [] h 0);
   }
     where
       clash : (e : ℕ) → used-sds (of-sdss ns) e ≡ true → getD ns e [] ≡ n → ⊥
@@ -102,75 +92,44 @@ module _ {ns : List Name} (g : Sdss ns) (d : ℕ) (h : d < length ns) where
           true≢false (sym (any-at (λ m. not (blank m) && same-name m n) (place-in [] ns e (used-inside ns e u))
           (and-of (not (blank (getD ns e []))) (same-name (getD ns e []) n) (sym (name-used ns e (getD ns e []) refl) ∙ u) (rw q (same-name-refl n)))) ∙ new)
 
--- presences speak of SDSs only in that theirs are used
-presences-over : {ns ms : List Name} {ks : List Kind} {ps : List Presence} → Presences ns ks ps
-    → ((p : Presence) → p ∈ ps → used-sds (of-sdss ms) (p .sds) ≡ true) → Presences ms ks ps
-presences-over g used = record {
-  room = g .room;
-  of-used = g .of-used;
-  in-used = used;
-  named = g .named;
-  unique = g .unique;
-  one = g .one;
-  system = g .system;
-  system-alone = g .system-alone;
-  rises = g .rises;
-  somewhere = g .somewhere;
-  with-parents = g .with-parents;
-  with-reverse = g .with-reverse;
-}
-
-changed : {s : Schema} → Good s → {ns : List Name} → Sdss ns → ((p : Presence) → p ∈ s .presences → used-sds (of-sdss ns) (p .sds) ≡ true) → Good (with-sdss s ns)
-changed g sdss used =
-    let p = parts-of g in
-    whole (record { sdss = sdss; types = p .types; presences = presences-over (p .presences) used; applications = p .applications; ends = p .ends })
-
 -- ---- the calls
 
 pub remove-sds-keeps : (d : ℕ) (s : Schema) → Good s → Good (next s (remove-sds d s))
-unfolding remove-sds unknown-sds system-sds holds-presence
+unfolding remove-sds unknown-sds holds-presence
 remove-sds-keeps d s g =
     verdict-keeps (λ o. Good (next s o)) (remove-sds-refusals d s) (done 0 0 0 (with-sdss s (set (s .sdss) d [])))
     (λ _. g)
-    (λ passed. changed g (less-sds (parts-of g .sdss) d (inside (passed .0)) (aimed (passed .1 .0))) (still (passed .1 .1 .0)))
+    (λ passed. with-sdss-good g (less-sds (parts-of g .sdss) d (inside (passed .0)) (aimed d (passed .1 .0))) (still (passed .1 .1 .0)))
   where
     inside : unknown-sds s d ≡ false → d < length (s .sdss)
     inside e = omega (arith, leb-false (limits .sdss) d (or-neither (leb (limits .sdss) d) (not (used-sds s d)) e .0), g .sds-room)
-
-    aimed : system-sds d ≡ false → d ≡ 0 → ⊥
-    aimed e z = true≢false (sym (eq-eqb d 0 z) ∙ e)
 
     still : holds-presence s d ≡ false → (p : Presence) → p ∈ s .presences → used-sds (of-sdss (set (s .sdss) d [])) (p .sds) ≡ true
     still e p i =
         used-alike (set (s .sdss) d []) (s .sdss) (p .sds)
         (getD-set-other (s .sdss) d (p .sds) [] [] (λ q. true≢false (sym (any-at (λ p. eqb (p .sds) d) i (eq-eqb (p .sds) d q)) ∙ e)))
-        ∙ parts-of g .presences .in-used p i
+        ∙ parts-of g .presences .rows .in-used p i
 
 pub new-sds-keeps : (n : Name) (s : Schema) → Good s → Good (next s (new-sds n s))
-unfolding new-sds malformed sds-name-taken no-free-sds free-sdss used-sds
+unfolding new-sds sds-name-taken no-free-sds free-sdss used-sds
 new-sds-keeps n s g =
     verdict-keeps (λ o. Good (next s o)) (new-sds-refusals n s) (done (new-sds-number s) 0 0 (with-sdss s (set (s .sdss) (new-sds-number s) n)))
     (λ _. g)
     (λ passed.
-    let formed = flipped (well-formed n) (passed .0) in
     let (inside, free) = lowest (passed .1 .1 .0) in
-    changed g (more-sds (parts-of g .sdss) (new-sds-number s) inside n free formed (passed .1 .0)) (still inside free))
+    with-sdss-good g (more-sds (parts-of g .sdss) (new-sds-number s) inside n free (formed n (passed .0)) (passed .1 .0)) (still inside free))
   where
     lowest : no-free-sds s ≡ false → (new-sds-number s < length (s .sdss)) × (used-sds (of-sdss (s .sdss)) (new-sds-number s) ≡ false)
     lowest e =
         let some = ltb-false (length (free-sdss s)) 1 e in
         let (a, b, c) = numbers-in (λ d. not (used-sds s d)) 0 (limits .sdss) (new-sds-number s) (place-in 0 (free-sdss s) 0 (omega arith)) in
-        (omega (arith, g .sds-room), unused (used-sds s (new-sds-number s)) c)
-      where
-        unused : (x : Bool) → not x ≡ true → x ≡ false
-        unused true q = absurd (false≢true q)
-        unused false q = refl
+        (omega (arith, g .sds-room), not-true (used-sds s (new-sds-number s)) c)
 
     still : new-sds-number s < length (s .sdss) → used-sds (of-sdss (s .sdss)) (new-sds-number s) ≡ false
         → (p : Presence) → p ∈ s .presences → used-sds (of-sdss (set (s .sdss) (new-sds-number s) n)) (p .sds) ≡ true
     still inside free p i =
-        let u = parts-of g .presences .in-used p i in
+        let u = parts-of g .presences .rows .in-used p i in
         ⊎-elim
         (λ w. absurd (true≢false (sym u ∙ ap (used-sds (of-sdss (s .sdss))) (w .0) ∙ free)))
         (λ w. used-alike (set (s .sdss) (new-sds-number s) n) (s .sdss) (p .sds) (w .1) ∙ u)
-        (written (s .sdss) (new-sds-number s) n [] inside (p .sds))
+        (set-either (s .sdss) (new-sds-number s) n [] inside (p .sds))

@@ -8,7 +8,7 @@ use lib.ListN.{length}
 use borrow.Author.Tests.{eqb-true, eqb-false}
 use Rattle.rules.specs.01-Lists.{_∈_}
 use Rattle.rules.specs.03-Names.{same-name}
-use Rattle.rules.specs.04-Schema.{Schema, Presence, Application, End, used-sds, kind-of, is-used, is-object, holds-type, present, has-end}
+use Rattle.rules.specs.04-Schema.{Schema, Presence, Application, End, used-sds, kind-of, is-used, is-object, present, has-end}
 use Rattle.rules.specs.04-Schema.Kind.{paired}
 use Rattle.rules.specs.04-Schema.Side.{origin, destination}
 use Rattle.rules.specs.05-Descent.{Parent, Descends, Chain, members}
@@ -17,10 +17,10 @@ use Rattle.rules.specs.05-Descent.Chain.{at-root, up}
 use Rattle.rules.specs.06-Good.{Good}
 use Rattle.rules.specs.13-History.{Whole-list}
 use Rattle.rules.proofs.Bools.{and-both, same-test}
-use Rattle.rules.proofs.01-Lists.{any-where}
 use Rattle.rules.proofs.05-Descent as Descent
 use Rattle.rules.proofs.11-Asks.{whole-list}
-use Rattle.history.proofs.Parts.{object-used, attribute-used, link-used, either-used}
+use Rattle.history.proofs.KindLaws.{object-used, attribute-used, link-used, either-used}
+use Rattle.history.proofs.Parts.{presence-of}
 use Rattle.history.proofs.EndChanges.{has-in}
 
 -- nothing that is stored points at a thing that is not there
@@ -98,9 +98,8 @@ module _ {s : Schema} (good : Good s) where
   present-sds : (d t : ℕ) → present s d t ≡ true → used-sds s d ≡ true
   unfolding present
   present-sds d t e =
-      let (p, i, h) = any-where (holds-type d t) (s .presences) e in
-      let same : p .sds ≡ d = eqb-true (p .sds) d (and-both (eqb (p .sds) d) (eqb (p .type) t) h .0) in
-      rw same at (good .presence-sds p i)
+      let (p, i, a, b) = presence-of (s .presences) d t e in
+      rw a at (good .presence-sds p i)
 
   pub nothing-dangles : Nothing-dangles s
   nothing-dangles = record {

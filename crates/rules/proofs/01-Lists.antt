@@ -4,13 +4,13 @@ use Prim.Native.Nat.{ℕ, zero, suc, _+_, _-_, _≤_, _<_}
 use native.Mathlib.Omega.{arith}
 use mathlib.Core.Path.{_≡_, refl, sym, ap, _∙_}
 use mathlib.Core.Logic.{⊎-elim}
-use mathlib.Core.List.{List, [], _∷_, List·Memᴰ·not-nil, List·Memᴰ·cases-cons}
+use mathlib.Core.List.{List, [], _∷_, map, List·Memᴰ·not-nil, List·Memᴰ·cases-cons}
 use mathlib.Core.List.List·Memᴰ.{List·Memᴰ·head, List·Memᴰ·tail}
 use mathlib.Core.Bool.{Bool, true, false, not, cond, _&&_, _||_, true≢false, false≢true, and-false}
 use lib.Dec.{ltb, eqb}
 use lib.ListN.{length, getD}
 use borrow.Author.Tests.{ltb-true, ltb-false, lt-ltb, le-ltb, eqb-true, eqb-false, eq-eqb, ne-eqb}
-use Rattle.rules.specs.01-Lists.{_∈_, same-bytes, bytes-before, any, all, rising, numbers}
+use Rattle.rules.specs.01-Lists.{_∈_, same-bytes, bytes-before, any, all, among, repeated, rising, numbers}
 use Rattle.rules.proofs.Bools.{or-cases, or-left, or-right, or-neither, and-both, and-of, and-rest}
 
 -- ---- tests over a list
@@ -51,6 +51,24 @@ module _ {A : Type 0} where
       go : (t : Bool) → any p l ≡ t → any p l ≡ false
       go true e = let (x, i, h) = any-where p l e in absurd (true≢false (sym h ∙ none x i))
       go false e = e
+
+  pub none-at : (p : A → Bool) {x : A} {l : List A} → any p l ≡ false → x ∈ l → p x ≡ false
+  none-at p {x} {l} e i = go (p x) refl
+    where
+      go : (b : Bool) → p x ≡ b → p x ≡ false
+      go true h = absurd (true≢false (sym (any-at p i h) ∙ e))
+      go false h = h
+
+pub map-in : {A B : Type 0} (f : A → B) (l : List A) {y : B} → y ∈ map f l → (x : A) × (x ∈ l) × (y ≡ f x)
+map-in f [] i = absurd (List·Memᴰ·not-nil i)
+map-in f (x ∷ l) i =
+    ⊎-elim (λ e. (x, List·Memᴰ·head refl, e)) (λ m. let (z, j, e) = map-in f l m in (z, List·Memᴰ·tail j, e)) (List·Memᴰ·cases-cons i)
+
+pub among-in : (l : List ℕ) (n : ℕ) → among l n ≡ true → n ∈ l
+among-in l n e = let (x, i, h) = any-where (eqb n) l e in rw (eqb-true n x h) i
+
+pub in-among : {l : List ℕ} {n : ℕ} → n ∈ l → among l n ≡ true
+in-among {n = n} i = any-at (eqb n) i (eq-eqb n n refl)
 
 -- ---- bytes
 
@@ -177,6 +195,11 @@ rising-once (x ∷ l) e (suc i) (suc j) u v s = ap suc (rising-once l (rising-ta
 abbrev pub Different : {A : Type 0} → List A → Type 0
 Different [] = Unit {0}
 Different (x ∷ l) = (x ∈ l → ⊥) × Different l
+
+pub unrepeated : (l : List ℕ) → repeated l ≡ false → Different l
+unfolding repeated
+unrepeated [] e = tt
+unrepeated (x ∷ l) e = let (once, rest) = or-neither (among l x) (repeated l) e in (λ i. true≢false (sym (in-among i) ∙ once), unrepeated l rest)
 
 -- p less the number x
 abbrev less : ℕ → (ℕ → Bool) → ℕ → Bool

@@ -21,6 +21,11 @@ use Rattle.rules.proofs.Bools.{or-cases, or-left, or-right}
 use Rattle.rules.proofs.01-Lists.{any-at, any-where, numbers-in, numbers-of, numbers-rising, rising-once, Different, at-most}
 use Rattle.rules.proofs.01-Lists.{numbers-most}
 
+-- descent over parents that were there
+pub descends-over : {s s′ : Schema} → ((t a : ℕ) → Parent s t a → Parent s′ t a) → {t a : ℕ} → Descends s t a → Descends s′ t a
+descends-over f (by-parent {t = t} {a = a} p) = by-parent (f t a p)
+descends-over f (by-step {t = t} {p = q} p d) = by-step (f t q p) (descends-over f d)
+
 -- ---- members: rising, each once, and exactly the types that pass
 
 pub members-in : (p : ℕ → Bool) (k : ℕ) → k ∈ members p → (k < 128) × (p k ≡ true)

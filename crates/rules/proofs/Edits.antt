@@ -1,13 +1,17 @@
 -- Lists edited: an element put in at its place, those that pass a test taken out, and what the list then holds. Assumes nothing.
-use Prim.Native.Nat.{ℕ, zero, suc, _≤_, _<_}
+use Prim.Native.Nat.{ℕ, zero, suc, _+_, _≤_, _<_}
 use native.Mathlib.Omega.{arith}
-use mathlib.Core.Path.{_≡_, refl, sym, ap, _∙_}
+use mathlib.Core.Path.{_≡_, refl, sym, ap, subst, _∙_}
 use mathlib.Core.Logic.{_⊎_, inl, inr, ⊎-elim}
 use mathlib.Core.List.{List, [], _∷_, _++_, List·Memᴰ·not-nil, List·Memᴰ·cases-cons}
 use mathlib.Core.List.List·Memᴰ.{List·Memᴰ·head, List·Memᴰ·tail}
 use mathlib.Core.Bool.{Bool, true, false, cond, _||_, true≢false, false≢true}
-use lib.ListN.{length, getD, take, drop}
+use lib.Dec.{eqb}
+use lib.ListN.{length, getD, set, take, drop}
+use lib.Seq.{getD-set-same, getD-set-other}
+use borrow.Author.Tests.{eqb-true, eqb-false}
 use Rattle.rules.specs.01-Lists.{_∈_, any, first, without, rising, put}
+use Rattle.rules.specs.10-Changes.{put-all}
 use Rattle.rules.proofs.Bools.{or-neither, and-both, and-of}
 
 -- ---- one put in
@@ -98,6 +102,48 @@ module _ {A : Type 0} (before : A → A → Bool) where
       go true ih = rw (or-neither (p x) (any p rs) f .0, ih)
       go false ih = rw e f
 
+  -- what holds of the new element and of all that were there holds of all
+  pub put-each : {a : A} {rs : List A} {y : A} → y ∈ put before a rs → (P : A → Type 0) → P a → (y ∈ rs → P y) → P y
+  put-each {a} {rs} i P h f = ⊎-elim (λ e. subst P (sym e) h) f (put-in a rs i)
+
+  -- ---- several put in
+
+  pub put-all-long : (new rs : List A) → length (put-all before new rs) ≡ length rs + length new
+  unfolding put-all
+  put-all-long [] rs = omega arith
+  put-all-long (a ∷ new) rs = omega (arith, put-all-long new (put before a rs), put-long a rs)
+
+  pub put-all-in : (new rs : List A) {y : A} → y ∈ put-all before new rs → (y ∈ new) ⊎ (y ∈ rs)
+  unfolding put-all
+  put-all-in [] rs i = inr i
+  put-all-in (a ∷ new) rs i =
+      ⊎-elim (λ j. inl (List·Memᴰ·tail j)) (λ j. ⊎-elim (λ e. inl (List·Memᴰ·head e)) inr (put-in a rs j)) (put-all-in new (put before a rs) i)
+
+  pub put-all-old : (new rs : List A) {y : A} → y ∈ rs → y ∈ put-all before new rs
+  unfolding put-all
+  put-all-old [] rs i = i
+  put-all-old (a ∷ new) rs i = put-all-old new (put before a rs) (put-old a rs i)
+
+  pub put-all-new : (new rs : List A) {y : A} → y ∈ new → y ∈ put-all before new rs
+  unfolding put-all
+  put-all-new [] rs i = absurd (List·Memᴰ·not-nil i)
+  put-all-new (a ∷ new) rs {y} i =
+      ⊎-elim
+      (λ e. put-all-old new (put before a rs) (subst (λ (x : A). x ∈ put before a rs) (sym e) (put-new a rs)))
+      (put-all-new new (put before a rs))
+      (List·Memᴰ·cases-cons i)
+
+-- ---- one written
+
+-- what stands at a place of a list of which one element was written
+pub set-either : {A : Type 0} (l : List A) (i : ℕ) (x d : A) → i < length l
+    → (j : ℕ) → ((j ≡ i) × (getD (set l i x) j d ≡ x)) ⊎ ((j ≡ i → ⊥) × (getD (set l i x) j d ≡ getD l j d))
+set-either l i x d h j = go (eqb j i) refl
+  where
+    go : (t : Bool) → eqb j i ≡ t → ((j ≡ i) × (getD (set l i x) j d ≡ x)) ⊎ ((j ≡ i → ⊥) × (getD (set l i x) j d ≡ getD l j d))
+    go true q = let same = eqb-true j i q in inl (same, ap (λ (k : ℕ). getD (set l i x) k d) same ∙ getD-set-same l i x d h)
+    go false q = inr (eqb-false j i q, getD-set-other l i j x d (eqb-false j i q))
+
 -- ---- the first that passes; what is left when those that pass are gone
 
 module _ {A : Type 0} (p : A → Bool) where
@@ -130,6 +176,26 @@ module _ {A : Type 0} (p : A → Bool) where
       go : (b : Bool) → p y ≡ b → (x ≡ y) ⊎ (x ∈ l) → (x ∈ l → x ∈ without p l) → x ∈ cond b (without p l) (y ∷ without p l)
       go true q c f = ⊎-elim (λ h. absurd (true≢false (sym q ∙ sym (ap p h) ∙ e))) f c
       go false q c f = ⊎-elim (λ h. List·Memᴰ·head h) (λ m. List·Memᴰ·tail (f m)) c
+
+  -- what is left is no more, and fewer where one passes
+  pub without-long : (l : List A) → length (without p l) ≤ length l
+  unfolding without
+  without-long [] = omega arith
+  without-long (x ∷ l) = go (p x) (without-long l)
+    where
+      go : (b : Bool) → length (without p l) ≤ length l → length (cond b (without p l) (x ∷ without p l)) ≤ suc (length l)
+      go true h = omega arith
+      go false h = omega arith
+
+  pub without-fewer : (l : List A) → any p l ≡ true → suc (length (without p l)) ≤ length l
+  unfolding without any
+  without-fewer [] e = absurd (false≢true e)
+  without-fewer (x ∷ l) e = go (p x) refl (without-fewer l)
+    where
+      go : (b : Bool) → p x ≡ b → (any p l ≡ true → suc (length (without p l)) ≤ length l)
+          → suc (length (cond b (without p l) (x ∷ without p l))) ≤ suc (length l)
+      go true q ih = omega (arith, without-long l)
+      go false q ih = omega (arith, ih (rw q at e))
 
 module _ {A : Type 0} where
   pub without-same : (p q : A → Bool) (l : List A) → ((x : A) → x ∈ l → p x ≡ q x) → without p l ≡ without q l

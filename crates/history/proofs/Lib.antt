@@ -14,3 +14,5 @@ pub mod Removals
 pub mod Renames
 pub mod Theorems
 pub mod All
+pub mod Numbers
+pub mod Keepers

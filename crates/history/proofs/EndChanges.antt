@@ -84,8 +84,8 @@ mirror-twice : (r : ℕ) (e : End) → mirror (e .link) (mirror r e) ≡ e
 mirror-twice r e = λ i. record { sds = e .sds; link = e .link; side = other-twice (e .side) i; object = e .object }
 
 -- with an end of a paired link its mirror
-abbrev Closed : List Kind → List End → Type 0
-Closed ks es = (e : End) → e ∈ es → (c r : ℕ) → kind-of (of-types ks) (e .link) ≡ paired c r → mirror r e ∈ es
+abbrev Mirrored : List Kind → List End → Type 0
+Mirrored ks es = (e : End) → e ∈ es → (c r : ℕ) → kind-of (of-types ks) (e .link) ≡ paired c r → mirror r e ∈ es
 
 -- what is asked of an end alone
 record Fit (ks : List Kind) (ps : List Presence) (e : End) : Type 0 where
@@ -95,20 +95,20 @@ record Fit (ks : List Kind) (ps : List Presence) (e : End) : Type 0 where
   outside : e .sds ≡ 0 → ⊥
 
 module _ {ks : List Kind} {ps : List Presence} {es : List End} (ty : Types ks) (g : Ends ks ps es) where
-  closed : Closed ks es
-  closed e i c r k = has-in es (mirror r e) (g .mirrored e i c r k)
+  mirrors : Mirrored ks es
+  mirrors e i c r k = has-in es (mirror r e) (g .mirrored e i c r k)
 
   fits : (e : End) → e ∈ es → Fit ks ps e
   fits e i = record { of-link = g .of-link e i; at-object = g .at-object e i; there = g .there e i; outside = g .outside e i }
 
   -- the mirror of an end's mirror is the end
-  back : (some : List End) → Closed ks some → (e : End) (c r : ℕ) → kind-of (of-types ks) (e .link) ≡ paired c r → mirror r e ∈ some → e ∈ some
+  back : (some : List End) → Mirrored ks some → (e : End) (c r : ℕ) → kind-of (of-types ks) (e .link) ≡ paired c r → mirror r e ∈ some → e ∈ some
   back some f e c r k i =
       let (c′, h) = ty .in-turn (e .link) c r k in
       subst (λ (y : End). y ∈ some) (mirror-twice r e) (f (mirror r e) i c′ (e .link) h)
 
   more-ends : (new : List End) → length es + length new ≤ limits .ends → ((e : End) → e ∈ new → Fit ks ps e) → Different new
-      → ((e : End) → e ∈ new → e ∈ es → ⊥) → Closed ks new → Ends ks ps (put-all end-before new es)
+      → ((e : End) → e ∈ new → e ∈ es → ⊥) → Mirrored ks new → Ends ks ps (put-all end-before new es)
   more-ends new room fit apart none f = record {
     room = omega (arith, put-all-long end-before new es);
     of-link = λ e i. each e i .of-link;
@@ -117,13 +117,13 @@ module _ {ks : List Kind} {ps : List Presence} {es : List End} (ty : Types ks) (
     outside = λ e i. each e i .outside;
     rises = put-all-rises end-order new es (g .rises) apart none;
     mirrored = λ e i c r k. in-has (put-all end-before new es) (mirror r e)
-        (⊎-elim (λ j. put-all-new end-before new es (f e j c r k)) (λ j. put-all-old end-before new es (closed e j c r k)) (put-all-in end-before new es i));
+        (⊎-elim (λ j. put-all-new end-before new es (f e j c r k)) (λ j. put-all-old end-before new es (mirrors e j c r k)) (put-all-in end-before new es i));
   }
     where
       each : (e : End) → e ∈ put-all end-before new es → Fit ks ps e
       each e i = ⊎-elim (fit e) (fits e) (put-all-in end-before new es i)
 
-  fewer-ends : (gone : List End) → Closed ks gone → Ends ks ps (without (is-one-of gone) es)
+  fewer-ends : (gone : List End) → Mirrored ks gone → Ends ks ps (without (is-one-of gone) es)
   fewer-ends gone f = record {
     room = omega (arith, without-long (is-one-of gone) es, g .room);
     of-link = λ e i. g .of-link e (was i);
@@ -132,7 +132,7 @@ module _ {ks : List Kind} {ps : List Presence} {es : List End} (ty : Types ks) (
     outside = λ e i. g .outside e (was i);
     rises = without-rises end-order (is-one-of gone) es (g .rises);
     mirrored = λ e i c r k. in-has (without (is-one-of gone) es) (mirror r e)
-        (without-keeps (is-one-of gone) es (closed e (was i) c r k) (stays e i c r k (is-one-of gone (mirror r e)) refl));
+        (without-keeps (is-one-of gone) es (mirrors e (was i) c r k) (stays e i c r k (is-one-of gone (mirror r e)) refl));
   }
     where
       was : {e : End} → e ∈ without (is-one-of gone) es → e ∈ es
@@ -144,7 +144,7 @@ module _ {ks : List Kind} {ps : List Presence} {es : List End} (ty : Types ks) (
           absurd (true≢false (sym (in-one gone e (back gone f e c r k (one-in gone (mirror r e) h))) ∙ without-in (is-one-of gone) es i .1))
       stays e i c r k false h = h
 
--- ---- both ends of a link are closed: the end alone, or with its mirror
+-- ---- the two ends that a call is about: the end alone, or with its mirror
 
 data Both (s : Schema) (a : End) : List End → Type 0 where
   alone : ((c r : ℕ) → kind-of s (a .link) ≡ paired c r → ⊥) → Both s a (a ∷ [])
@@ -159,9 +159,9 @@ both s a =
     (alone-or-pair (kind-of s (a .link)))
 
 module _ {s : Schema} (g : Good s) {a : End} where
-  both-closed : {new : List End} → Both s a new → Closed (s .types) new
-  both-closed (alone single) e i c r k = absurd (single c r (ap (λ (x : End). kind-of s (x .link)) (sym (List·Memᴰ·eq-of-singleton i)) ∙ k))
-  both-closed (together c′ r′ k′) e i c r k =
+  both-mirrored : {new : List End} → Both s a new → Mirrored (s .types) new
+  both-mirrored (alone single) e i c r k = absurd (single c r (ap (λ (x : End). kind-of s (x .link)) (sym (List·Memᴰ·eq-of-singleton i)) ∙ k))
+  both-mirrored (together c′ r′ k′) e i c r k =
       ⊎-elim
       (λ p. let same : r ≡ r′ = one-reverse (ap (λ (x : End). kind-of s (x .link)) (sym p) ∙ k) k′ in
       List·Memᴰ·tail (List·Memᴰ·head (λ j. mirror (same j) (p j))))
@@ -199,7 +199,7 @@ module _ {s : Schema} (g : Good s) {a : End} where
   both-new (together c r k) n e i j =
       ⊎-elim
       (λ p. n (subst (λ (x : End). x ∈ s .ends) p j))
-      (λ m. n (back ty old (s .ends) (closed ty old) a c r k (subst (λ (x : End). x ∈ s .ends) (List·Memᴰ·eq-of-singleton m) j)))
+      (λ m. n (back ty old (s .ends) (mirrors ty old) a c r k (subst (λ (x : End). x ∈ s .ends) (List·Memᴰ·eq-of-singleton m) j)))
       (List·Memᴰ·cases-cons i)
     where
       ty : Types (s .types)
@@ -218,7 +218,7 @@ remove-end-keeps side d n m s g =
     (λ _. g)
     (λ _. with-ends-good g
     (fewer-ends (parts-of g .types) (parts-of g .ends) (both-ends d (type-named s d n) side (type-named s d m) s)
-    (both-closed g (both s (record { sds = d; link = type-named s d n; side = side; object = type-named s d m })))))
+    (both-mirrored g (both s (record { sds = d; link = type-named s d n; side = side; object = type-named s d m })))))
 
 pub add-end-keeps : (side : Side) (d : ℕ) (n m : Name) (s : Schema) → Good s → Good (next s (add-end side d n m s))
 unfolding add-end both-ends present has-end ends-full no-object no-link
@@ -232,7 +232,7 @@ add-end-keeps side d n m s g =
     = record { of-link = link kinds; at-object = object-type kinds; there = there (passed .1 .1 .1 .0); outside = aimed d (passed .1 .0) } in
     with-ends-good g
     (more-ends (parts-of g .types) (parts-of g .ends) new (room (passed .1 .1 .1 .1 .1 .1 .0)) (both-fit g (both s a) fit) (both-different g (both s a))
-    (both-new g (both s a) (λ i. true≢false (sym (in-has (s .ends) a i) ∙ passed .1 .1 .1 .1 .1 .0))) (both-closed g (both s a))))
+    (both-new g (both s a) (λ i. true≢false (sym (in-has (s .ends) a i) ∙ passed .1 .1 .1 .1 .1 .0))) (both-mirrored g (both s a))))
   where
     a : End
     a = record { sds = d; link = type-named s d n; side = side; object = type-named s d m }

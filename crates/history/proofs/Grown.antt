@@ -16,7 +16,7 @@ use Rattle.rules.specs.05-Descent.{Parent, Descends}
 use Rattle.rules.specs.05-Descent.Descends.{by-parent, by-step}
 use Rattle.rules.specs.06-Good.{Good}
 use Rattle.rules.specs.10-Changes.{with-types, with-presences}
-use Rattle.history.proofs.KindLaws.{object-used}
+use Rattle.rules.proofs.05-Descent.{object-used}
 use Rattle.history.proofs.Parts.{of-types, of-presences, Types, Rows, Closed, Presences, presence-there, parts-of, whole, applications-over, ends-over}
 use Rattle.history.proofs.Rows.{present-over}
 

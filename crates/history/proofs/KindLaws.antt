@@ -4,31 +4,25 @@ use native.Mathlib.Omega.{arith}
 use mathlib.Core.Path.{_≡_, refl, sym, ap, _∙_}
 use mathlib.Core.Logic.{_⊎_, inl, inr, ⊎-elim}
 use mathlib.Core.List.{[], List·Memᴰ·not-nil, List·Memᴰ·eq-of-singleton}
-use mathlib.Core.Bool.{true, false, _||_, true≢false, false≢true}
+use mathlib.Core.Bool.{true, false, _||_, true≢false}
 use lib.ListN.{length, getD}
 use Rattle.rules.specs.01-Lists.{_∈_}
 use Rattle.rules.specs.04-Schema.{Kind, is-used, is-object, is-attribute, is-link, reverse-in}
 use Rattle.rules.specs.04-Schema.Kind.{unused, object, attribute, designation, paired}
 use Rattle.rules.proofs.Bools.{or-cases}
-
-pub object-used : (k : Kind) → is-object k ≡ true → is-used k ≡ true
-object-used unused e = absurd (false≢true e)
-object-used (object ps) e = refl
-object-used (attribute v) e = absurd (false≢true e)
-object-used designation e = absurd (false≢true e)
-object-used (paired c r) e = absurd (false≢true e)
+use Rattle.rules.proofs.05-Descent.{object-used}
 
 pub attribute-used : (k : Kind) → is-attribute k ≡ true → is-used k ≡ true
-attribute-used unused e = absurd (false≢true e)
-attribute-used (object ps) e = absurd (false≢true e)
+attribute-used unused e = e
+attribute-used (object ps) e = refl
 attribute-used (attribute v) e = refl
-attribute-used designation e = absurd (false≢true e)
-attribute-used (paired c r) e = absurd (false≢true e)
+attribute-used designation e = refl
+attribute-used (paired c r) e = refl
 
 pub link-used : (k : Kind) → is-link k ≡ true → is-used k ≡ true
-link-used unused e = absurd (false≢true e)
-link-used (object ps) e = absurd (false≢true e)
-link-used (attribute v) e = absurd (false≢true e)
+link-used unused e = e
+link-used (object ps) e = refl
+link-used (attribute v) e = refl
 link-used designation e = refl
 link-used (paired c r) e = refl
 

@@ -2,21 +2,21 @@
 use Prim.Native.Nat.{ℕ, _+_, _≤_, _<_}
 use native.Mathlib.Omega.{arith}
 use mathlib.Core.Path.{_≡_, refl, sym, ap, _∙_, subst}
-use mathlib.Core.Logic.{_⊎_, inl, inr, ⊎-elim}
-use mathlib.Core.List.{List, [], _∷_}
-use mathlib.Core.Bool.{Bool, true, false, _&&_, _||_, true≢false}
+use mathlib.Core.Logic.{inl, inr, ⊎-elim}
+use mathlib.Core.List.{List}
+use mathlib.Core.Bool.{true, false, _&&_, _||_, true≢false}
 use lib.Dec.{ltb, eqb}
 use lib.ListN.{length, set, length-set}
 use lib.Seq.{getD-set-same, getD-set-other}
-use borrow.Author.Tests.{ltb-false, eqb-true, eqb-false, eq-eqb, ne-eqb}
-use Rattle.rules.specs.01-Lists.{any, put}
+use borrow.Author.Tests.{ltb-false, eq-eqb, ne-eqb}
+use Rattle.rules.specs.01-Lists.{put}
 use Rattle.rules.specs.02-Limits.{limits}
-use Rattle.rules.specs.03-Names.{Name, well-formed, same-name}
-use Rattle.rules.specs.04-Schema.{Schema, Kind, Presence, used-sds, kind-of, is-used, holds-type, holds-name, present, bears}
+use Rattle.rules.specs.03-Names.{Name, same-name}
+use Rattle.rules.specs.04-Schema.{Schema, Kind, Presence, kind-of, is-used, present}
 use Rattle.rules.specs.04-Schema.{presence-before}
 use Rattle.rules.specs.04-Schema.Kind.{unused, paired}
 use Rattle.rules.specs.06-Good.{Good}
-use Rattle.rules.specs.09-Refusals.{malformed, no-pair, names-taken, free-types}
+use Rattle.rules.specs.09-Refusals.{malformed, no-pair, free-types}
 use Rattle.rules.specs.09-Refusals.Outcome.{done}
 use Rattle.rules.specs.10-Changes.{new-type, second-new-type, with-pair, new-pair, new-pair-refusals}
 use Rattle.rules.specs.13-History.{next}

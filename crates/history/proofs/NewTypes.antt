@@ -2,23 +2,22 @@
 use Prim.Native.Nat.{ℕ, _+_, _≤_, _<_}
 use native.Mathlib.Omega.{arith}
 use mathlib.Core.Path.{_≡_, refl, sym, ap, _∙_, subst}
-use mathlib.Core.Logic.{_⊎_, inl, inr, ⊎-elim}
-use mathlib.Core.List.{List, [], _∷_, map, List·Memᴰ·not-nil, List·Memᴰ·cases-cons}
-use mathlib.Core.List.List·Memᴰ.{List·Memᴰ·head, List·Memᴰ·tail}
-use mathlib.Core.Bool.{Bool, true, false, not, _||_, true≢false}
-use lib.Dec.{leb, ltb, eqb}
+use mathlib.Core.Logic.{inl, inr, ⊎-elim}
+use mathlib.Core.List.{List, [], _∷_, List·Memᴰ·not-nil}
+use mathlib.Core.Bool.{Bool, true, false, not, true≢false}
+use lib.Dec.{ltb}
 use lib.ListN.{length, getD, set, length-set, length-map}
-use lib.Seq.{getD-set-same, getD-set-other}
-use borrow.Author.Tests.{not-true, not-false, ltb-false, eqb-true, eqb-false, eq-eqb}
-use Rattle.rules.specs.01-Lists.{_∈_, any, among, repeated, rising, put}
+use lib.Seq.{getD-set-same}
+use borrow.Author.Tests.{not-true, not-false, ltb-false}
+use Rattle.rules.specs.01-Lists.{_∈_, any, repeated, rising, put}
 use Rattle.rules.specs.02-Limits.{limits}
-use Rattle.rules.specs.03-Names.{Name, well-formed, names-in}
-use Rattle.rules.specs.04-Schema.{Schema, Kind, Presence, used-sds, kind-of, is-used, is-object, present, bears}
+use Rattle.rules.specs.03-Names.{Name, names-in}
+use Rattle.rules.specs.04-Schema.{Schema, Kind, Presence, kind-of, is-used, is-object, present}
 use Rattle.rules.specs.04-Schema.{type-named, presence-before}
 use Rattle.rules.specs.04-Schema.Kind.{unused, object, attribute, designation}
 use Rattle.rules.specs.06-Good.{Good}
 use Rattle.rules.specs.09-Refusals.{unknown-sds, system-sds, malformed, unknown-value-kind, not-1-to-4, no-such-name, no-object}
-use Rattle.rules.specs.09-Refusals.{names-taken, free-types, presences-full, types-full}
+use Rattle.rules.specs.09-Refusals.{names-taken, free-types, types-full}
 use Rattle.rules.specs.09-Refusals.Outcome.{done}
 use Rattle.rules.specs.10-Changes.{with-type, new-type, new-attribute, new-attribute-refusals, new-designation, new-designation-refusals}
 use Rattle.rules.specs.10-Changes.{put-all, parents-named, new-object, new-object-refusals}

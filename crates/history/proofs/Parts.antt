@@ -19,8 +19,8 @@ use Rattle.rules.specs.06-Good.{Good}
 use Rattle.rules.specs.10-Changes.{with-sdss, with-applications, with-ends}
 use Rattle.rules.proofs.Bools.{and-both, and-of}
 use Rattle.rules.proofs.01-Lists.{any-at, any-where}
-use Rattle.rules.proofs.05-Descent.{descends-over}
-use Rattle.history.proofs.KindLaws.{object-used, attribute-used, link-used, either-used}
+use Rattle.rules.proofs.05-Descent.{descends-over, object-used}
+use Rattle.history.proofs.KindLaws.{attribute-used, link-used, either-used}
 
 -- a schema that has these tables and no others
 abbrev pub of-sdss : List Name → Schema

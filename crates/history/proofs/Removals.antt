@@ -2,7 +2,7 @@
 use Prim.Native.Nat.{ℕ}
 use mathlib.Core.Path.{_≡_, refl, sym, subst, ap, _∙_}
 use mathlib.Core.Logic.{⊎-elim}
-use mathlib.Core.List.{List, [], _∷_, List·Memᴰ·not-nil, List·Memᴰ·cases-cons, List·Memᴰ·eq-of-singleton}
+use mathlib.Core.List.{List, [], _∷_, List·Memᴰ·not-nil, List·Memᴰ·cases-cons}
 use mathlib.Core.List.List·Memᴰ.{List·Memᴰ·head, List·Memᴰ·tail}
 use mathlib.Core.Bool.{Bool, true, false, cond, _&&_, _||_, true≢false, false≢true}
 use lib.Dec.{leb, eqb}
@@ -13,7 +13,7 @@ use Rattle.rules.specs.01-Lists.{_∈_, any, among, without}
 use Rattle.rules.specs.03-Names.{Name}
 use Rattle.rules.specs.04-Schema.{Schema, Kind, Presence, Application, End, system-presence, kind-of, is-used, is-object, is-attribute, is-link}
 use Rattle.rules.specs.04-Schema.{parents, parents-in, is-parent, reverse, reverse-in, with-reverse, present, type-named}
-use Rattle.rules.specs.04-Schema.Kind.{unused, object, attribute, designation, paired}
+use Rattle.rules.specs.04-Schema.Kind.{unused, object, attribute, paired}
 use Rattle.rules.specs.05-Descent.{Parent}
 use Rattle.rules.specs.06-Good.{Good}
 use Rattle.rules.specs.09-Refusals.{has-child, in-application, in-end, still-used}
@@ -22,10 +22,10 @@ use Rattle.rules.specs.10-Changes.{with-types, with-presences, less-gone, remov
 use Rattle.rules.specs.13-History.{next}
 use Rattle.rules.proofs.Bools.{or-left, or-right, or-neither, and-both, and-of}
 use Rattle.rules.proofs.01-Lists.{any-at, any-where, none-at, among-in, in-among}
-use Rattle.rules.proofs.05-Descent.{descends-over, child-object}
+use Rattle.rules.proofs.05-Descent.{descends-over, object-used, child-object}
 use Rattle.rules.proofs.Edits.{without-in, without-keeps}
 use Rattle.rules.proofs.09-Refusals.{verdict-keeps}
-use Rattle.history.proofs.KindLaws.{object-used, kind-unused, has-reverse}
+use Rattle.history.proofs.KindLaws.{kind-unused, has-reverse}
 use Rattle.history.proofs.Parts.{of-types, of-presences, Types, Closed, Presences, Applications, Ends, Parts, presence-there, presence-of, closed-at}
 use Rattle.history.proofs.Parts.{parts-of, whole}
 use Rattle.history.proofs.Passed.{aimed}

@@ -18,8 +18,9 @@ use Rattle.rules.specs.06-Good.{Good}
 use Rattle.rules.specs.13-History.{Whole-list}
 use Rattle.rules.proofs.Bools.{and-both, same-test}
 use Rattle.rules.proofs.05-Descent as Descent
+use Rattle.rules.proofs.05-Descent.{object-used}
 use Rattle.rules.proofs.11-Asks.{whole-list}
-use Rattle.history.proofs.KindLaws.{object-used, attribute-used, link-used, either-used}
+use Rattle.history.proofs.KindLaws.{attribute-used, link-used, either-used}
 use Rattle.history.proofs.Parts.{presence-of}
 use Rattle.history.proofs.EndChanges.{has-in}
 

@@ -67,7 +67,7 @@ no-parents (attribute v) o e = absurd (false≢true o)
 no-parents designation o e = absurd (false≢true o)
 no-parents (paired c r) o e = absurd (false≢true o)
 
-object-used : (k : Kind) → is-object k ≡ true → is-used k ≡ true
+pub object-used : (k : Kind) → is-object k ≡ true → is-used k ≡ true
 object-used unused o = o
 object-used (object ps) o = refl
 object-used (attribute v) o = refl

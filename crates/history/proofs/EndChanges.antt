@@ -5,7 +5,7 @@ use mathlib.Core.Path.{_≡_, refl, sym, ap, subst, _∙_}
 use mathlib.Core.Logic.{⊎-elim}
 use mathlib.Core.List.{List, [], _∷_, map, List·Memᴰ·not-nil, List·Memᴰ·cases-cons, List·Memᴰ·eq-of-singleton}
 use mathlib.Core.List.List·Memᴰ.{List·Memᴰ·head, List·Memᴰ·tail}
-use mathlib.Core.Bool.{Bool, true, false, _&&_, _||_, true≢false}
+use mathlib.Core.Bool.{true, false, _&&_, _||_, true≢false}
 use lib.Dec.{eqb}
 use lib.ListN.{length, length-map}
 use borrow.Author.Tests.{not-false, ltb-false, eqb-true, eq-eqb}
@@ -21,7 +21,7 @@ use Rattle.rules.specs.09-Refusals.{no-such-name, no-object, no-link, ends-full
 use Rattle.rules.specs.09-Refusals.Outcome.{done}
 use Rattle.rules.specs.10-Changes.{with-ends, put-all, both-ends, is-one-of, add-end, add-end-refusals, remove-end, remove-end-refusals}
 use Rattle.rules.specs.13-History.{next}
-use Rattle.rules.proofs.Bools.{or-neither, and-both, and-of}
+use Rattle.rules.proofs.Bools.{or-neither, and-both, and-of, fails}
 use Rattle.rules.proofs.01-Lists.{any-at, any-where, Different}
 use Rattle.rules.proofs.Edits.{put-all-long, put-all-in, put-all-old, put-all-new, without-in, without-keeps, without-long}
 use Rattle.rules.proofs.09-Refusals.{verdict-keeps}
@@ -132,17 +132,15 @@ module _ {ks : List Kind} {ps : List Presence} {es : List End} (ty : Types ks) (
     outside = λ e i. g .outside e (was i);
     rises = without-rises end-order (is-one-of gone) es (g .rises);
     mirrored = λ e i c r k. in-has (without (is-one-of gone) es) (mirror r e)
-        (without-keeps (is-one-of gone) es (mirrors e (was i) c r k) (stays e i c r k (is-one-of gone (mirror r e)) refl));
+        (without-keeps (is-one-of gone) es (mirrors e (was i) c r k) (fails (is-one-of gone (mirror r e)) (stays e i c r k)));
   }
     where
       was : {e : End} → e ∈ without (is-one-of gone) es → e ∈ es
       was i = without-in (is-one-of gone) es i .0
 
       stays : (e : End) → e ∈ without (is-one-of gone) es → (c r : ℕ) → kind-of (of-types ks) (e .link) ≡ paired c r
-          → (t : Bool) → is-one-of gone (mirror r e) ≡ t → is-one-of gone (mirror r e) ≡ false
-      stays e i c r k true h =
-          absurd (true≢false (sym (in-one gone e (back gone f e c r k (one-in gone (mirror r e) h))) ∙ without-in (is-one-of gone) es i .1))
-      stays e i c r k false h = h
+          → is-one-of gone (mirror r e) ≡ true → ⊥
+      stays e i c r k h = true≢false (sym (in-one gone e (back gone f e c r k (one-in gone (mirror r e) h))) ∙ without-in (is-one-of gone) es i .1)
 
 -- ---- the two ends that a call is about: the end alone, or with its mirror
 

@@ -19,7 +19,7 @@ use Rattle.rules.specs.09-Refusals.{unknown-sds, system-sds, malformed, malform
 use Rattle.rules.specs.09-Refusals.Outcome.{done}
 use Rattle.rules.specs.10-Changes.{with-presences, put-all, filled, imported, import, import-refusals}
 use Rattle.rules.specs.13-History.{next}
-use Rattle.rules.proofs.Bools.{or-neither}
+use Rattle.rules.proofs.Bools.{or-neither, fails}
 use Rattle.rules.proofs.01-Lists.{none-at}
 use Rattle.rules.proofs.Edits.{put-long, put-each, first-in}
 use Rattle.rules.proofs.09-Refusals.{verdict-keeps}
@@ -45,99 +45,95 @@ module _ (s : Schema) (g : Good s) where
           g .presence-named p (first-in (holds-type source u) (record { sds = 0; name = []; type = 0 }) (s .presences) there .0)
       go false e = formed new e
 
-  module _ (target source : ℕ) (known : unknown-sds s target ≡ false) (outside : system-sds target ≡ false) where
-    module _ (t : ℕ) (n : Name) (there : present s source t ≡ true) (lacks : present s target t ≡ false) (lineage : missing-parent s target t ≡ false)
-        (well : well-formed n ≡ true) where
-      abbrev x : Presence
-      x = record { sds = target; name = n; type = t }
+  module _ (target source : ℕ) (known : unknown-sds s target ≡ false) (outside : system-sds target ≡ false)
+      (t : ℕ) (n : Name) (there : present s source t ≡ true) (lacks : present s target t ≡ false) (lineage : missing-parent s target t ≡ false)
+      (well : well-formed n ≡ true) where
+    abbrev x : Presence
+    x = record { sds = target; name = n; type = t }
 
-      type-used : is-used (kind-of s t) ≡ true
-      unfolding present
-      type-used = closed-at (parts-of g .presences) source t there .of-used
+    type-used : is-used (kind-of s t) ≡ true
+    unfolding present
+    type-used = closed-at (parts-of g .presences) source t there .of-used
 
-      parent-there : (a : ℕ) → Parent (of-types (s .types)) t a → present s target a ≡ true
-      unfolding missing-parent not-present parents
-      parent-there a by = not-false (present s target a) (none-at (not-present s target) lineage (by .listed))
+    parent-there : (a : ℕ) → Parent (of-types (s .types)) t a → present s target a ≡ true
+    unfolding missing-parent not-present parents
+    parent-there a by = not-false (present s target a) (none-at (not-present s target) lineage (by .listed))
 
-      -- one presence more
-      alone-comes : reverse-in (kind-of s t) ≡ [] → bears s target n ≡ false → length (s .presences) + 1 ≤ limits .presences
-          → Good (with-presences s (put presence-before x (s .presences)))
-      unfolding present
-      alone-comes none free room =
-          with-presences-good g
-          (rows-more (parts-of g .presences .rows) x room (row-fits s target t n known outside well free lacks))
-          (present-still x (s .presences))
-          (λ p i. put-each presence-before i
-          (λ q. (present (of-presences (s .presences)) (q .sds) (q .type) ≡ true)
-          ⊎ Closed (s .types) (put presence-before x (s .presences)) (q .sds) (q .type))
-          (inr (record {
-            of-used = type-used;
-            with-parents = λ a by. present-still x (s .presences) target a (parent-there a by);
-            with-reverse = λ c r k. absurd (no-pair (kind-of s t) none c r k);
-          }))
-          (λ j. inl (presence-there j)))
-
-      -- two, each the other's reverse
-      module _ (c r : ℕ) (pair : kind-of s t ≡ paired c r) (m : Name) where
-        abbrev y : Presence
-        y = record { sds = target; name = m; type = r }
-
-        abbrev with-x : List Presence
-        with-x = put presence-before x (s .presences)
-
-        abbrev with-both : List Presence
-        with-both = put presence-before y with-x
-
-        still : (d u : ℕ) → present (of-presences (s .presences)) d u ≡ true → present (of-presences with-both) d u ≡ true
-        still d u e = present-still y with-x d u (present-still x (s .presences) d u e)
-
-        reverse-lacks : present s target r ≡ false
-        reverse-lacks = go (present s target r) refl
-          where
-            go : (b : Bool) → present s target r ≡ b → present s target r ≡ false
-            go true e =
-                let (c′, back) = g .reverse-in-turn t c r pair in
-                absurd (true≢false (sym (g .reverse-present target r c′ t e back) ∙ lacks))
-            go false e = e
-
-        closed-x : Closed (s .types) with-both target t
-        unfolding present
-        closed-x = record {
+    -- one presence more
+    alone-comes : reverse-in (kind-of s t) ≡ [] → bears s target n ≡ false → length (s .presences) + 1 ≤ limits .presences
+        → Good (with-presences s (put presence-before x (s .presences)))
+    unfolding present
+    alone-comes none free room =
+        with-presences-good g
+        (rows-more (parts-of g .presences .rows) x room (row-fits s target t n known outside well free lacks))
+        (present-still x (s .presences))
+        (λ p i. put-each presence-before i
+        (λ q. (present (of-presences (s .presences)) (q .sds) (q .type) ≡ true)
+        ⊎ Closed (s .types) (put presence-before x (s .presences)) (q .sds) (q .type))
+        (inr (record {
           of-used = type-used;
-          with-parents = λ a by. still target a (parent-there a by);
-          with-reverse = λ c′ r′ k. rw (one-reverse k pair) (present-new y with-x);
-        }
+          with-parents = λ a by. present-still x (s .presences) target a (parent-there a by);
+          with-reverse = λ c r k. absurd (no-pair (kind-of s t) none c r k);
+        }))
+        (λ j. inl (presence-there j)))
 
-        closed-y : Closed (s .types) with-both target r
-        closed-y =
-            let (c′, back) = g .reverse-in-turn t c r pair in
-            record {
-              of-used = ap is-used back;
-              with-parents = λ a by. absurd (pair-no-parent (s .types) r c′ t a back by);
-              with-reverse = λ c″ t′ k. rw (one-reverse k back) (present-still y with-x target t (present-new x (s .presences)));
-            }
+    -- two, each the other's reverse
+    module _ (c r : ℕ) (pair : kind-of s t ≡ paired c r) (m : Name) where
+      abbrev y : Presence
+      y = record { sds = target; name = m; type = r }
 
-        rows : well-formed m ≡ true → bears s target n ≡ false → bears s target m ≡ false → same-name n m ≡ false
-            → length (s .presences) + 2 ≤ limits .presences → Rows (s .sdss) with-both
-        rows well′ free free′ differ room =
-            rows-more
-            (rows-more (parts-of g .presences .rows) x (omega arith) (row-fits s target t n known outside well free lacks))
-            y (omega (arith, put-long presence-before x (s .presences)))
-            (fits-still x (row-fits s target r m known outside well′ free′ reverse-lacks)
-            (rw (eq-eqb target target refl) differ)
-            (rw (eq-eqb target target refl) (ne-eqb t r (λ e. g .reverse-different t c r pair (sym e)))))
+      abbrev with-x : List Presence
+      with-x = put presence-before x (s .presences)
 
-        pair-comes : well-formed m ≡ true → bears s target n ≡ false → bears s target m ≡ false → same-name n m ≡ false
-            → length (s .presences) + 2 ≤ limits .presences → Good (with-presences s with-both)
-        pair-comes well′ free free′ differ room =
-            with-presences-good g (rows well′ free free′ differ room) still
-            (λ p i. put-each presence-before i
-            (λ q. (present (of-presences (s .presences)) (q .sds) (q .type) ≡ true) ⊎ Closed (s .types) with-both (q .sds) (q .type))
-            (inr closed-y)
-            (λ j. put-each presence-before j
-            (λ q. (present (of-presences (s .presences)) (q .sds) (q .type) ≡ true) ⊎ Closed (s .types) with-both (q .sds) (q .type))
-            (inr closed-x)
-            (λ k. inl (presence-there k))))
+      abbrev with-both : List Presence
+      with-both = put presence-before y with-x
+
+      still : (d u : ℕ) → present (of-presences (s .presences)) d u ≡ true → present (of-presences with-both) d u ≡ true
+      still d u e = present-still y with-x d u (present-still x (s .presences) d u e)
+
+      reverse-lacks : present s target r ≡ false
+      reverse-lacks =
+          let (c′, back) = g .reverse-in-turn t c r pair in
+          fails (present s target r) (λ e. true≢false (sym (g .reverse-present target r c′ t e back) ∙ lacks))
+
+      closed-x : Closed (s .types) with-both target t
+      unfolding present
+      closed-x = record {
+        of-used = type-used;
+        with-parents = λ a by. still target a (parent-there a by);
+        with-reverse = λ c′ r′ k. rw (one-reverse k pair) (present-new y with-x);
+      }
+
+      closed-y : Closed (s .types) with-both target r
+      closed-y =
+          let (c′, back) = g .reverse-in-turn t c r pair in
+          record {
+            of-used = ap is-used back;
+            with-parents = λ a by. absurd (pair-no-parent (s .types) r c′ t a back by);
+            with-reverse = λ c″ t′ k. rw (one-reverse k back) (present-still y with-x target t (present-new x (s .presences)));
+          }
+
+      rows : well-formed m ≡ true → bears s target n ≡ false → bears s target m ≡ false → same-name n m ≡ false
+          → length (s .presences) + 2 ≤ limits .presences → Rows (s .sdss) with-both
+      rows well′ free free′ differ room =
+          rows-more
+          (rows-more (parts-of g .presences .rows) x (omega arith) (row-fits s target t n known outside well free lacks))
+          y (omega (arith, put-long presence-before x (s .presences)))
+          (fits-still x (row-fits s target r m known outside well′ free′ reverse-lacks)
+          (rw (eq-eqb target target refl) differ)
+          (rw (eq-eqb target target refl) (ne-eqb t r (λ e. g .reverse-different t c r pair (sym e)))))
+
+      pair-comes : well-formed m ≡ true → bears s target n ≡ false → bears s target m ≡ false → same-name n m ≡ false
+          → length (s .presences) + 2 ≤ limits .presences → Good (with-presences s with-both)
+      pair-comes well′ free free′ differ room =
+          with-presences-good g (rows well′ free free′ differ room) still
+          (λ p i. put-each presence-before i
+          (λ q. (present (of-presences (s .presences)) (q .sds) (q .type) ≡ true) ⊎ Closed (s .types) with-both (q .sds) (q .type))
+          (inr closed-y)
+          (λ j. put-each presence-before j
+          (λ q. (present (of-presences (s .presences)) (q .sds) (q .type) ≡ true) ⊎ Closed (s .types) with-both (q .sds) (q .type))
+          (inr closed-x)
+          (λ k. inl (presence-there k))))
 
 -- the presences that come in, in the two cases
 imported-alone : (target source t : ℕ) (new new-reverse : Name) (s : Schema) → reverse-in (kind-of s t) ≡ []

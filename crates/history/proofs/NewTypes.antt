@@ -4,7 +4,7 @@ use native.Mathlib.Omega.{arith}
 use mathlib.Core.Path.{_≡_, refl, sym, ap, _∙_, subst}
 use mathlib.Core.Logic.{inl, inr, ⊎-elim}
 use mathlib.Core.List.{List, [], _∷_, List·Memᴰ·not-nil}
-use mathlib.Core.Bool.{Bool, true, false, not, true≢false}
+use mathlib.Core.Bool.{true, false, not, true≢false}
 use lib.Dec.{ltb}
 use lib.ListN.{length, getD, set, length-set, length-map}
 use lib.Seq.{getD-set-same}
@@ -22,13 +22,13 @@ use Rattle.rules.specs.09-Refusals.Outcome.{done}
 use Rattle.rules.specs.10-Changes.{with-type, new-type, new-attribute, new-attribute-refusals, new-designation, new-designation-refusals}
 use Rattle.rules.specs.10-Changes.{put-all, parents-named, new-object, new-object-refusals}
 use Rattle.rules.specs.13-History.{next}
-use Rattle.rules.proofs.Bools.{or-neither}
+use Rattle.rules.proofs.Bools.{or-neither, fails}
 use Rattle.rules.proofs.01-Lists.{none-at, place-in, map-in, unrepeated}
 use Rattle.rules.proofs.Edits.{put-in, put-old, put-all-long, put-all-in, set-either}
 use Rattle.rules.proofs.05-Descent.{members-in}
 use Rattle.rules.proofs.09-Refusals.{verdict-keeps}
 use Rattle.history.proofs.Orders.{number-order, put-all-rises}
-use Rattle.history.proofs.Parts.{presence-of, parts-of}
+use Rattle.history.proofs.Parts.{closed-at, parts-of}
 use Rattle.history.proofs.Passed.{formed, named-present, one-free, types-room}
 use Rattle.history.proofs.Rows.{present-new, Row-fits, row-fits, rows-more}
 use Rattle.history.proofs.Grown.{Parents-fit, Fits, New, Grown, grown-good}
@@ -46,13 +46,7 @@ free-number s i h =
 -- what is unused is nowhere
 pub unused-nowhere : {s : Schema} → Good s → (d t : ℕ) → is-used (kind-of s t) ≡ false → present s d t ≡ false
 unfolding present
-unused-nowhere {s} good d t u = go (present s d t) refl
-  where
-    go : (b : Bool) → present s d t ≡ b → present s d t ≡ false
-    go true e =
-        let (p, i, a, b) = presence-of (s .presences) d t e in
-        absurd (true≢false (sym (good .presence-type p i) ∙ ap (λ (x : ℕ). is-used (kind-of s x)) b ∙ u))
-    go false e = e
+unused-nowhere {s} good d t u = fails (present s d t) (λ e. true≢false (sym (closed-at (parts-of good .presences) d t e .of-used) ∙ u))
 
 -- ---- one type
 

@@ -20,7 +20,7 @@ use Rattle.rules.specs.09-Refusals.{has-child, in-application, in-end, still-us
 use Rattle.rules.specs.09-Refusals.Outcome.{done}
 use Rattle.rules.specs.10-Changes.{with-types, with-presences, less-gone, remove-type, remove-type-refusals}
 use Rattle.rules.specs.13-History.{next}
-use Rattle.rules.proofs.Bools.{or-left, or-right, or-neither, and-both, and-of}
+use Rattle.rules.proofs.Bools.{or-left, or-right, or-neither, and-both, and-of, fails}
 use Rattle.rules.proofs.01-Lists.{any-at, any-where, none-at, among-in, in-among}
 use Rattle.rules.proofs.05-Descent.{descends-over, object-used, child-object}
 use Rattle.rules.proofs.Edits.{without-in, without-keeps}
@@ -210,9 +210,7 @@ abbrev goes : ℕ → List ℕ → Presence → Bool
 goes d ts p = eqb (p .sds) d && among ts (p .type)
 
 never-both : (x y : Bool) → (x ≡ true → y ≡ true → ⊥) → x && y ≡ false
-never-both true true f = absurd (f refl refl)
-never-both true false f = refl
-never-both false y f = refl
+never-both x y f = fails (x && y) (λ e. let (a, b) = and-both x y e in f a b)
 
 module _ (d : ℕ) (ts : List ℕ) (ps : List Presence) where
   present-was : (e u : ℕ) → present (of-presences (without (goes d ts) ps)) e u ≡ true → (present (of-presences ps) e u ≡ true) × (e ≡ d → u ∈ ts → ⊥)

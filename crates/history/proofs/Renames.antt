@@ -17,7 +17,7 @@ use Rattle.rules.specs.09-Refusals.{unknown-sds, system-sds, malformed, borne-b
 use Rattle.rules.specs.09-Refusals.Outcome.{done}
 use Rattle.rules.specs.10-Changes.{with-presences, rename, rename-refusals}
 use Rattle.rules.specs.13-History.{next}
-use Rattle.rules.proofs.Bools.{or-neither, and-both, and-of, and-rest}
+use Rattle.rules.proofs.Bools.{or-neither, and-both, and-of, and-rest, fails}
 use Rattle.rules.proofs.01-Lists.{any-at, any-none}
 use Rattle.rules.proofs.03-Names.{same-name-is, same-name-refl}
 use Rattle.rules.proofs.Edits.{put-each, put-old, first-in, without-in, without-keeps, without-fewer}
@@ -59,16 +59,15 @@ module _ (s : Schema) (g : Good s) (d : ℕ) (new : Name) (t : ℕ) where
     in-used = known s d is-known;
     outside = aimed d outside;
     named = formed new well;
-    free = any-none (holds-name d new) left (λ q i. other q i (holds-name d new q) refl);
+    free = any-none (holds-name d new) left (λ q i. fails (holds-name d new q) (other q i));
     new = any-none (holds-type d t) left (λ q i. without-in (holds-type d t) (s .presences) i .1);
   }
     where
-      other : (q : Presence) → q ∈ left → (b : Bool) → holds-name d new q ≡ b → holds-name d new q ≡ false
-      other q i true h =
+      other : (q : Presence) → q ∈ left → holds-name d new q ≡ true → ⊥
+      other q i h =
           let (j, out) = without-in (holds-type d t) (s .presences) i in
           let in-d = and-both (eqb (q .sds) d) (same-name (q .name) new) h .0 in
-          absurd (true≢false (sym (and-of (eqb (q .sds) d) (eqb (q .type) t) in-d (eq-eqb (q .type) t (bearer another q j h))) ∙ out))
-      other q i false h = h
+          true≢false (sym (and-of (eqb (q .sds) d) (eqb (q .type) t) in-d (eq-eqb (q .type) t (bearer another q j h))) ∙ out)
 
   -- one out and one in
   room : present s d t ≡ true → length left + 1 ≤ limits .presences

@@ -11,7 +11,7 @@ use lib.Dec.{ltb, eqb}
 use lib.ListN.{length, getD}
 use borrow.Author.Tests.{ltb-true, ltb-false, lt-ltb, le-ltb, eqb-true, eqb-false, eq-eqb, ne-eqb}
 use Rattle.rules.specs.01-Lists.{_∈_, same-bytes, bytes-before, any, all, among, repeated, rising, numbers}
-use Rattle.rules.proofs.Bools.{or-cases, or-left, or-right, or-neither, and-both, and-of, and-rest}
+use Rattle.rules.proofs.Bools.{or-cases, or-left, or-right, or-neither, and-both, and-of, and-rest, fails}
 
 -- ---- tests over a list
 
@@ -46,18 +46,10 @@ module _ {A : Type 0} where
   place-in d (x ∷ l) (suc i) h = List·Memᴰ·tail (place-in d l i (omega arith))
 
   pub any-none : (p : A → Bool) (l : List A) → ((x : A) → x ∈ l → p x ≡ false) → any p l ≡ false
-  any-none p l none = go (any p l) refl
-    where
-      go : (t : Bool) → any p l ≡ t → any p l ≡ false
-      go true e = let (x, i, h) = any-where p l e in absurd (true≢false (sym h ∙ none x i))
-      go false e = e
+  any-none p l none = fails (any p l) (λ e. let (x, i, h) = any-where p l e in true≢false (sym h ∙ none x i))
 
   pub none-at : (p : A → Bool) {x : A} {l : List A} → any p l ≡ false → x ∈ l → p x ≡ false
-  none-at p {x} {l} e i = go (p x) refl
-    where
-      go : (b : Bool) → p x ≡ b → p x ≡ false
-      go true h = absurd (true≢false (sym (any-at p i h) ∙ e))
-      go false h = h
+  none-at p {x} e i = fails (p x) (λ h. true≢false (sym (any-at p i h) ∙ e))
 
 pub map-in : {A B : Type 0} (f : A → B) (l : List A) {y : B} → y ∈ map f l → (x : A) × (x ∈ l) × (y ≡ f x)
 map-in f [] i = absurd (List·Memᴰ·not-nil i)

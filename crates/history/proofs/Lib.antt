@@ -16,3 +16,4 @@ pub mod Theorems
 pub mod All
 pub mod Numbers
 pub mod Keepers
+pub mod Demand

@@ -2,7 +2,6 @@
 use base::Base;
 use words::Line;
 use words::input::Input;
-ghost use Prim.Native.Nat.{_≤_};
 ghost use mathlib.Core.Path.{_≡_};
 ghost use lib.ListN.{length};
 ghost use Rattle.rules.specs.07-Picture.{base-length};
@@ -10,8 +9,8 @@ ghost use Rattle.rules.specs.07-Picture.{base-length};
 const STDOUT: i32 = 1;
 
 fn answer(base: &mut [u8], line: &[u8], out: &mut [u8])
-    requires { ⌜ (length (now base) ≡ base-length) × (4096 ≤ length (now out)) ⌝ }
-    ensures { λ _. ⌜ (length (now (base .exit)) ≡ base-length) × (4096 ≤ length (now (out .exit))) ⌝ }
+    requires { ⌜ (length (now base) ≡ base-length) × (length (now out) ≡ 4096) ⌝ }
+    ensures { λ _. ⌜ (length (now (base .exit)) ≡ base-length) × (length (now (out .exit)) ≡ 4096) ⌝ }
 {
     let n = reply::reply(base, line, out);
     io::write_all(STDOUT, &out[..n]);
@@ -20,7 +19,7 @@ fn answer(base: &mut [u8], line: &[u8], out: &mut [u8])
 
 // Nothing that is typed stops it but the end of the input. The turns are counted down as `next_line` does it.
 fn answer_all(base: &mut [u8], read: &mut [u8], line: &mut [u8], out: &mut [u8])
-    requires { ⌜ (length (now base) ≡ base-length) × (4096 ≤ length (now out)) ⌝ }
+    requires { ⌜ (length (now base) ≡ base-length) × (length (now out) ≡ 4096) ⌝ }
     requires { ⌜ (length (now read) ≡ 4096) × (length (now line) ≡ 128) ⌝ }
 {
     let mut input = Input::start();

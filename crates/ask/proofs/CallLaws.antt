@@ -26,11 +26,11 @@ use Rattle.marks.specs.declared.TypeSet.{TypeSet}
 use Rattle.marks.specs.Set.{has}
 use Rattle.marks.proofs.Members.{members-alike}
 use Rattle.marks.proofs.Set.{words-are}
-use Rattle.ask.specs.declared.view.View.{View}
-use Rattle.ask.specs.View.{type-refusals, Through, Viewed}
-use Rattle.ask.specs.Scans.{object-scan, link-scan, Scanned}
-use Rattle.ask.specs.Lists.{listing, three-listing, Puts}
-use Rattle.ask.proofs.ViewLaws.{viewed-stops, viewed-passes}
+use Rattle.scans.specs.declared.view.View.{View}
+use Rattle.scans.specs.View.{type-refusals, Through, Viewed}
+use Rattle.scans.specs.Scans.{object-scan, link-scan, Scanned}
+use Rattle.scans.specs.Lists.{listing, three-listing, Puts}
+use Rattle.scans.proofs.ViewLaws.{viewed-stops, viewed-passes}
 
 -- ---- refused by the view, whether the base is spoiled or not
 

@@ -1,3 +1,0 @@
-pub mod View
-pub mod Scans
-pub mod Lists

@@ -1,8 +1,4 @@
 // The asking calls. They read a sound base, and change nothing but an output.
-pub mod lists;
-pub mod scan;
-pub mod view;
-
 use base::Base;
 use rules::Answer;
 use rules::Limits;
@@ -13,38 +9,38 @@ ghost use Rattle.rules.specs.12-Contracts.{room, Listed, Answered, Handed};
 pub fn scan_object(base: &[u8], schema: &[u8], t: usize, code: usize, out: &mut [u8]) -> Answer
     ensures { λ r. ⌜ Listed (now (base .entry)) (scan-object (now (schema .entry)) t code (room (now (out .entry)))) r (now (out .entry)) (now (out .exit)) ⌝ }
 {
-    let view = view::of(base, schema, t, false, code < 10);
+    let view = scans::view::of(base, schema, t, false, code < 10);
     if view.no != 0 {
         return Answer::refused(view.no);
     }
-    let set = scan::of_object(base, view.listed, t, code);
-    lists::put(view.visible.meet(set), out)
+    let set = scans::scan::of_object(base, view.listed, t, code);
+    scans::lists::put(view.visible.meet(set), out)
 }
 
 // The like for a link type.
 pub fn scan_link(base: &[u8], schema: &[u8], t: usize, code: usize, out: &mut [u8]) -> Answer
     ensures { λ r. ⌜ Listed (now (base .entry)) (scan-link (now (schema .entry)) t code (room (now (out .entry)))) r (now (out .entry)) (now (out .exit)) ⌝ }
 {
-    let view = view::of(base, schema, t, true, code < 5);
+    let view = scans::view::of(base, schema, t, true, code < 5);
     if view.no != 0 {
         return Answer::refused(view.no);
     }
-    let set = scan::of_link(base, view.listed, t, code);
-    lists::put(view.visible.meet(set), out)
+    let set = scans::scan::of_link(base, view.listed, t, code);
+    scans::lists::put(view.visible.meet(set), out)
 }
 
 // Ancestors, attribute-all and link-origin-all of an object type, each list straight after the last.
 pub fn profile(base: &[u8], schema: &[u8], t: usize, out: &mut [u8]) -> Answer
     ensures { λ r. ⌜ Listed (now (base .entry)) (profile (now (schema .entry)) t (room (now (out .entry)))) r (now (out .entry)) (now (out .exit)) ⌝ }
 {
-    let view = view::of(base, schema, t, false, true);
+    let view = scans::view::of(base, schema, t, false, true);
     if view.no != 0 {
         return Answer::refused(view.no);
     }
-    let ancestors = scan::of_object(base, view.listed, t, 3);
-    let attributes = scan::of_object(base, view.listed, t, 5);
-    let links = scan::of_object(base, view.listed, t, 7);
-    lists::put_three(
+    let ancestors = scans::scan::of_object(base, view.listed, t, 3);
+    let attributes = scans::scan::of_object(base, view.listed, t, 5);
+    let links = scans::scan::of_object(base, view.listed, t, 7);
+    scans::lists::put_three(
         view.visible.meet(ancestors),
         view.visible.meet(attributes),
         view.visible.meet(links),
@@ -79,7 +75,7 @@ pub fn find(base: &[u8], schema: &[u8], name: &[u8]) -> Answer
 pub fn depth(base: &[u8], schema: &[u8], t: usize) -> Answer
     ensures { λ r. ⌜ Answered (now (base .entry)) (depth-of (now (schema .entry)) t) r ⌝ }
 {
-    let view = view::of(base, schema, t, false, true);
+    let view = scans::view::of(base, schema, t, false, true);
     if view.no != 0 {
         return Answer::refused(view.no);
     }
@@ -90,11 +86,11 @@ pub fn depth(base: &[u8], schema: &[u8], t: usize) -> Answer
 pub fn descendant_set(base: &[u8], schema: &[u8], t: usize) -> Answer
     ensures { λ r. ⌜ Answered (now (base .entry)) (descendant-set (now (schema .entry)) t) r ⌝ }
 {
-    let view = view::of(base, schema, t, false, true);
+    let view = scans::view::of(base, schema, t, false, true);
     if view.no != 0 {
         return Answer::refused(view.no);
     }
-    let descendants = scan::of_object(base, view.listed, t, 1);
+    let descendants = scans::scan::of_object(base, view.listed, t, 1);
     let set = view.visible.meet(descendants);
     Answer::done(set.low as usize, set.high as usize, set.count())
 }

@@ -41,7 +41,7 @@ pub extern "C" fn cf_remove_sds(base: &mut [u8], sds: usize) -> Answer
 pub extern "C" fn cf_new_object(base: &mut [u8], sds: usize, name: &[u8], parents: &[u8]) -> Answer
     ensures { λ r. ⌜ Kept (now (base .entry)) (new-object sds (now (name .entry)) (now (parents .entry))) r (now (base .exit)) ⌝ }
 {
-    create::object::new_object(base, sds, name, parents)
+    objects::new_object(base, sds, name, parents)
 }
 
 #[no_mangle]
@@ -83,7 +83,7 @@ pub extern "C" fn cf_import(
 ) -> Answer
     ensures { λ r. ⌜ Kept (now (base .entry)) (import target source (now (name .entry)) (now (new .entry)) (now («new_reverse» .entry))) r (now (base .exit)) ⌝ }
 {
-    presences::import::import(base, target, source, name, new, new_reverse)
+    imports::import(base, target, source, name, new, new_reverse)
 }
 
 #[no_mangle]

@@ -1,3 +1,2 @@
 pub mod CreateLaws
 pub mod PairLaws
-pub mod ObjectLaws

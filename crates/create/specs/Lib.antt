@@ -1,3 +1,2 @@
 pub mod Create
 pub mod Pair
-pub mod Object

@@ -1,5 +1,4 @@
 // The calls that make types. What they test of their inputs they test once, in the order of their refusals.
-pub mod object;
 pub mod pair;
 
 use rules::Answer;
@@ -11,9 +10,9 @@ ghost use Rattle.rules.specs.12-Contracts.{Kept};
 ghost use Rattle.create.specs.Create.{Aimed, Room, Placed};
 
 // The number of the refusal, 0 where there is none; then the number that the new type takes.
-struct Place {
-    no: usize,
-    t: usize,
+pub struct Place {
+    pub no: usize,
+    pub t: usize,
 }
 
 fn refused(no: usize) -> Place
@@ -23,7 +22,7 @@ fn refused(no: usize) -> Place
 }
 
 // What a call that makes types tests first, of its SDS and of a name: the number of the refusal, 0 where there is none.
-fn aimed(base: &[u8], sds: usize, name: &[u8]) -> usize
+pub fn aimed(base: &[u8], sds: usize, name: &[u8]) -> usize
     ensures { λ r. ⌜ Aimed (now (base .entry)) sds (now (name .entry)) r ⌝ }
 {
     if !sound::is_sound(base) {
@@ -42,7 +41,7 @@ fn aimed(base: &[u8], sds: usize, name: &[u8]) -> usize
 }
 
 // What a call that makes one type tests last: that its name is free, and that there is room.
-fn room_for(base: &[u8], sds: usize, name: &[u8]) -> Place
+pub fn room_for(base: &[u8], sds: usize, name: &[u8]) -> Place
     requires { ⌜ Sound (now base) ⌝ }
     ensures { λ r. ⌜ Room (now (base .entry)) sds (now (name .entry)) (r .no) (r .t) ⌝ }
 {

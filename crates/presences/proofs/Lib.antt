@@ -1,4 +1,3 @@
 pub mod HeldLaws
 pub mod RenameLaws
 pub mod RemoveLaws
-pub mod ImportLaws

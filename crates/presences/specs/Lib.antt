@@ -1,2 +1,1 @@
 pub mod Remove
-pub mod Import

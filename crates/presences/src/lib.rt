@@ -1,4 +1,3 @@
-// The presences of types in SDSs: imported, removed and renamed.
-pub mod import;
+// The presences of types in SDSs: removed and renamed.
 pub mod remove;
 pub mod rename;

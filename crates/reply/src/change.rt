@@ -23,7 +23,7 @@ pub fn import(base: &mut [u8], line: &[u8], out: &mut [u8]) -> usize
     let target = parts::sds(base, line, 1);
     let source = parts::sds(base, line, 2);
     let name = parts::word(line, 3);
-    let answer = presences::import::import(base, target, source, name, b"", b"");
+    let answer = imports::import(base, target, source, name, b"", b"");
     say::answer(out, answer.no, answer.one)
 }
 
@@ -35,7 +35,7 @@ pub fn object(base: &mut [u8], line: &[u8], out: &mut [u8]) -> usize
     let d = parts::sds(base, line, 1);
     let name = parts::word(line, 2);
     let parents = parts::words_from(line, 3);
-    let answer = create::object::new_object(base, d, name, parents);
+    let answer = objects::new_object(base, d, name, parents);
     say::answer(out, answer.no, answer.one)
 }
 

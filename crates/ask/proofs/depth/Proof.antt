@@ -10,7 +10,7 @@ use Rattle.rules.proofs.09-Refusals.{ends}
 use Rattle.base.specs.Back.{schema-of}
 use Rattle.base.proofs.Kept.{answered-as}
 use Rattle.marks.specs.Set.{has}
-use Rattle.ask.proofs.ViewLaws.{viewed-passes}
+use Rattle.scans.proofs.ViewLaws.{viewed-passes}
 use Rattle.ask.proofs.CallLaws.{depth-left, answered-refused}
 use Rattle.ask.proofs.depth.Statement.{statement}
 use Rattle.ask.proofs.depth.Tie as tie

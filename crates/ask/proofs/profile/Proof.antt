@@ -10,7 +10,7 @@ use Rattle.rules.proofs.09-Refusals.{ends}
 use Rattle.base.specs.Back.{schema-of}
 use Rattle.base.proofs.Kept.{answered-as}
 use Rattle.marks.specs.Set.{has}
-use Rattle.ask.proofs.ViewLaws.{viewed-passes}
+use Rattle.scans.proofs.ViewLaws.{viewed-passes}
 use Rattle.rules.specs.11-Asks.{profile-list, profile-ancestors, profile-attributes, profile-links}
 use Rattle.ask.proofs.CallLaws.{profile-left, room-test, listed-refused, object-list, listed-three}
 use Rattle.ask.proofs.profile.Statement.{statement}

@@ -1,0 +1,3 @@
+pub mod ViewLaws
+pub mod ScanLaws
+pub mod ListLaws

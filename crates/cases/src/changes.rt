@@ -1,0 +1,111 @@
+// The changing calls of 01 by a line: the call's name and its inputs, in the order of the header. Calls with inputs alike are read alike. An
+// answer with the number 16, which no call of 01 gives, says that the line begins with none of them.
+use super::read;
+use rules::Answer;
+
+fn new_sds(base: &mut [u8], line: &[u8]) -> Answer {
+    sdss::new_sds(base, read::name_at(line, 1))
+}
+
+fn new_pair(base: &mut [u8], line: &[u8]) -> Answer {
+    create::pair::new_pair(
+        base,
+        read::number_at(line, 1),
+        read::name_at(line, 2),
+        read::name_at(line, 3),
+        read::number_at(line, 4),
+        read::number_at(line, 5),
+    )
+}
+
+fn import(base: &mut [u8], line: &[u8]) -> Answer {
+    imports::import(
+        base,
+        read::number_at(line, 1),
+        read::number_at(line, 2),
+        read::name_at(line, 3),
+        read::name_at(line, 4),
+        read::name_at(line, 5),
+    )
+}
+
+pub fn other(base: &mut [u8], line: &[u8]) -> Answer {
+    if read::begins(line, b"fresh") {
+        return sdss::fresh(base);
+    }
+    if read::begins(line, b"new_sds") {
+        return new_sds(base, line);
+    }
+    if read::begins(line, b"remove_sds") {
+        return sdss::remove_sds(base, read::number_at(line, 1));
+    }
+    if read::begins(line, b"new_pair") {
+        return new_pair(base, line);
+    }
+    if read::begins(line, b"import") {
+        return import(base, line);
+    }
+    Answer::refused(16)
+}
+
+// What stands behind an SDS and a name: a value kind, or the parents.
+fn one_name(base: &mut [u8], call: &[u8], sds: usize, name: &[u8], rest: &[u8]) -> Answer {
+    if names::is_equal(call, b"new_object") {
+        return objects::new_object(base, sds, name, rest);
+    }
+    if names::is_equal(call, b"new_attribute") {
+        return create::new_attribute(base, sds, name, read::number_at(rest, 0));
+    }
+    if names::is_equal(call, b"new_designation") {
+        return create::new_designation(base, sds, name);
+    }
+    if names::is_equal(call, b"remove_type") {
+        return presences::remove::remove_type(base, sds, name);
+    }
+    Answer::refused(16)
+}
+
+pub fn with_one_name(base: &mut [u8], line: &[u8]) -> Answer {
+    one_name(
+        base,
+        read::word_at(line, 0),
+        read::number_at(line, 1),
+        read::name_at(line, 2),
+        read::rest_at(line, 3),
+    )
+}
+
+fn two_names(base: &mut [u8], call: &[u8], sds: usize, name: &[u8], second: &[u8]) -> Answer {
+    if names::is_equal(call, b"apply") {
+        return apply::apply(base, sds, name, second);
+    }
+    if names::is_equal(call, b"unapply") {
+        return apply::unapply(base, sds, name, second);
+    }
+    if names::is_equal(call, b"apply_link") {
+        return ends::apply_link(base, sds, name, second);
+    }
+    if names::is_equal(call, b"unapply_link") {
+        return ends::unapply_link(base, sds, name, second);
+    }
+    if names::is_equal(call, b"add_destination") {
+        return ends::add_destination(base, sds, name, second);
+    }
+    if names::is_equal(call, b"remove_destination") {
+        return ends::remove_destination(base, sds, name, second);
+    }
+    if names::is_equal(call, b"rename") {
+        return presences::rename::rename(base, sds, name, second);
+    }
+    Answer::refused(16)
+}
+
+pub fn with_two_names(base: &mut [u8], line: &[u8]) -> Answer {
+    two_names(
+        base,
+        read::word_at(line, 0),
+        read::number_at(line, 1),
+        read::name_at(line, 2),
+        read::name_at(line, 3),
+    )
+}

@@ -32,8 +32,16 @@ loop-less : tie.Need-loop-less Inv-loop μ-loop
 loop-less c = omega (arith, c .before .before .before .before .before .before .before .before .before .before .before .before .before .before .before .before .loop-test .taken)
 
 loop-again : tie.Need-loop-again Inv-loop μ-loop
-loop-again c =
-    ((c .before .before .before .before .tell-next .kept .0 ∙ c .before .before .before .before .before .before .before .before .before .before .before .before .before .before .before .before .before .loop .inv .0 .0, c .before .before .before .before .tell-next .kept .1 .1 .1 .0 ∙ c .before .before .before .before .before .before .before .before .before .before .before .before .before .before .before .before .before .loop .inv .0 .1), c .before .before .before .before .before .before .before .before .before .before .before .before .next-line .ensures)
+loop-again c = (
+  (
+    c .before .before .before .before .tell-next .kept .0 ∙ c .before .before .before .before .before .before .before .before .before .before
+        .before .before .before .before .before .before .before .loop .inv .0 .0,
+    c .before .before .before .before .tell-next .kept .1 .1 .1 .0 ∙ c
+        .before .before .before .before .before .before .before .before .before .before .before .before .before .before .before .before .before
+        .loop .inv .0 .1,
+  ),
+  c .before .before .before .before .before .before .before .before .before .before .before .before .next-line .ensures,
+)
 
 same-length : tie.Need-same-length Inv-loop μ-loop
 same-length c = search needs

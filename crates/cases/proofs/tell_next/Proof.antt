@@ -8,7 +8,14 @@ is-line-requires : tie.Need-is-line-requires
 is-line-requires c κs = search needs
 
 slice-aggregate-tell : tie.Need-slice-aggregate-tell
-slice-aggregate-tell c = omega (arith, length-take (c .before .before .before .before .before .before .before .args .at .kept) (c .before .before .before .before .before .before .before .args .line .now), c .before .before .before .before .before .before .before .pre .0, c .before .before .before .before .before .before .before .pre .1 .kept)
+slice-aggregate-tell c = omega (
+  arith,
+  length-take (c .before .before .before .before .before .before .before .args .at .kept) (c .before .before
+      .before .before .before .before .before .args .line .now),
+  c .before .before .before .before .before .before .before .pre .0,
+  c .before .before
+      .before .before .before .before .before .pre .1 .kept,
+)
 
 tell-requires : tie.Need-tell-requires
 tell-requires c κs = search needs

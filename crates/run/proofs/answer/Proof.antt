@@ -12,7 +12,12 @@ slice-reshare-prefix-write-all : tie.Need-slice-reshare-prefix-write-all
 slice-reshare-prefix-write-all c = search needs
 
 slice-aggregate-write-all : tie.Need-slice-aggregate-write-all
-slice-aggregate-write-all c = omega (arith, length-take (c .before .before .before .before .before .reply .result) (c .before .before .before .before .before .reply .last .1 .1 .0), c .before .before .before .before .before .reply .ensures .within)
+slice-aggregate-write-all c = omega (
+  arith,
+  length-take (c .before .before .before .before .before .reply .result) (c .before .before .before .before
+      .before .reply .last .1 .1 .0),
+  c .before .before .before .before .before .reply .ensures .within,
+)
 
 write-all-requires : tie.Need-write-all-requires
 write-all-requires c κs = search needs
@@ -30,7 +35,11 @@ same-length-2 : tie.Need-same-length-2
 same-length-2 c = search needs
 
 returns : tie.Need-returns
-returns c = (c .before .before .before .before .before .before .before .before .reply .ensures .long, c .before .before .before .before .before .before .before .before .reply .ensures .room ∙ c .before .before .before .before .before .before .before .before .before .before .before .before .before .before .pre .1)
+returns c = (
+  c .before .before .before .before .before .before .before .before .reply .ensures .long,
+  c .before .before .before .before .before
+      .before .before .before .reply .ensures .room ∙ c .before .before .before .before .before .before .before .before .before .before .before .before .before .before .pre .1,
+)
 
 pub answer-spec : {M : Type 1} → statement M
 answer-spec =

@@ -38,10 +38,22 @@ returns : tie.Need-returns Inv-loop μ-loop
 returns c = search needs
 
 slice-reshare-prefix-answer : tie.Need-slice-reshare-prefix-answer Inv-loop μ-loop
-slice-reshare-prefix-answer c = omega (arith, c .before .before .before .before .before .before .next-line .ensures .1 .0, c .before .before .before .before .before .before .next-line .ensures .1 .1 .kept)
+slice-reshare-prefix-answer c = omega (
+  arith,
+  c .before .before .before .before .before .before .next-line .ensures .1 .0,
+  c .before .before .before
+      .before .before .before .next-line .ensures .1 .1 .kept,
+)
 
 slice-aggregate-answer : tie.Need-slice-aggregate-answer Inv-loop μ-loop
-slice-aggregate-answer c = omega (arith, length-take (c .before .before .before .before .before .before .before .next-line .result .kept) (c .before .before .before .before .before .before .before .next-line .last .1 .0), c .before .before .before .before .before .before .before .next-line .ensures .1 .0, c .before .before .before .before .before .before .before .next-line .ensures .1 .1 .kept)
+slice-aggregate-answer c = omega (
+  arith,
+  length-take (c .before .before .before .before .before .before .before .next-line .result .kept) (c .before
+      .before .before .before .before .before .before .next-line .last .1 .0),
+  c .before .before .before .before .before .before .before .next-line
+      .ensures .1 .0,
+  c .before .before .before .before .before .before .before .next-line .ensures .1 .1 .kept,
+)
 
 answer-requires : tie.Need-answer-requires Inv-loop μ-loop
 answer-requires c κs = c .before .before .before .before .before .before .before .before .before .before .before .before .loop .inv .0

@@ -27,7 +27,14 @@ part-requires : tie.Need-part-requires Inv-loop μ-loop
 part-requires c κs = record { more = c .loop-test .taken; within = c .before .loop .inv .0 (c .loop-test .taken) }
 
 add-n : tie.Need-add-n Inv-loop μ-loop
-add-n c = omega (arith, words-few (c .before .before .before .before .before .before .args .line .now), c .before .before .before .before .before .before .pre, c .before .before .before .loop .inv .1, c .before .part .ensures .fewer)
+add-n c = omega (
+  arith,
+  words-few (c .before .before .before .before .before .before .args .line .now),
+  c .before .before .before .before .before
+      .before .pre,
+  c .before .before .before .loop .inv .1,
+  c .before .part .ensures .fewer,
+)
 
 loop-less : tie.Need-loop-less Inv-loop μ-loop
 loop-less c = c .before .part .ensures .fewer

@@ -32,7 +32,11 @@ loop-less : tie.Need-loop-less Inv-loop μ-loop
 loop-less c = c .before .before .before .part .ensures .fewer
 
 loop-again : tie.Need-loop-again Inv-loop μ-loop
-loop-again c = (c .before .before .before .part .ensures .next-within, next-blank (c .before .before .before .part .ensures) (c .before .if1 .left) ∙ c .before .before .before .before .before .loop .inv .1)
+loop-again c = (
+  c .before .before .before .part .ensures .next-within,
+  next-blank (c .before .before .before .part .ensures) (c .before .if1 .left) ∙
+      c .before .before .before .before .before .loop .inv .1,
+)
 
 returns-2 : tie.Need-returns-2 Inv-loop μ-loop
 returns-2 c = none-blank (c .before .before .before .before .args .line .now) (c .before .loop .cursor) (c .loop-test .left) ∙ c .before .loop .inv .1

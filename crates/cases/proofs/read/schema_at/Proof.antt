@@ -31,7 +31,14 @@ loop-less : tie.Need-loop-less Inv-loop μ-loop
 loop-less c = search needs
 
 loop-again : tie.Need-loop-again Inv-loop μ-loop
-loop-again c = (omega (arith, c .before .before .before .before .before .loop-test .taken), (c .before .before .before .before .before .before .loop .inv .1 .0, (c .before .before .with-sds .ensures .0, c .before .before .with-sds .ensures .1 ∙ c .before .before .before .before .before .before .loop .inv .1 .1 .1)))
+loop-again c = (
+  omega (arith, c .before .before .before .before .before .loop-test .taken),
+  (
+    c .before .before .before .before .before .before .loop
+        .inv .1 .0,
+    (c .before .before .with-sds .ensures .0, c .before .before .with-sds .ensures .1 ∙ c .before .before .before .before .before .before .loop .inv .1 .1 .1),
+  ),
+)
 
 same-length : tie.Need-same-length Inv-loop μ-loop
 same-length c = search needs

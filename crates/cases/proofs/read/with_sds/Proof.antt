@@ -20,7 +20,15 @@ same-length : tie.Need-same-length
 same-length c = search needs
 
 returns : tie.Need-returns
-returns c = (omega (arith, c .before .if1 .taken, length-set (c .before .before .before .args .list .now) (c .before .before .before .args .n) (c .digit .result)), length-set (c .before .before .before .args .list .now) (c .before .before .before .args .n) (c .digit .result))
+returns c = (
+  omega (
+    arith,
+    c .before .if1 .taken,
+    length-set (c .before .before .before .args .list .now) (c .before .before .before .args .n) (c
+        .digit .result),
+  ),
+  length-set (c .before .before .before .args .list .now) (c .before .before .before .args .n) (c .digit .result),
+)
 
 returns-2 : tie.Need-returns-2
 returns-2 c = search needs

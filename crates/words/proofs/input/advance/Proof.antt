@@ -18,10 +18,31 @@ slice-reshare-prefix-gather : tie.Need-slice-reshare-prefix-gather
 slice-reshare-prefix-gather c = search needs
 
 slice-aggregate-gather : tie.Need-slice-aggregate-gather
-slice-aggregate-gather c = omega (arith, length-take (c .before .before .before .before .fill .result .n) (c .before .before .before .before .fill .last .0), c .before .before .before .before .fill .ensures .0, c .before .before .before .before .fill .ensures .1 .few)
+slice-aggregate-gather c = omega (
+  arith,
+  length-take (c .before .before .before .before .fill .result .n) (c .before .before .before .before .fill
+      .last .0),
+  c .before .before .before .before .fill .ensures .0,
+  c .before .before .before .before .fill .ensures .1 .few,
+)
 
 gather-requires : tie.Need-gather-requires
-gather-requires c κs = (omega (arith, length-take (c .before .before .before .before .before .fill .result .n) (c .before .before .before .before .before .fill .last .0), c .before .before .before .before .before .fill .ensures .0, c .before .before .before .before .before .fill .ensures .1 .few, c .before .before .before .before .before .fill .ensures .1 .place), (c .before .before .before .before .before .before .before .before .before .pre .1 .0, c .before .before .before .before .before .fill .ensures .1 .kept))
+gather-requires c κs = (
+  omega (
+    arith,
+    length-take (c .before .before .before .before .before .fill .result .n) (c .before .before .before .before
+        .before .fill .last .0),
+    c .before .before .before .before .before .fill .ensures .0,
+    c .before .before .before .before .before .fill .ensures .1
+        .few,
+    c .before .before .before .before .before .fill .ensures .1 .place,
+  ),
+  (
+    c .before .before .before .before .before .before .before .before
+        .before .pre .1 .0,
+    c .before .before .before .before .before .fill .ensures .1 .kept,
+  ),
+)
 
 same-length-2 : tie.Need-same-length-2
 same-length-2 c = search needs
@@ -30,7 +51,23 @@ same-length-3 : tie.Need-same-length-3
 same-length-3 c = search needs
 
 returns-2 : tie.Need-returns-2
-returns-2 c = (c .before .before .before .before .before .before .before .before .fill .ensures .0, (c .before .before .gather .ensures .long, record { place = omega (arith, c .before .before .gather .ensures .within, length-take (c .before .before .before .before .before .before .before .before .fill .result .n) (c .before .before .before .before .before .before .before .before .fill .last .0)); few = c .before .before .before .before .before .before .before .before .fill .ensures .1 .few; kept = c .before .before .gather .ensures .few }))
+returns-2 c = (
+  c .before .before .before .before .before .before .before .before .fill .ensures .0,
+  (
+    c .before .before .gather .ensures .long,
+    record {
+      place = omega (
+        arith,
+        c .before .before .gather .ensures .within,
+        length-take (c .before .before .before .before .before .before .before
+            .before .fill .result .n) (c .before .before .before .before .before .before .before .before .fill .last .0),
+      );
+      few = c .before .before
+          .before .before .before .before .before .before .fill .ensures .1 .few;
+      kept = c .before .before .gather .ensures .few;
+    },
+  ),
+)
 
 pub advance-spec : {M : Type 1} → statement M
 advance-spec =

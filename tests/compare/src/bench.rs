@@ -70,11 +70,9 @@ fn tables(sqlite: &str, program: &[String]) -> Result<(), String> {
         show_progress(what);
         let [library, check, keeper, held] = change(&server, &schema, &call)?;
         show_progress("");
-        println!(
-            "{what:<21}{library:>8.0}{:>7.0}%{keeper:>8.0}{held:>8.0}{:>16.2}",
-            100.0 * check / library,
-            library / keeper
-        );
+        // fresh alone makes no check
+        let share = if check < library { format!("{:.0}%", 100.0 * check / library) } else { "-".into() };
+        println!("{what:<21}{library:>8.0}{share:>8}{keeper:>8.0}{held:>8.0}{:>16.2}", library / keeper);
     }
     println!("\ncheck: the share of the library's time that the check of soundness takes");
     println!("keeper: over the same bytes, which it checks too");

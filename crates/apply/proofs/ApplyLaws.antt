@@ -20,14 +20,14 @@ use Rattle.rules.proofs.Bools.{or-left, or-right, and-both}
 use Rattle.rules.proofs.09-Refusals.{Left, told, told-stops, told-passes}
 use Rattle.rows.specs.Rows.{Counted}
 use Rattle.base.specs.Back.{schema-of, application-count, application-shown}
-use Rattle.base.specs.Found.{First-row}
+use Rattle.found.specs.Found.{First-row}
 use Rattle.base.specs.Stored.{less-row, Shows}
 use Rattle.base.proofs.Kept.{kept-refused}
 use Rattle.base.proofs.Shown.{applications-long}
 use Rattle.base.proofs.StoredLaws.{sound-stored}
 use Rattle.base.proofs.TakenLaws.{application-without}
-use Rattle.base.specs.Kinds.{kind-code}
-use Rattle.base.proofs.KindBytes.{told-object, told-attribute, told-link}
+use Rattle.found.specs.Kinds.{kind-code}
+use Rattle.found.proofs.KindBytes.{told-object, told-attribute, told-link}
 use Rattle.apply.specs.declared.Asked.{Asked}
 use Rattle.apply.specs.Applying.{wrong-kind, Both, Tested}
 use Rattle.conditions.proofs.ConditionLaws.{applied-row}

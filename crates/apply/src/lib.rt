@@ -32,13 +32,13 @@ fn is_wrong_kind(base: &[u8], a: usize, t: usize) -> bool
     requires { ⌜ length (now base) ≡ base-length ⌝ }
     ensures { λ r. ⌜ r ≡ wrong-kind (schema-of (now (base .entry))) a t ⌝ }
 {
-    if !base::find::is_kind(base, a, 2) {
+    if !found::is_kind(base, a, 2) {
         return true;
     }
-    if base::find::is_kind(base, t, 1) {
+    if found::is_kind(base, t, 1) {
         return false;
     }
-    !base::find::is_kind(base, t, 3)
+    !found::is_kind(base, t, 3)
 }
 
 // What both calls test, once, in the order of their refusals.
@@ -48,7 +48,7 @@ fn tested(base: &[u8], sds: usize, attribute: &[u8], to: &[u8]) -> Asked
     if !sound::is_sound(base) {
         return refused(1);
     }
-    if !base::find::is_sds(base, sds) {
+    if !found::is_sds(base, sds) {
         return refused(2);
     }
     if sds == 0 {

@@ -20,9 +20,9 @@ use Rattle.rules.proofs.11-Asks.{place-is, local-at, name-start-is, name-within
 use Rattle.rows.specs.Rows.{part}
 use Rattle.base.specs.Rows.{presence-at}
 use Rattle.base.specs.Back.{schema-of, presence-shown, presence-count}
-use Rattle.base.specs.Found.{Presence-row, First-row}
+use Rattle.found.specs.Found.{Presence-row, First-row}
 use Rattle.base.proofs.Shown.{presences-long, presence-is}
-use Rattle.base.proofs.Walked.{first-presence, presence-first}
+use Rattle.found.proofs.Walked.{first-presence, presence-first}
 use Rattle.base.proofs.Kept.{sound-long}
 
 abbrev pub name-effect : ℕ → ℕ → Schema → Outcome (List ℕ)

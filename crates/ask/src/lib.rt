@@ -79,7 +79,7 @@ pub fn depth(base: &[u8], schema: &[u8], t: usize) -> Answer
     if view.no != 0 {
         return Answer::refused(view.no);
     }
-    Answer::done(graph::kin::depth(base, t), 0, 0)
+    Answer::done(kin::depth(base, t), 0, 0)
 }
 
 // The visible descendants of an object type, in two words, and how many there are.
@@ -102,14 +102,14 @@ pub fn name_place(base: &[u8], sds: usize, t: usize) -> Answer
     if !sound::is_sound(base) {
         return Answer::refused(1);
     }
-    if !base::find::is_sds(base, sds) {
+    if !found::is_sds(base, sds) {
         return Answer::refused(2);
     }
-    let row = base::find::presence_row(base, sds, t);
+    let row = found::presence_row(base, sds, t);
     if row == base::used::presence_count(base) {
         return Answer::refused(6);
     }
-    Answer::done(base::name_at(row), base::find::name_length(base, row), 0)
+    Answer::done(base::name_at(row), found::name_length(base, row), 0)
 }
 
 // The part of the base that holds it; empty where `name_place` refuses.

@@ -1,9 +1,5 @@
 pub mod Back
 pub mod Shown
-pub mod Walked
-pub mod FindLaws
-pub mod KindBytes
-pub mod SdsShown
 pub mod SdsWritten
 pub mod Fresh
 pub mod Kept

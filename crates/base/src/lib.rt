@@ -1,7 +1,6 @@
 // The lent base: the only crate that knows where a row starts and how wide it is. Everything above reads and writes fields by
 // their number of SDS, type or row.
 pub mod edit;
-pub mod find;
 pub mod order;
 pub mod split;
 pub mod used;

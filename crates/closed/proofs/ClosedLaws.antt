@@ -18,10 +18,11 @@ use Rattle.rows.specs.Rows.{Counted, Split}
 use Rattle.base.specs.Rows.{presence-at, application-at, end-at}
 use Rattle.base.specs.Back.{schema-of, presence-count, application-count, end-count, presence-shown, application-shown, end-shown}
 use Rattle.base.proofs.Shown.{presence-in, presence-there}
-use Rattle.closed.specs.declared.Held.{Held}
+use Rattle.held.specs.declared.Held.{Held}
 use Rattle.closed.specs.declared.Places.{Places}
 use Rattle.closed.specs.declared.Checked.{Checked}
-use Rattle.closed.specs.Held.{type-in, Shows, Gathered, Closed-type, Applied, Ended, Sds-closed, Ready, At, Checks}
+use Rattle.held.specs.Held.{type-in, Gathered, Closed-type, Applied, Ended}
+use Rattle.closed.specs.Sds.{Shows, Sds-closed, Ready, At, Checks}
 
 -- ---- the rows of SDS d stand between its place and the next one's
 

@@ -1,3 +1,2 @@
-pub mod HeldLaws
 pub mod SdsLaws
 pub mod ClosedLaws

@@ -24,7 +24,8 @@ use Rattle.graph.specs.Graph.{Parental}
 use Rattle.closed.specs.declared.Places.{Places}
 use Rattle.tables.specs.Parts.{Presences, Rest}
 use Rattle.closed.specs.Parts.{Closed}
-use Rattle.closed.specs.Held.{type-in, Closed-type, Applied, Ended, Sds-closed, Ready}
+use Rattle.held.specs.Held.{type-in, Closed-type, Applied, Ended}
+use Rattle.closed.specs.Sds.{Sds-closed, Ready}
 use Rattle.tables.proofs.OrderLaws.{front, front-once, presences-rise, applications-rise, ends-rise}
 use Rattle.tables.proofs.RestLaws.{written-side}
 

@@ -21,17 +21,17 @@ use Rattle.rules.proofs.07-Picture.{read-side}
 use Rattle.rows.specs.Rows.{part, Rising, Counted}
 use Rattle.base.specs.Rows.{type-at, end-at, End-row}
 use Rattle.base.specs.Back.{schema-of, presence-count, application-count, end-count, presence-shown, application-shown, end-shown}
-use Rattle.base.specs.Found.{Presence-row, First-row, End-found}
+use Rattle.found.specs.Found.{Presence-row, First-row, End-found}
 use Rattle.base.specs.Stored.{Stored}
-use Rattle.base.proofs.KindBytes.{used-code, sound-code}
+use Rattle.found.proofs.KindBytes.{used-code, sound-code}
 use Rattle.base.proofs.Shown.{end-read, end-there}
 use Rattle.base.proofs.StoredLaws.{stored-long, stored-canonical}
-use Rattle.base.proofs.Walked.{some-presence, no-presence, first-presence, some-application, no-application, first-application, some-end, no-end}
-use Rattle.base.proofs.Walked.{presence-first}
+use Rattle.found.proofs.Walked.{some-presence, no-presence, first-presence, some-application, no-application, first-application, some-end, no-end}
+use Rattle.found.proofs.Walked.{presence-first}
 use Rattle.graph.proofs.Rows.{good-parental, parents-count, parents-place}
 use Rattle.working.proofs.ListedLaws.{any-there, any-nowhere}
-use Rattle.closed.specs.Held.{Ends}
-use Rattle.closed.proofs.HeldLaws.{side-same, has-row}
+use Rattle.held.specs.Held.{Ends}
+use Rattle.held.proofs.HeldLaws.{side-same, has-row}
 use Rattle.tables.proofs.OrderLaws.{ends-rise}
 use Rattle.tables.proofs.RestLaws.{written-side}
 use Rattle.conditions.specs.Conditions.{Free-type, child-in, application-with, end-with, End-place}

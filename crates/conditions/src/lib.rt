@@ -10,7 +10,7 @@ ghost use Rattle.rules.specs.07-Picture.{Sound, base-length};
 ghost use Rattle.rules.specs.09-Refusals.{missing-parent, has-child, in-application, in-end, still-used};
 ghost use Rattle.rules.proofs.07-Picture.{read-side};
 ghost use Rattle.base.specs.Back.{schema-of, presence-count, application-count, presence-shown, application-shown, end-shown};
-ghost use Rattle.base.specs.Found.{First-row};
+ghost use Rattle.found.specs.Found.{First-row};
 ghost use Rattle.base.specs.Stored.{Stored};
 ghost use Rattle.conditions.specs.Reverse.{Reverse-of};
 ghost use Rattle.conditions.specs.Conditions.{Free-type, child-in, application-with, end-with, End-place};
@@ -69,7 +69,7 @@ pub fn is_present(base: &[u8], d: usize, t: usize) -> bool
     requires { ⌜ length (now base) ≡ base-length ⌝ }
     ensures { λ r. ⌜ r ≡ present (schema-of (now (base .entry))) d t ⌝ }
 {
-    base::find::presence_row(base, d, t) < base::used::presence_count(base)
+    found::presence_row(base, d, t) < base::used::presence_count(base)
 }
 
 // Whether type t is in some SDS.
@@ -207,7 +207,7 @@ pub fn end_row(base: &[u8], d: usize, l: usize, side: usize, o: usize) -> usize
     ensures { λ r. ⌜ End-place (now (base .entry)) d l (read-side side) o r ⌝ }
 {
     let n = base::used::end_count(base);
-    base::find::end_row(base, n, n, d, l, side, o)
+    found::end_row(base, n, n, d, l, side, o)
 }
 
 pub fn is_end(base: &[u8], d: usize, l: usize, side: usize, o: usize) -> bool

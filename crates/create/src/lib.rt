@@ -28,7 +28,7 @@ pub fn aimed(base: &[u8], sds: usize, name: &[u8]) -> usize
     if !sound::is_sound(base) {
         return 1;
     }
-    if !base::find::is_sds(base, sds) {
+    if !found::is_sds(base, sds) {
         return 2;
     }
     if sds == 0 {

@@ -85,7 +85,7 @@ fn places_for(
     if !sound::is_sound(base) {
         return refused(1);
     }
-    if !base::find::is_sds(base, sds) {
+    if !found::is_sds(base, sds) {
         return refused(2);
     }
     if sds == 0 {

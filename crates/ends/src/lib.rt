@@ -36,7 +36,7 @@ fn aimed_at(base: &[u8], sds: usize, link: &[u8], object: &[u8]) -> Aim
     if !sound::is_sound(base) {
         return refused(1);
     }
-    if !base::find::is_sds(base, sds) {
+    if !found::is_sds(base, sds) {
         return refused(2);
     }
     if sds == 0 {

@@ -1,4 +1,2 @@
 pub mod Rows
 pub mod Laws
-pub mod KinLaws
-pub mod DepthLaws

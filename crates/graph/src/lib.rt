@@ -1,5 +1,4 @@
 // Whether no type is its own ancestor, from the rows of types alone.
-pub mod kin;
 
 use marks::TypeSet;
 use rules::Limits;
@@ -17,7 +16,7 @@ fn is_object(base: &[u8], t: usize) -> bool
     requires { ⌜ length (now base) ≡ base-length ⌝ }
     ensures { λ r. ⌜ r ≡ object-in (now (base .entry)) t ⌝ }
 {
-    base::find::is_kind(base, t, 1)
+    found::is_kind(base, t, 1)
 }
 
 // How many object types there are.

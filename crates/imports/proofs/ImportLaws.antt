@@ -29,14 +29,14 @@ use Rattle.rows.proofs.Scan.{length-part}
 use Rattle.rows.proofs.Written.{written-over, field-written}
 use Rattle.base.specs.Rows.{presence-at}
 use Rattle.base.specs.Back.{schema-of, presence-count}
-use Rattle.base.specs.Found.{Presence-row}
+use Rattle.found.specs.Found.{Presence-row}
 use Rattle.base.specs.Stored.{Shows}
 use Rattle.base.proofs.Back.{sound-good}
 use Rattle.base.proofs.Kept.{sound-long, kept-like}
-use Rattle.base.proofs.SdsShown.{known, unknown}
+use Rattle.found.proofs.SdsShown.{known, unknown}
 use Rattle.base.proofs.Shown.{presences-long}
 use Rattle.base.proofs.StoredLaws.{shows-schema, shows-next}
-use Rattle.base.proofs.Walked.{row-below, row-name}
+use Rattle.found.proofs.Walked.{row-below, row-name}
 use Rattle.names.specs.Field.{Stripped}
 use Rattle.conditions.specs.Reverse.{one-or-none, Reverse-of}
 use Rattle.conditions.specs.Tested.{Tested}

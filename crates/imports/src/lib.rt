@@ -42,10 +42,10 @@ fn is_one_unknown(base: &[u8], target: usize, source: usize) -> bool
     requires { ⌜ length (now base) ≡ base-length ⌝ }
     ensures { λ r. ⌜ r ≡ unknown-sds (schema-of (now (base .entry))) target || unknown-sds (schema-of (now (base .entry))) source ⌝ }
 {
-    if !base::find::is_sds(base, target) {
+    if !found::is_sds(base, target) {
         return true;
     }
-    !base::find::is_sds(base, source)
+    !found::is_sds(base, source)
 }
 
 // A new name may be blank.
@@ -130,7 +130,7 @@ fn filled(base: &[u8], source: usize, t: usize, new: &[u8]) -> [u8; Limits::NAME
 {
     let mut field: [u8; Limits::NAME] = [0; Limits::NAME];
     if new.len() == 0 {
-        let row = base::find::presence_row(base, source, t);
+        let row = found::presence_row(base, source, t);
         rows::table::write(&mut field, 0, base::presence_field(base, row));
         return field;
     }

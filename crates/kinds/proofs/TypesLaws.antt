@@ -24,8 +24,8 @@ use Rattle.rows.proofs.Decides.{decides-iff}
 use Rattle.base.specs.Rows.{type-at}
 use Rattle.base.specs.Back.{schema-of, kind-shown}
 use Rattle.base.proofs.Shown.{kind-is, kind-none, shows-attribute, shows-designation, shows-paired, shows-unused}
-use Rattle.base.proofs.KindBytes.{kind-byte, value-byte, reverse-byte, count-byte, parent-byte, parent-places, listed-parents}
-use Rattle.base.proofs.KindBytes.{object-shown, place-byte, places-long, row-bytes, object-bytes, paired-bytes}
+use Rattle.found.proofs.KindBytes.{kind-byte, value-byte, reverse-byte, count-byte, parent-byte, parent-places, listed-parents}
+use Rattle.found.proofs.KindBytes.{object-shown, place-byte, places-long, row-bytes, object-bytes, paired-bytes}
 use Rattle.kinds.specs.Parts.{Kinds, Parents, Reverses}
 use Rattle.kinds.specs.TypeRows.{NoParentsFrom, FewParents, PlainRow, LinkRow, Bounded, RowFine}
 use Rattle.kinds.specs.TypeRows.{least, ParentsFine, Answers, ReverseFine}

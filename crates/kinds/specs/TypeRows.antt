@@ -9,7 +9,7 @@ use Rattle.rules.specs.07-Picture.{type-row}
 use Rattle.rows.specs.Rows.{part}
 use Rattle.base.specs.Rows.{type-at}
 use Rattle.base.specs.Back.{kind-shown}
-use Rattle.base.proofs.KindBytes.{kind-byte, value-byte, reverse-byte, count-byte, parent-byte}
+use Rattle.found.proofs.KindBytes.{kind-byte, value-byte, reverse-byte, count-byte, parent-byte}
 
 -- ---- its row
 

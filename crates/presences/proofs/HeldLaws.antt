@@ -14,11 +14,11 @@ use Rattle.rules.proofs.Bools.{and-both, and-of}
 use Rattle.rules.proofs.01-Lists.{any-at}
 use Rattle.rules.proofs.Edits.{first-in}
 use Rattle.base.specs.Back.{schema-of, presence-count, presence-shown}
-use Rattle.base.specs.Found.{Presence-row}
+use Rattle.found.specs.Found.{Presence-row}
 use Rattle.base.specs.Stored.{less-row, Shows, Stored}
 use Rattle.base.proofs.Shown.{presence-there}
 use Rattle.base.proofs.TakenLaws.{presence-without}
-use Rattle.base.proofs.Walked.{some-presence, first-presence, presence-first}
+use Rattle.found.proofs.Walked.{some-presence, first-presence, presence-first}
 use Rattle.presences.specs.Remove.{Held-once, less-presence}
 
 -- the type that bears a name is there under it

@@ -21,7 +21,7 @@ use Rattle.rules.proofs.Edits.{without-in}
 use Rattle.rules.proofs.03-Names.{same-name-is}
 use Rattle.rules.proofs.09-Refusals.{Left}
 use Rattle.base.specs.Back.{schema-of, presence-count}
-use Rattle.base.specs.Found.{Presence-row}
+use Rattle.found.specs.Found.{Presence-row}
 use Rattle.base.specs.Stored.{less-row, Shows}
 use Rattle.base.proofs.Back.{sound-good}
 use Rattle.base.proofs.Shown.{presences-long}

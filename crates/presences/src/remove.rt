@@ -34,7 +34,7 @@ fn take_out(base: &mut [u8], d: usize, t: usize)
     requires { ⌜ Held-once (schema-of (now base)) d t ⌝ }
     ensures { λ _. ⌜ Shows (now (base .exit)) (less-presence d t (schema-of (now (base .entry)))) ⌝ }
 {
-    let row = base::find::presence_row(base, d, t);
+    let row = found::presence_row(base, d, t);
     base::edit::take_presence(base, row);
 }
 
@@ -56,7 +56,7 @@ pub fn remove_type(base: &mut [u8], sds: usize, name: &[u8]) -> Answer
     if !sound::is_sound(base) {
         return Answer::refused(1);
     }
-    if !base::find::is_sds(base, sds) {
+    if !found::is_sds(base, sds) {
         return Answer::refused(2);
     }
     if sds == 0 {

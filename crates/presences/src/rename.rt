@@ -28,7 +28,7 @@ pub fn rename(base: &mut [u8], sds: usize, name: &[u8], new: &[u8]) -> Answer
     if !sound::is_sound(base) {
         return Answer::refused(1);
     }
-    if !base::find::is_sds(base, sds) {
+    if !found::is_sds(base, sds) {
         return Answer::refused(2);
     }
     if sds == 0 {
@@ -47,7 +47,7 @@ pub fn rename(base: &mut [u8], sds: usize, name: &[u8], new: &[u8]) -> Answer
     if is_borne_by_another(base, sds, t, new) {
         return Answer::refused(11);
     }
-    let row = base::find::presence_row(base, sds, t);
+    let row = found::presence_row(base, sds, t);
     base::edit::take_presence(base, row);
     base::edit::put_presence(base, sds, new, t);
     Answer::done(0, 0, 0)

@@ -21,7 +21,7 @@ use Rattle.rules.proofs.09-Refusals.{Left, told, told-stops, told-passes}
 use Rattle.base.specs.Back.{schema-of}
 use Rattle.base.proofs.Back.{sound-good}
 use Rattle.base.proofs.Kept.{sound-long}
-use Rattle.base.proofs.SdsShown as SdsShown
+use Rattle.found.proofs.SdsShown as SdsShown
 use Rattle.scans.specs.declared.view.View.{View}
 use Rattle.scans.specs.View.{of-kind, type-refusals, Through, Viewed}
 

@@ -27,15 +27,15 @@ fn kin(base: &[u8], t: usize, code: usize) -> TypeSet
 {
     let s = one(t);
     if code == 0 {
-        return graph::kin::children_of(base, s);
+        return kin::children_of(base, s);
     }
     if code == 1 {
-        return graph::kin::descendants_of(base, s);
+        return kin::descendants_of(base, s);
     }
     if code == 2 {
-        return graph::kin::parents_of(base, s);
+        return kin::parents_of(base, s);
     }
-    graph::kin::ancestors_of(base, s)
+    kin::ancestors_of(base, s)
 }
 
 // The types whose attribute and link types count: the type, and with "all" its ancestors.
@@ -47,7 +47,7 @@ fn sources(base: &[u8], t: usize, all: bool) -> TypeSet
     if !all {
         return s;
     }
-    s.join(graph::kin::ancestors_of(base, s))
+    s.join(kin::ancestors_of(base, s))
 }
 
 // Codes 4 to 9: attribute, link-origin and link-destination, each without and with "all".
@@ -57,12 +57,12 @@ fn had(base: &[u8], sdss: TypeSet, t: usize, code: usize) -> TypeSet
 {
     let types = sources(base, t, code % 2 == 1);
     if code < 6 {
-        return working::shown::attributes(base, sdss, types);
+        return shown::attributes(base, sdss, types);
     }
     if code < 8 {
-        return working::shown::links(base, sdss, 0, types);
+        return shown::links(base, sdss, 0, types);
     }
-    working::shown::links(base, sdss, 1, types)
+    shown::links(base, sdss, 1, types)
 }
 
 pub fn of_object(base: &[u8], sdss: TypeSet, t: usize, code: usize) -> TypeSet
@@ -82,11 +82,11 @@ fn ends(base: &[u8], sdss: TypeSet, t: usize, code: usize) -> TypeSet
     requires { ⌜ Sound (now base) × (code < 4) ⌝ }
     ensures { λ r. ⌜ Scanned (schema-of (now (base .entry))) (has sdss) (λ w. link-scan (schema-of (now (base .entry))) w t code) (has r) ⌝ }
 {
-    let objects = working::shown::objects(base, sdss, code / 2, t);
+    let objects = shown::objects(base, sdss, code / 2, t);
     if code % 2 == 0 {
         return objects;
     }
-    objects.join(graph::kin::descendants_of(base, objects))
+    objects.join(kin::descendants_of(base, objects))
 }
 
 // Code 4 besides: the attribute types that are applied to it.
@@ -97,5 +97,5 @@ pub fn of_link(base: &[u8], sdss: TypeSet, t: usize, code: usize) -> TypeSet
     if code < 4 {
         return ends(base, sdss, t, code);
     }
-    working::shown::attributes(base, sdss, one(t))
+    shown::attributes(base, sdss, one(t))
 }

@@ -30,9 +30,9 @@ fn is_of_kind(base: &[u8], t: usize, link: bool) -> bool
     ensures { λ r. ⌜ r ≡ of-kind link (kind-of (schema-of (now (base .entry))) t) ⌝ }
 {
     if link {
-        return base::find::is_kind(base, t, 3);
+        return found::is_kind(base, t, 3);
     }
-    base::find::is_kind(base, t, 1)
+    found::is_kind(base, t, 1)
 }
 
 // `known` is whether the call knows the scan code that it was given, if it takes one.
@@ -49,7 +49,7 @@ pub fn of(base: &[u8], schema: &[u8], t: usize, link: bool, known: bool) -> View
         return refused(5);
     }
     let listed = working::listed::listed(base, schema);
-    let visible = working::shown::visible(base, listed);
+    let visible = shown::visible(base, listed);
     if !visible.holds(t) {
         return refused(6);
     }

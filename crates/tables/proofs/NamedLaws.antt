@@ -25,7 +25,7 @@ use Rattle.rows.proofs.Scan.{part-cons, length-part}
 use Rattle.base.specs.Rows.{sds-at, type-at, presence-at}
 use Rattle.base.specs.Back.{schema-of, sds-shown, presence-shown}
 use Rattle.base.proofs.Shown.{sds-is, kind-is, kind-none, shows-unused}
-use Rattle.base.proofs.SdsShown.{used-below}
+use Rattle.found.proofs.SdsShown.{used-below}
 use Rattle.tables.specs.Parts.{Sdss}
 use Rattle.tables.specs.Named.{fine-field, Alone}
 

@@ -55,7 +55,7 @@ fn alone_if_used(base: &[u8], d: usize) -> bool
     requires { ⌜ (length (now base) ≡ base-length) × (d < 16) ⌝ }
     ensures { λ r. ⌜ Decides (Alone (now (base .entry)) d) r ⌝ }
 {
-    if !base::find::is_sds(base, d) {
+    if !found::is_sds(base, d) {
         return true;
     }
     alone_after(base, d)
@@ -111,7 +111,7 @@ fn presence_fine(base: &[u8], i: usize) -> bool
     if !names::is_name_field(base::presence_field(base, i)) {
         return false;
     }
-    if !base::find::is_sds(base, base::presence_sds(base, i)) {
+    if !found::is_sds(base, base::presence_sds(base, i)) {
         return false;
     }
     is_type(base, base::presence_type(base, i))

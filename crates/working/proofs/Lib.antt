@@ -1,4 +1,2 @@
 pub mod ListedLaws
 pub mod FindLaws
-pub mod ShownLaws
-pub mod Rules

@@ -1,4 +1,3 @@
 // What a working schema, a list of SDSs, shows of a lent base.
 pub mod find;
 pub mod listed;
-pub mod shown;

@@ -28,7 +28,7 @@ pub fn has_unknown(base: &[u8], schema: &[u8]) -> bool
 {
     let mut i = 0;
     while i < schema.len() {
-        if !base::find::is_sds(base, wide(schema[i])) {
+        if !found::is_sds(base, wide(schema[i])) {
             return true;
         }
         i += 1;
@@ -88,7 +88,7 @@ pub fn listed(base: &[u8], schema: &[u8]) -> TypeSet
     let mut i = 0;
     while i < n {
         let d = sds_at(schema, i);
-        if base::find::is_sds(base, d) {
+        if found::is_sds(base, d) {
             s = s.add(d);
         }
         i += 1;

@@ -7,7 +7,7 @@ use borrow.Author.Tests.{not-true, not-false}
 use Rattle.rules.specs.03-Names.{well-formed}
 use Rattle.rules.specs.04-Schema.{used-sds, bears, type-named}
 use Rattle.base.specs.Back.{schema-of}
-use Rattle.base.proofs.SdsShown.{used-below, known, unknown}
+use Rattle.found.proofs.SdsShown.{used-below, known, unknown}
 use Rattle.base.proofs.Kept.{sound-long}
 use Rattle.apply.specs.Applying.{wrong-kind}
 use Rattle.conditions.proofs.NameLaws.{formed-passes, malformed-stops, system-stops, system-passes, one-malformed, other-malformed, none-malformed, name-there, name-missing, borne, not-borne}

@@ -5,7 +5,7 @@ use native.Mathlib.Omega.{arith}
 use mathlib.Core.Path.{_≡_, refl, sym, _∙_}
 use mathlib.Core.Bool.{true≢false}
 use borrow.Author.Tests.{not-true, not-false}
-use Rattle.closed.specs.Held.{Checks}
+use Rattle.closed.specs.Sds.{Checks}
 use Rattle.closed.proofs.ClosedLaws.{gathered-shows, gathered-twice, asked-types, asked-applications, asked-ends, sds-closed, checks-no}
 use Rattle.closed.proofs.sds_fine.Statement.{statement}
 use Rattle.closed.proofs.sds_fine.Tie as tie

@@ -7,7 +7,7 @@ use mathlib.Core.Path.{_≡_, refl, sym, ap, _∙_}
 use mathlib.Core.Bool.{true≢false, false≢true}
 use borrow.Author.Tests.{not-true, not-false}
 use Rattle.marks.specs.Set.{has}
-use Rattle.closed.specs.Held.{Gone-through}
+use Rattle.closed.specs.Sds.{Gone-through}
 use Rattle.closed.proofs.ClosedLaws.{Passed, passed-none, passed-more}
 use Rattle.closed.proofs.sdss_fine.Statement.{statement}
 use Rattle.closed.proofs.sdss_fine.Tie as tie

@@ -7,7 +7,7 @@ use Rattle.rules.specs.04-Schema.{is-parent}
 use Rattle.rows.proofs.Rows.{filled-most}
 use Rattle.base.specs.Back.{schema-of}
 use Rattle.base.proofs.Kept.{sound-long}
-use Rattle.working.proofs.ShownLaws.{presence-small}
+use Rattle.shown.proofs.ShownLaws.{presence-small}
 use Rattle.conditions.proofs.ConditionLaws.{differs, agrees}
 use Rattle.conditions.proofs.is_child.Statement.{statement}
 use Rattle.conditions.proofs.is_child.Tie as tie

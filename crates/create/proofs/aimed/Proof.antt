@@ -7,7 +7,7 @@ use borrow.Author.Tests.{not-true, not-false}
 use Rattle.rules.specs.04-Schema.{used-sds}
 use Rattle.base.specs.Back.{schema-of}
 use Rattle.base.proofs.Kept.{sound-long}
-use Rattle.base.proofs.SdsShown.{used-below, known, unknown}
+use Rattle.found.proofs.SdsShown.{used-below, known, unknown}
 use Rattle.conditions.specs.Tested.Tested.{spoiled}
 use Rattle.conditions.proofs.NameLaws.{formed-passes, malformed-stops, system-stops, system-passes}
 use Rattle.conditions.proofs.TestedLaws.{come-first, come-next, come-stops, come-through}

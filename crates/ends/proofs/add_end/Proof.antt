@@ -7,7 +7,7 @@ use Rattle.rules.specs.04-Schema.{has-end}
 use Rattle.rules.proofs.07-Picture.{read-side}
 use Rattle.rules.proofs.09-Refusals.{passes, stops, ends}
 use Rattle.base.specs.Back.{schema-of}
-use Rattle.base.proofs.SdsShown.{used-below}
+use Rattle.found.proofs.SdsShown.{used-below}
 use Rattle.base.proofs.Kept.{sound-long, kept-refused, kept-done}
 use Rattle.base.proofs.StoredLaws.{sound-stored, shows-stored}
 use Rattle.conditions.proofs.TestedLaws.{begun-stops}

@@ -7,7 +7,7 @@ use borrow.Author.Tests.{not-true, not-false}
 use Rattle.rules.specs.03-Names.{well-formed}
 use Rattle.rules.specs.04-Schema.{used-sds, bears, type-named}
 use Rattle.base.specs.Back.{schema-of}
-use Rattle.base.proofs.SdsShown.{known, unknown}
+use Rattle.found.proofs.SdsShown.{known, unknown}
 use Rattle.base.proofs.Kept.{sound-long}
 use Rattle.conditions.proofs.NameLaws.{formed-passes, malformed-stops, system-stops, system-passes, one-malformed, other-malformed, none-malformed, borne, not-borne}
 use Rattle.conditions.specs.Tested.Tested.{spoiled}

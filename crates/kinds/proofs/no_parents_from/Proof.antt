@@ -6,7 +6,7 @@ use Prim.Native.Nat.{ℕ, _≤_, _<_, _-_}
 use mathlib.Core.Path.{_≡_, sym, _∙_}
 use borrow.Author.Count.{below-more}
 use Rattle.rows.proofs.Decides.{decides-yes, decides-no}
-use Rattle.base.proofs.KindBytes.{parent-byte}
+use Rattle.found.proofs.KindBytes.{parent-byte}
 use Rattle.kinds.proofs.no_parents_from.Statement.{statement}
 use Rattle.kinds.proofs.no_parents_from.Tie as tie
 

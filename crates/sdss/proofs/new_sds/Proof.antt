@@ -12,7 +12,7 @@ use Rattle.rules.specs.10-Changes.{new-sds, new-sds-refusals}
 use Rattle.rules.proofs.03-Names.{formed-long}
 use Rattle.rules.proofs.09-Refusals.{Left, passes, stops, ends}
 use Rattle.base.specs.Back.{schema-of}
-use Rattle.base.proofs.SdsShown.{free-some, free-none, free-number}
+use Rattle.found.proofs.SdsShown.{free-some, free-none, free-number}
 use Rattle.base.proofs.Kept.{sound-long, kept-spoiled, kept-refused, kept-done, sds-changed}
 use Rattle.conditions.proofs.NameLaws.{formed-passes, malformed-stops}
 use Rattle.sdss.proofs.Laws.{named, new-sds-effect, new-sds-left}

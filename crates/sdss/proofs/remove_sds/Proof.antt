@@ -11,7 +11,7 @@ use Rattle.rules.specs.07-Picture.{Sound}
 use Rattle.rules.specs.10-Changes.{remove-sds, remove-sds-refusals}
 use Rattle.rules.proofs.09-Refusals.{Left, passes, stops, ends}
 use Rattle.base.specs.Back.{schema-of}
-use Rattle.base.proofs.SdsShown.{used-below, known, unknown}
+use Rattle.found.proofs.SdsShown.{used-below, known, unknown}
 use Rattle.base.proofs.Kept.{sound-long, kept-spoiled, kept-refused, kept-done, sds-changed}
 use Rattle.sdss.proofs.Laws.{remove-sds-effect, remove-sds-left}
 use Rattle.conditions.proofs.NameLaws.{system-stops, system-passes}

@@ -9,7 +9,7 @@ use Rattle.rules.specs.04-Schema.{used-sds}
 use Rattle.rules.specs.09-Refusals.{no-pair, names-taken}
 use Rattle.base.specs.Back.{schema-of}
 use Rattle.base.proofs.Kept.{sound-long}
-use Rattle.base.proofs.SdsShown.{used-below, known, unknown}
+use Rattle.found.proofs.SdsShown.{used-below, known, unknown}
 use Rattle.conditions.specs.Tested.Tested.{spoiled}
 use Rattle.conditions.proofs.NameLaws.{formed-passes, malformed-stops, system-stops, system-passes, one-malformed, other-malformed, none-malformed}
 use Rattle.conditions.proofs.TestedLaws.{come-first, come-next, come-stops, come-rest}

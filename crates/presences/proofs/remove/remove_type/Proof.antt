@@ -12,7 +12,7 @@ use Rattle.rules.specs.07-Picture.{Sound}
 use Rattle.rules.specs.10-Changes.{remove-type, remove-type-refusals}
 use Rattle.rules.proofs.09-Refusals.{Left, passes, stops, ends}
 use Rattle.base.specs.Back.{schema-of}
-use Rattle.base.proofs.SdsShown.{known, unknown}
+use Rattle.found.proofs.SdsShown.{known, unknown}
 use Rattle.base.proofs.Kept.{sound-long, kept-spoiled, kept-refused, kept-done}
 use Rattle.base.proofs.StoredLaws.{sound-stored, shows-stored}
 use Rattle.conditions.proofs.NameLaws.{formed-passes, malformed-stops, system-stops, system-passes, name-there, name-missing, borne, not-borne}

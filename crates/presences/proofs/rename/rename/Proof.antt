@@ -13,7 +13,7 @@ use Rattle.rules.specs.07-Picture.{Sound, picture}
 use Rattle.rules.specs.10-Changes.{rename, rename-refusals}
 use Rattle.rules.proofs.09-Refusals.{Left, passes, stops, ends}
 use Rattle.base.specs.Back.{schema-of, presence-count}
-use Rattle.base.proofs.SdsShown.{used-below, known, unknown}
+use Rattle.found.proofs.SdsShown.{used-below, known, unknown}
 use Rattle.base.proofs.Kept.{sound-long, kept-spoiled, kept-refused, kept-done}
 use Rattle.base.proofs.StoredLaws.{sound-stored, shows-stored}
 use Rattle.conditions.proofs.NameLaws.{formed-passes, malformed-stops, system-stops, system-passes, one-malformed, other-malformed, none-malformed, name-there, name-missing, borne, not-borne}

@@ -1,7 +1,7 @@
 -- `ask::view::is_of_kind` meets its contract. Assumes nothing.
 use native.Mathlib.Omega.{arith}
 use mathlib.Core.Path.{sym}
-use Rattle.base.proofs.KindBytes.{told-object, told-link}
+use Rattle.found.proofs.KindBytes.{told-object, told-link}
 use Rattle.scans.proofs.ViewLaws.{kind-link, kind-object}
 use Rattle.scans.proofs.view.is_of_kind.Statement.{statement}
 use Rattle.scans.proofs.view.is_of_kind.Tie as tie

@@ -9,7 +9,7 @@ use Rattle.rules.specs.08-Working.{visible}
 use Rattle.base.specs.Back.{schema-of}
 use Rattle.base.proofs.Kept.{sound-long}
 use Rattle.marks.specs.Set.{has}
-use Rattle.working.proofs.Rules.{visible-are}
+use Rattle.shown.proofs.Rules.{visible-are}
 use Rattle.scans.proofs.ViewLaws.{Past, come-first, come-next, view-spoiled, view-refused, view-through, visible-below, listed-small, not-seen, seen}
 use Rattle.scans.proofs.view.of.Statement.{statement}
 use Rattle.scans.proofs.view.of.Tie as tie

@@ -10,7 +10,7 @@ use lib.Dec.{eqb}
 use lib.ListN.{length}
 use Rattle.rules.specs.01-Lists.{among}
 use Rattle.base.specs.Back.{schema-of}
-use Rattle.base.proofs.SdsShown.{used-below}
+use Rattle.found.proofs.SdsShown.{used-below}
 use Rattle.marks.specs.declared.TypeSet.{TypeSet}
 use Rattle.marks.specs.Set.{has}
 use Rattle.working.specs.Listed.{drawn-from}

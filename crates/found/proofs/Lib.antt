@@ -1,0 +1,4 @@
+pub mod Walked
+pub mod FindLaws
+pub mod KindBytes
+pub mod SdsShown

@@ -1,0 +1,44 @@
+-- What a search of the bytes finds.
+use Prim.Native.Nat.{ℕ, _+_, _≤_, _<_}
+use mathlib.Core.Path.{_≡_}
+use mathlib.Core.List.{List}
+use mathlib.Core.Bool.{Bool, true, false}
+use lib.ListN.{getD}
+use Rattle.rules.specs.04-Schema.{used-sds}
+use Rattle.base.specs.Rows.{presence-at, end-at, End-row}
+use Rattle.base.specs.Back.{schema-of}
+
+-- r is the lowest number that no SDS has, 16 where every number is used
+pub record Free-sds (b : List ℕ) (r : ℕ) : Type 0 where
+  pub fits : r ≤ 16
+  pub used : (d : ℕ) → d < r → used-sds (schema-of b) d ≡ true
+  pub free : r < 16 → used-sds (schema-of b) r ≡ false
+
+-- row i says that type t is in SDS d
+abbrev pub Row-of : List ℕ → ℕ → ℕ → ℕ → Type 0
+Row-of b i d t = (getD b (presence-at i) 0 ≡ d) × (getD b (presence-at i + 17) 0 ≡ t)
+
+-- row r is the first of n that says that type t is in SDS d, and n where none does
+pub record Presence-row (b : List ℕ) (n d t r : ℕ) : Type 0 where
+  pub fits : r ≤ n
+  pub others : (i : ℕ) → i < r → Row-of b i d t → ⊥
+  pub found : r < n → Row-of b r d t
+
+-- r is the first of n rows that passes, and n where none does
+pub record First-row (n : ℕ) (passes : ℕ → Bool) (r : ℕ) : Type 0 where
+  pub fits : r ≤ n
+  pub others : (i : ℕ) → i < r → passes i ≡ false
+  pub found : r < n → passes r ≡ true
+
+-- row i is one of the n ends, and has these bytes
+pub record End-at (b : List ℕ) (n i d l side o : ℕ) : Type 0 where
+  pub below : i < n
+  pub sds : getD b (end-at i) 0 ≡ d
+  pub link : getD b (end-at i + 1) 0 ≡ l
+  pub turned : getD b (end-at i + 2) 0 ≡ side
+  pub object : getD b (end-at i + 3) 0 ≡ o
+
+-- row r of the n ends has these bytes, unless there are no more than r, and then none of them has
+pub record End-found (b : List ℕ) (n d l side o r : ℕ) : Type 0 where
+  pub found : r < n → End-at b n r d l side o
+  pub none : n ≤ r → End-row b n d l side o → ⊥

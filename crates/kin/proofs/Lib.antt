@@ -1,0 +1,2 @@
+pub mod KinLaws
+pub mod DepthLaws

@@ -3,13 +3,15 @@
 //!
 //! `compare [--calls N] [--spoiled N] [--seed S] -- PROGRAM..`
 //! `compare bench SQLITE -- PROGRAM..`
+//! `compare cases STDIN STDOUT`
 //!
 //! PROGRAM and its words start the process that serves the library (`tests/c/serve.c`), SQLITE is the program that
-//! asks SQLite (`tests/c/sqlite.c`).
+//! asks SQLite (`tests/c/sqlite.c`). STDIN holds the lines of `crates/cases`, STDOUT what they print.
 
 mod base;
 mod bench;
 mod calls;
+mod cases;
 mod coverage;
 mod keeper;
 mod library;
@@ -100,6 +102,11 @@ fn run(options: &Options, program: &[String]) -> Result<(Counts, Vec<String>), S
 
 fn main() -> ExitCode {
     let arguments: Vec<String> = std::env::args().skip(1).collect();
+    if let [mode, stdin, stdout] = &arguments[..] {
+        if mode == "cases" {
+            return cases::cases(stdin, stdout);
+        }
+    }
     let at = arguments.iter().position(|word| word == "--").unwrap_or(arguments.len());
     let program = arguments.get(at + 1..).unwrap_or_default();
     if let [mode, sqlite] = &arguments[..at] {
@@ -108,7 +115,8 @@ fn main() -> ExitCode {
         }
     }
     let Some(options) = options(&arguments[..at]).filter(|_| !program.is_empty()) else {
-        eprintln!("compare [--calls N] [--spoiled N] [--seed S] -- PROGRAM..\ncompare bench SQLITE -- PROGRAM..");
+        eprintln!("compare [--calls N] [--spoiled N] [--seed S] -- PROGRAM..");
+        eprintln!("compare bench SQLITE -- PROGRAM..\ncompare cases STDIN STDOUT");
         return ExitCode::from(2);
     };
     let (counts, differences) = match run(&options, program) {

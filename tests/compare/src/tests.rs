@@ -4,6 +4,7 @@
 
 use crate::base::{from_bytes, is_sound, to_bytes, APPLICATIONS, ENDS, LENGTH, PRESENCES, SDSS, TYPES};
 use crate::calls::{apply as keep, Call, CALLS};
+use crate::cases::printed;
 use crate::random::{free_places, Mode, Random};
 use crate::run::Run;
 use crate::schema::{Application, End, Schema, Sds, Side, Type};
@@ -1006,6 +1007,40 @@ fn every_way_of_spoiling() {
         let bases = (0..200).map(|_| spoiled(way, &mut random, &base));
         assert!(bases.filter(|spoiled| !is_sound(spoiled)).count() > 40, "{name}");
     }
+}
+
+/// Words that are missing or no numbers are taken as `crates/cases` takes them.
+#[test]
+fn lines_of_the_cases() {
+    let long = "find - ".to_string() + &"a".repeat(121);
+    let lines = [
+        ("new_sds bus", " = 1 0 0 0"),
+        ("fresh", " = 0 0 0 0"),
+        ("# fresh", ""),
+        ("", ""),
+        (" fresh", " = ?"),
+        ("new_sds bus", " = 0 1 0 0"),
+        ("import 1", " = 4 0 0 0"),
+        ("import 1 - object", " = 0 0 0 0"),
+        ("new_object 1 unit object", " = 0 1 0 0"),
+        ("new_object 1 box", " = 5 0 0 0"),
+        ("new_object 1 box -", " = 4 0 0 0"),
+        ("new_attribute 1 mass", " = 0 2 0 0"),
+        ("new_attribute 1 size A", " = 5 0 0 0"),
+        ("remove_sds 1A", " = 2 0 0 0"),
+        ("remove_sds 100000000000000000000001", " = 2 0 0 0"),
+        ("depth G 0", " = 2 0 0 0"),
+        ("scan_object 1 0 1", " = 15 0 0 0"),
+        ("scan_object 1 0 1 9999", " = 0 1 0 0 : 1"),
+        ("output 2", " : 1 0"),
+        (&long[..127], " = 4 0 0 0"),
+        (&long, " = ?"),
+    ];
+    let stdin = lines.map(|(line, _)| line).join("\n");
+    let stdout = lines.map(|(line, behind)| format!("{line}{behind}\n")).concat();
+    assert_eq!(printed(stdin.as_bytes()), (stdout.clone().into_bytes(), 16));
+    // Of a longer line no more is printed.
+    assert_eq!(printed((stdin + "aa\n").as_bytes()), (stdout.into_bytes(), 16));
 }
 
 /// A run in each mode finds no fault. Where a table is to be full, it has none, one and two places left. Every code is

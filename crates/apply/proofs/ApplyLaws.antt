@@ -25,7 +25,7 @@ use Rattle.base.specs.Stored.{less-row, Shows}
 use Rattle.base.proofs.Kept.{kept-refused}
 use Rattle.base.proofs.Shown.{applications-long}
 use Rattle.base.proofs.StoredLaws.{sound-stored}
-use Rattle.base.proofs.TakenLaws.{application-without}
+use Rattle.edit.proofs.TakenLaws.{application-without}
 use Rattle.found.specs.Kinds.{kind-code}
 use Rattle.found.proofs.KindBytes.{told-object, told-attribute, told-link}
 use Rattle.apply.specs.declared.Asked.{Asked}

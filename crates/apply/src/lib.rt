@@ -91,7 +91,7 @@ pub fn apply(base: &mut [u8], sds: usize, attribute: &[u8], to: &[u8]) -> Answer
     if Limits::APPLICATIONS <= base::used::application_count(base) {
         return Answer::refused(14);
     }
-    base::edit::put_application(base, sds, asked.to, asked.attribute);
+    edit::put_application(base, sds, asked.to, asked.attribute);
     Answer::done(0, 0, 0)
 }
 
@@ -106,6 +106,6 @@ pub fn unapply(base: &mut [u8], sds: usize, attribute: &[u8], to: &[u8]) -> Answ
     if base::used::application_count(base) <= row {
         return Answer::refused(13);
     }
-    base::edit::take_application(base, row);
+    edit::take_application(base, row);
     Answer::done(0, 0, 0)
 }

@@ -1,11 +1,7 @@
 pub mod Back
 pub mod Shown
 pub mod SdsWritten
-pub mod Fresh
 pub mod Kept
 pub mod OrderLaws
 pub mod StoredLaws
 pub mod OrderedLaws
-pub mod EditLaws
-pub mod TypeWritten
-pub mod TakenLaws

@@ -1,24 +1,18 @@
-// The lent base: the only crate that knows where a row starts and how wide it is. Everything above reads and writes fields by
-// their number of SDS, type or row.
-pub mod edit;
+// The lent base: here alone stands where a row starts and how wide it is. Everything above reads fields by their number of SDS, type
+// or row.
 pub mod order;
 pub mod split;
 pub mod used;
-pub mod write;
 
 use rules::Limits;
 ghost use mathlib.Core.Path.{_≡_};
 ghost use Prim.Native.Nat.{_+_, _<_};
 ghost use lib.ListN.{length};
-ghost use Rattle.rules.specs.04-Schema.{fresh};
-ghost use Rattle.rules.specs.07-Picture.{picture, base-length};
+ghost use Rattle.rules.specs.07-Picture.{base-length};
 ghost use Rattle.rows.specs.Rows.{part, Reads};
 ghost use Rattle.base.specs.Rows.{sds-at, type-at, presence-at, application-at, end-at};
 
-// A base by value, for a program that holds its own.
-pub struct Base {
-    pub bytes: [u8; Base::LENGTH],
-}
+pub struct Base {}
 
 impl Base {
     pub const SDS_WIDTH: usize = Limits::NAME;
@@ -42,14 +36,6 @@ impl Base {
         + Limits::APPLICATIONS * Base::APPLICATION_WIDTH;
 
     pub const LENGTH: usize = Base::ENDS_AT + Limits::ENDS * Base::END_WIDTH;
-
-    pub fn fresh() -> Base
-        ensures { λ r. ⌜ r .bytes ≡ picture fresh ⌝ }
-    {
-        let mut bytes: [u8; Base::LENGTH] = [0; Base::LENGTH];
-        write::write_fresh(&mut bytes);
-        Base { bytes }
-    }
 }
 
 // ---- SDSs

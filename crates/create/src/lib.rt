@@ -79,8 +79,8 @@ pub fn new_attribute(base: &mut [u8], sds: usize, name: &[u8], value: usize) -> 
     if place.no != 0 {
         return Answer::refused(place.no);
     }
-    base::edit::write_type(base, place.t, 2, value, 0, b"");
-    base::edit::put_presence(base, sds, name, place.t);
+    edit::write_type(base, place.t, 2, value, 0, b"");
+    edit::put_presence(base, sds, name, place.t);
     Answer::done(place.t, 0, 0)
 }
 
@@ -91,7 +91,7 @@ pub fn new_designation(base: &mut [u8], sds: usize, name: &[u8]) -> Answer
     if place.no != 0 {
         return Answer::refused(place.no);
     }
-    base::edit::write_type(base, place.t, 3, 4, 0, b"");
-    base::edit::put_presence(base, sds, name, place.t);
+    edit::write_type(base, place.t, 3, 4, 0, b"");
+    edit::put_presence(base, sds, name, place.t);
     Answer::done(place.t, 0, 0)
 }

@@ -120,9 +120,9 @@ pub fn new_pair(
     if places.no != 0 {
         return Answer::refused(places.no);
     }
-    base::edit::write_type(base, places.t, 3, category, places.r, b"");
-    base::edit::put_presence(base, sds, name, places.t);
-    base::edit::write_type(base, places.r, 3, back, places.t, b"");
-    base::edit::put_presence(base, sds, reverse, places.r);
+    edit::write_type(base, places.t, 3, category, places.r, b"");
+    edit::put_presence(base, sds, name, places.t);
+    edit::write_type(base, places.r, 3, back, places.t, b"");
+    edit::put_presence(base, sds, reverse, places.r);
     Answer::done(places.t, places.r, 0)
 }

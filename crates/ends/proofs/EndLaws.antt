@@ -30,7 +30,7 @@ use Rattle.base.specs.Stored.{Shows, Stored, less-row}
 use Rattle.base.proofs.Back.{sound-good}
 use Rattle.base.proofs.Shown.{ends-long}
 use Rattle.base.proofs.StoredLaws.{sound-stored, shows-schema, shows-stored, shows-next}
-use Rattle.base.proofs.TakenLaws.{one-end, end-without}
+use Rattle.edit.proofs.TakenLaws.{one-end, end-without}
 use Rattle.found.proofs.KindBytes.{object-byte, link-byte}
 use Rattle.conditions.proofs.ReverseLaws.{one-is, none-is}
 use Rattle.ends.specs.declared.Aim.{Aim}

@@ -99,11 +99,11 @@ fn add_end(base: &mut [u8], sds: usize, link: &[u8], object: &[u8], side: usize)
     if is_full(base, reverse) {
         return Answer::refused(14);
     }
-    base::edit::put_end(base, sds, aim.link, side, aim.object);
+    edit::put_end(base, sds, aim.link, side, aim.object);
     if reverse == Limits::TYPES {
         return Answer::done(0, 0, 0);
     }
-    base::edit::put_end(base, sds, reverse, 1 - side, aim.object);
+    edit::put_end(base, sds, reverse, 1 - side, aim.object);
     Answer::done(0, 0, 0)
 }
 
@@ -121,12 +121,12 @@ fn remove_end(base: &mut [u8], sds: usize, link: &[u8], object: &[u8], side: usi
         return Answer::refused(13);
     }
     let reverse = conditions::reverse_of(base, aim.link);
-    base::edit::take_end(base, row);
+    edit::take_end(base, row);
     if reverse == Limits::TYPES {
         return Answer::done(0, 0, 0);
     }
     let mirror = conditions::end_row(base, sds, reverse, 1 - side, aim.object);
-    base::edit::take_end(base, mirror);
+    edit::take_end(base, mirror);
     Answer::done(0, 0, 0)
 }
 

@@ -153,7 +153,7 @@ fn enter_one(base: &mut [u8], d: usize, name: &[u8], t: usize) -> Answer
     if Limits::PRESENCES <= base::used::presence_count(base) {
         return Answer::refused(14);
     }
-    base::edit::put_presence(base, d, name, t);
+    edit::put_presence(base, d, name, t);
     Answer::done(t, 0, 0)
 }
 
@@ -178,8 +178,8 @@ fn enter_both(base: &mut [u8], d: usize, name: &[u8], t: usize, other: &[u8], r:
     if Limits::PRESENCES < base::used::presence_count(base) + 2 {
         return Answer::refused(14);
     }
-    base::edit::put_presence(base, d, name, t);
-    base::edit::put_presence(base, d, other, r);
+    edit::put_presence(base, d, name, t);
+    edit::put_presence(base, d, other, r);
     Answer::done(t, r, 0)
 }
 

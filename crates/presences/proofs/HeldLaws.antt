@@ -17,7 +17,7 @@ use Rattle.base.specs.Back.{schema-of, presence-count, presence-shown}
 use Rattle.found.specs.Found.{Presence-row}
 use Rattle.base.specs.Stored.{less-row, Shows, Stored}
 use Rattle.base.proofs.Shown.{presence-there}
-use Rattle.base.proofs.TakenLaws.{presence-without}
+use Rattle.edit.proofs.TakenLaws.{presence-without}
 use Rattle.found.proofs.Walked.{some-presence, first-presence, presence-first}
 use Rattle.presences.specs.Remove.{Held-once, less-presence}
 

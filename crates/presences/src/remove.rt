@@ -35,7 +35,7 @@ fn take_out(base: &mut [u8], d: usize, t: usize)
     ensures { λ _. ⌜ Shows (now (base .exit)) (less-presence d t (schema-of (now (base .entry)))) ⌝ }
 {
     let row = found::presence_row(base, d, t);
-    base::edit::take_presence(base, row);
+    edit::take_presence(base, row);
 }
 
 // Type t goes where it is in no SDS any more.
@@ -45,7 +45,7 @@ fn drop_if_gone(base: &mut [u8], t: usize)
     ensures { λ _. ⌜ Shows (now (base .exit)) (less-gone (t ∷ []) (schema-of (now (base .entry)))) ⌝ }
 {
     if !conditions::is_elsewhere(base, t) {
-        base::edit::write_type(base, t, 0, 0, 0, b"");
+        edit::write_type(base, t, 0, 0, 0, b"");
     }
 }
 

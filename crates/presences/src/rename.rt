@@ -48,7 +48,7 @@ pub fn rename(base: &mut [u8], sds: usize, name: &[u8], new: &[u8]) -> Answer
         return Answer::refused(11);
     }
     let row = found::presence_row(base, sds, t);
-    base::edit::take_presence(base, row);
-    base::edit::put_presence(base, sds, new, t);
+    edit::take_presence(base, row);
+    edit::put_presence(base, sds, new, t);
     Answer::done(0, 0, 0)
 }

@@ -11,7 +11,7 @@ pub fn fresh(base: &mut [u8]) -> Answer
     if base.len() != Base::LENGTH {
         return Answer::refused(1);
     }
-    base::write::write_fresh(base);
+    edit::write_fresh(base);
     Answer::done(0, 0, 0)
 }
 
@@ -31,7 +31,7 @@ pub fn new_sds(base: &mut [u8], name: &[u8]) -> Answer
     if Limits::SDSS <= d {
         return Answer::refused(14);
     }
-    base::write::write_sds(base, d, name);
+    edit::write_sds(base, d, name);
     Answer::done(d, 0, 0)
 }
 
@@ -50,6 +50,6 @@ pub fn remove_sds(base: &mut [u8], sds: usize) -> Answer
     if found::holds_presence(base, sds) {
         return Answer::refused(12);
     }
-    base::write::write_sds(base, sds, b"");
+    edit::write_sds(base, sds, b"");
     Answer::done(0, 0, 0)
 }

@@ -3,7 +3,7 @@ use native.Mathlib.Omega.{arith}
 use mathlib.Core.Path.{refl}
 use Rattle.rules.specs.01-Lists.{all}
 use Rattle.base.proofs.StoredLaws.{sound-stored}
-use Rattle.base.proofs.TypeWritten.{paired-written}
+use Rattle.edit.proofs.TypeWritten.{paired-written}
 use Rattle.conditions.proofs.TestedLaws.{tested-stops, tested-passes}
 use Rattle.create.proofs.CreateLaws.{presence-ready}
 use Rattle.create.proofs.PairLaws.{new-pair-left, forward-ready, row-ready, reverse-ready, pair-kept}

@@ -3,7 +3,7 @@ use native.Mathlib.Omega.{arith}
 use mathlib.Core.Path.{sym, _∙_}
 use borrow.Author.Tests.{not-true, not-false}
 use Rattle.base.proofs.StoredLaws.{stored-long}
-use Rattle.base.proofs.TypeWritten.{unused-written}
+use Rattle.edit.proofs.TypeWritten.{unused-written}
 use Rattle.presences.proofs.RemoveLaws.{stays, gone}
 use Rattle.presences.proofs.remove.drop_if_gone.Statement.{statement}
 use Rattle.presences.proofs.remove.drop_if_gone.Tie as tie

@@ -1,0 +1,4 @@
+pub mod Fresh
+pub mod EditLaws
+pub mod TypeWritten
+pub mod TakenLaws

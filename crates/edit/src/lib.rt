@@ -1,0 +1,178 @@
+// Rows put in, taken out and written over: each is the same edit of the schema that the bytes show. Within a call a base is not
+// always sound; here it need only be stored. Where a row starts and how wide it is, `base` says.
+use base::Base;
+use rules::Limits;
+ghost use mathlib.Core.Path.{_≡_};
+ghost use mathlib.Core.Bool.{true, false};
+ghost use Prim.Native.Nat.{_≤_, _<_};
+ghost use lib.ListN.{length};
+ghost use Rattle.rules.specs.01-Lists.{put};
+ghost use Rattle.rules.specs.03-Names.{well-formed};
+ghost use Rattle.rules.specs.04-Schema.{bears, applied, has-end, presence-before, application-before, end-before, fresh};
+ghost use Rattle.rules.specs.07-Picture.{presence-row, sds-row, picture, base-length};
+ghost use Rattle.rules.specs.10-Changes.{with-presences, with-applications, with-ends};
+ghost use Rattle.rules.proofs.07-Picture.{read-side};
+ghost use Rattle.base.specs.Back.{schema-of, presence-count, application-count, end-count};
+ghost use Rattle.base.specs.Stored.{Stored, Shows, less-row, Type-written, type-fields};
+ghost use Rattle.rows.specs.Table.{written};
+ghost use Rattle.base.specs.Rows.{sds-at};
+
+// ---- all of it
+
+// All zero, but for the names of SDS 0 and type 0 and the kind of type 0.
+pub fn write_fresh(base: &mut [u8])
+    requires { ⌜ length (now base) ≡ base-length ⌝ }
+    ensures { λ _. ⌜ now (base .exit) ≡ picture fresh ⌝ }
+{
+    rows::table::clear(base);
+    rows::table::write(base, 0, b"system");
+    base[Base::TYPES_AT] = 1;
+    rows::table::write(base, Base::PRESENCES_AT + 1, b"object");
+}
+
+// ---- SDSs
+
+// SDS d gets the name, or none where it is blank.
+pub fn write_sds(base: &mut [u8], d: usize, name: &[u8])
+    requires { ⌜ (length (now base) ≡ base-length) × ((d < 16) × (length (now name) ≤ 16)) ⌝ }
+    ensures { λ _. ⌜ now (base .exit) ≡ written (now (base .entry)) (sds-at d) (sds-row (now (name .entry))) ⌝ }
+{
+    let at = d * Base::SDS_WIDTH;
+    let end = at + Base::SDS_WIDTH;
+    rows::table::clear(&mut base[at..end]);
+    rows::table::write(base, at, name);
+}
+
+// ---- presences
+
+// The bytes of the row that says that type t is in SDS d under that name.
+fn presence_bytes(d: usize, name: &[u8], t: usize) -> [u8; Base::PRESENCE_WIDTH]
+    requires { ⌜ (d < 256) × ((t < 256) × (length (now name) ≤ 16)) ⌝ }
+    ensures { λ r. ⌜ r ≡ presence-row (record { sds = d; name = now (name .entry); type = t }) ⌝ }
+{
+    let mut row: [u8; Base::PRESENCE_WIDTH] = [0; Base::PRESENCE_WIDTH];
+    row[0] = (d % 256) as u8;
+    row[Limits::NAME + 1] = (t % 256) as u8;
+    rows::table::write(&mut row, 1, name);
+    row
+}
+
+// Type t gets a presence in SDS d, under a name that is free there.
+pub fn put_presence(base: &mut [u8], d: usize, name: &[u8], t: usize)
+    requires { ⌜ Stored (now base) ⌝ }
+    requires { ⌜ (d < 256) × (t < 256) ⌝ }
+    requires { ⌜ well-formed (now name) ≡ true ⌝ }
+    requires { ⌜ length ((schema-of (now base)) .presences) < 512 ⌝ }
+    requires { ⌜ bears (schema-of (now base)) d (now name) ≡ false ⌝ }
+    ensures { λ _. ⌜ (let s = schema-of (now (base .entry)) in
+        Shows (now (base .exit)) (with-presences s (put presence-before (record { sds = d; name = now (name .entry); type = t }) (s .presences)))) ⌝ }
+{
+    let row = presence_bytes(d, name, t);
+    let n = base::used::presence_count(base);
+    rows::table::put_in(base, Base::PRESENCES_AT, n, &row);
+}
+
+// Row i goes.
+pub fn take_presence(base: &mut [u8], i: usize)
+    requires { ⌜ Stored (now base) ⌝ }
+    requires { ⌜ i < presence-count (now base) ⌝ }
+    ensures { λ _. ⌜ (let s = schema-of (now (base .entry)) in Shows (now (base .exit)) (with-presences s (less-row i (s .presences)))) ⌝ }
+{
+    let n = base::used::presence_count(base);
+    let at = Base::PRESENCES_AT + i * Base::PRESENCE_WIDTH;
+    let end = Base::PRESENCES_AT + n * Base::PRESENCE_WIDTH;
+    rows::table::take_row(base, at, end, Base::PRESENCE_WIDTH);
+}
+
+// ---- applications
+
+// Attribute type a is applied to type t in SDS d, as it was not.
+pub fn put_application(base: &mut [u8], d: usize, t: usize, a: usize)
+    requires { ⌜ Stored (now base) ⌝ }
+    requires { ⌜ (d ≡ 0 → ⊥) × ((d < 256) × ((t < 256) × (a < 256))) ⌝ }
+    requires { ⌜ length ((schema-of (now base)) .applications) < 256 ⌝ }
+    requires { ⌜ applied (schema-of (now base)) d t a ≡ false ⌝ }
+    ensures { λ _. ⌜ (let s = schema-of (now (base .entry)) in
+        Shows (now (base .exit)) (with-applications s (put application-before (record { sds = d; to = t; attribute = a }) (s .applications)))) ⌝ }
+{
+    let row = [(d % 256) as u8, (t % 256) as u8, (a % 256) as u8];
+    let n = base::used::application_count(base);
+    rows::table::put_in(base, Base::APPLICATIONS_AT, n, &row);
+}
+
+// Row i goes.
+pub fn take_application(base: &mut [u8], i: usize)
+    requires { ⌜ Stored (now base) ⌝ }
+    requires { ⌜ i < application-count (now base) ⌝ }
+    ensures { λ _. ⌜ (let s = schema-of (now (base .entry)) in Shows (now (base .exit)) (with-applications s (less-row i (s .applications)))) ⌝ }
+{
+    let n = base::used::application_count(base);
+    let at = Base::APPLICATIONS_AT + i * Base::APPLICATION_WIDTH;
+    let end = Base::APPLICATIONS_AT + n * Base::APPLICATION_WIDTH;
+    rows::table::take_row(base, at, end, Base::APPLICATION_WIDTH);
+}
+
+// ---- ends
+
+// Object type o becomes an end of link type l in SDS d, as it was not: an origin where `side` is 0, a destination where it is 1.
+pub fn put_end(base: &mut [u8], d: usize, l: usize, side: usize, o: usize)
+    requires { ⌜ Stored (now base) ⌝ }
+    requires { ⌜ (d ≡ 0 → ⊥) × ((d < 256) × ((l < 256) × ((side < 2) × (o < 256)))) ⌝ }
+    requires { ⌜ length ((schema-of (now base)) .ends) < 512 ⌝ }
+    requires { ⌜ has-end (schema-of (now base)) d l (read-side side) o ≡ false ⌝ }
+    ensures { λ _. ⌜ (let s = schema-of (now (base .entry)) in
+        Shows (now (base .exit)) (with-ends s (put end-before (record { sds = d; link = l; side = read-side side; object = o }) (s .ends)))) ⌝ }
+{
+    let row = [
+        (d % 256) as u8,
+        (l % 256) as u8,
+        (side % 256) as u8,
+        (o % 256) as u8,
+    ];
+    let n = base::used::end_count(base);
+    rows::table::put_in(base, Base::ENDS_AT, n, &row);
+}
+
+// Row i goes.
+pub fn take_end(base: &mut [u8], i: usize)
+    requires { ⌜ Stored (now base) ⌝ }
+    requires { ⌜ i < end-count (now base) ⌝ }
+    ensures { λ _. ⌜ (let s = schema-of (now (base .entry)) in Shows (now (base .exit)) (with-ends s (less-row i (s .ends)))) ⌝ }
+{
+    let n = base::used::end_count(base);
+    let at = Base::ENDS_AT + i * Base::END_WIDTH;
+    let end = Base::ENDS_AT + n * Base::END_WIDTH;
+    rows::table::take_row(base, at, end, Base::END_WIDTH);
+}
+
+// ---- types
+
+// The row of type t: its kind, the value kind or category, the reverse, the parents. What a kind lacks is 0, or no parents.
+pub fn write_type(
+    base: &mut [u8],
+    t: usize,
+    kind: usize,
+    value: usize,
+    reverse: usize,
+    parents: &[u8],
+)
+    requires { ⌜ Stored (now base) ⌝ }
+    requires { ⌜ t < 128 ⌝ }
+    requires { ⌜ (kind < 256) × ((value < 256) × (reverse < 256)) ⌝ }
+    requires { ⌜ length (now parents) ≤ 4 ⌝ }
+    ensures { λ _. ⌜ Type-written (now (base .entry)) t (type-fields kind value reverse (now (parents .entry))) (now (base .exit)) ⌝ }
+{
+    let mut row = [
+        (kind % 256) as u8,
+        (value % 256) as u8,
+        (reverse % 256) as u8,
+        (parents.len() % 256) as u8,
+        0,
+        0,
+        0,
+        0,
+    ];
+    rows::table::write(&mut row, 4, parents);
+    let at = Base::TYPES_AT + t * Base::TYPE_WIDTH;
+    rows::table::write(base, at, &row);
+}

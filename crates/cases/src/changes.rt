@@ -8,7 +8,7 @@ fn new_sds(base: &mut [u8], line: &[u8]) -> Answer {
 }
 
 fn new_pair(base: &mut [u8], line: &[u8]) -> Answer {
-    create::pair::new_pair(
+    pairs::new_pair(
         base,
         read::number_at(line, 1),
         read::name_at(line, 2),

@@ -69,7 +69,7 @@ pub extern "C" fn cf_new_pair(
 ) -> Answer
     ensures { λ r. ⌜ Kept (now (base .entry)) (new-pair sds (now (name .entry)) (now (reverse .entry)) category back) r (now (base .exit)) ⌝ }
 {
-    create::pair::new_pair(base, sds, name, reverse, category, back)
+    pairs::new_pair(base, sds, name, reverse, category, back)
 }
 
 #[no_mangle]

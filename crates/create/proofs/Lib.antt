@@ -1,2 +1,1 @@
 pub mod CreateLaws
-pub mod PairLaws

@@ -1,2 +1,1 @@
 pub mod Create
-pub mod Pair

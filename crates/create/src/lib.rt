@@ -1,6 +1,4 @@
 // The calls that make types. What they test of their inputs they test once, in the order of their refusals.
-pub mod pair;
-
 use rules::Answer;
 use rules::Limits;
 ghost use mathlib.Core.Path.{_≡_};

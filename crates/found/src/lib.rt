@@ -38,7 +38,7 @@ pub fn sds_name(base: &[u8], d: usize) -> &[u8]
     ensures { λ r. ⌜ now r ≡ sds-name (schema-of (now (base .entry))) d ⌝ }
 {
     let field = base::sds_field(base, d);
-    let n = names::name_length(field);
+    let n = fields::name_length(field);
     &field[0..n]
 }
 
@@ -134,7 +134,7 @@ pub fn name_length(base: &[u8], i: usize) -> usize
     requires { ⌜ (length (now base) ≡ base-length) × (i < 512) ⌝ }
     ensures { λ r. ⌜ r ≡ length (strip (part (now (base .entry)) (presence-at i + 1) 16)) ⌝ }
 {
-    names::name_length(base::presence_field(base, i))
+    fields::name_length(base::presence_field(base, i))
 }
 
 // ---- ends

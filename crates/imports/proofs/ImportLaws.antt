@@ -37,7 +37,7 @@ use Rattle.found.proofs.SdsShown.{known, unknown}
 use Rattle.base.proofs.Shown.{presences-long}
 use Rattle.base.proofs.StoredLaws.{shows-schema, shows-next}
 use Rattle.found.proofs.Walked.{row-below, row-name}
-use Rattle.names.specs.Field.{Stripped}
+use Rattle.fields.specs.Field.{Stripped}
 use Rattle.conditions.specs.Reverse.{one-or-none, Reverse-of}
 use Rattle.conditions.specs.Tested.{Tested}
 use Rattle.conditions.proofs.ReverseLaws.{one-is, none-is}

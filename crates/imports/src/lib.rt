@@ -199,12 +199,12 @@ pub fn import(
         return Answer::refused(named.no);
     }
     let first = filled(base, source, named.t, new);
-    let n = names::name_length(&first);
+    let n = fields::name_length(&first);
     if named.reverse == Limits::TYPES {
         return enter_one(base, target, &first[0..n], named.t);
     }
     let second = filled(base, source, named.reverse, new_reverse);
-    let m = names::name_length(&second);
+    let m = fields::name_length(&second);
     enter_both(
         base,
         target,

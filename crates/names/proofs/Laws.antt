@@ -16,8 +16,6 @@ use Rattle.rules.specs.03-Names.{Name, letter, letter-or-digit, well-formed, na
 use Rattle.rules.proofs.Bools.{and-both}
 use Rattle.names.specs.declared.Run.{Run}
 use Rattle.names.specs.Bytes.{bit, marked}
-use Rattle.rules.proofs.07-Picture.{strip}
-use Rattle.names.specs.Field.{Stripped}
 use Rattle.names.specs.Run.{left, behind, Ended, Started, Standing, Parted}
 
 -- ---- sets of bytes
@@ -160,37 +158,6 @@ module _ (a b : Name) (i : ℕ) where
       go : (t : Bool) → ltb i (length b) ≡ t → bytes-before (drop i a) (drop i b) ≡ t
       go true e = rw (drop-of-length-le a h, drop-cons b i 0 (ltb-true i (length b) e))
       go false e = rw (drop-of-length-le a h, drop-of-length-le b (ltb-false i (length b) e))
-
--- ---- the name in a field
-
-strip-take : (l : List ℕ) → take (length (strip l)) l ≡ strip l
-unfolding strip
-strip-take [] = refl
-strip-take (zero ∷ l) = refl
-strip-take (suc x ∷ l) = ap (λ (r : List ℕ). suc x ∷ r) (strip-take l)
-
-module _ (l : List ℕ) (i : ℕ) where
-  pub strip-zero : i < length l → getD l i 0 ≡ 0 → strip (drop i l) ≡ []
-  unfolding strip
-  strip-zero h e = rw (drop-cons l i 0 h, e)
-
-  pub strip-end : length l ≤ i → strip (drop i l) ≡ []
-  unfolding strip
-  strip-end h = rw (drop-of-length-le l h)
-
-  pub strip-step : i < length l → (getD l i 0 ≡ 0 → ⊥) → length (strip (drop i l)) ≡ suc (length (strip (drop (i + 1) l)))
-  unfolding strip
-  strip-step h n = rw (add-one, drop-cons l i 0 h) (go (getD l i 0) n)
-    where
-      go : (x : ℕ) → (x ≡ 0 → ⊥) → length (strip (x ∷ drop (suc i) l)) ≡ suc (length (strip (drop (suc i) l)))
-      go zero n = absurd (n refl)
-      go (suc x) n = refl
-
-  -- where nothing of the name is left at i, the name is i bytes long
-  pub stripped : i ≤ length l → length (strip l) ≡ i + length (strip (drop i l)) → strip (drop i l) ≡ [] → Stripped l i
-  stripped h e z =
-      let long : i ≡ length (strip l) = omega (arith, ap length z) in
-      record { fits = h; name = rw long (strip-take l); long = long }
 
 -- ---- a run of names
 

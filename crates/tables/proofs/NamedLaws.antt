@@ -18,7 +18,7 @@ use Rattle.rules.proofs.Bools.{or-cases, or-left, or-right, and-both, and-of}
 use Rattle.rules.proofs.01-Lists.{same-bytes-is, same-bytes-refl}
 use Rattle.rules.proofs.03-Names.{same-name-is, same-name-refl}
 use Rattle.rules.proofs.07-Picture.{strip, read-kind, strip-blank}
-use Rattle.names.specs.Field.{name-field, blank-field}
+use Rattle.fields.specs.Field.{name-field, blank-field}
 use Rattle.rows.specs.Rows.{part}
 use Rattle.rows.proofs.Rows.{part-byte}
 use Rattle.rows.proofs.Scan.{part-cons, length-part}

@@ -7,7 +7,7 @@ use lib.ListN.{getD}
 use Rattle.rules.specs.03-Names.{same-name}
 use Rattle.rules.specs.04-Schema.{system-presence, used-sds, kind-of, is-used}
 use Rattle.rules.specs.07-Picture.{pad}
-use Rattle.names.specs.Field.{name-field, blank-field}
+use Rattle.fields.specs.Field.{name-field, blank-field}
 use Rattle.rows.specs.Rows.{part}
 use Rattle.base.specs.Rows.{sds-at, presence-at}
 use Rattle.base.specs.Back.{schema-of}

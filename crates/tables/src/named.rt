@@ -16,10 +16,10 @@ fn sds_field_fine(base: &[u8], d: usize) -> bool
     requires { ⌜ (length (now base) ≡ base-length) × (d < 16) ⌝ }
     ensures { λ r. ⌜ r ≡ fine-field (now (base .entry)) d ⌝ }
 {
-    if names::is_blank_field(base::sds_field(base, d)) {
+    if fields::is_blank_field(base::sds_field(base, d)) {
         return true;
     }
-    names::is_name_field(base::sds_field(base, d))
+    fields::is_name_field(base::sds_field(base, d))
 }
 
 fn sds_fields_fine(base: &[u8]) -> bool
@@ -108,7 +108,7 @@ fn presence_fine(base: &[u8], i: usize) -> bool
     requires { ⌜ (length (now base) ≡ base-length) × (i < 512) ⌝ }
     ensures { λ r. ⌜ Decides (Row-named (now (base .entry)) i) r ⌝ }
 {
-    if !names::is_name_field(base::presence_field(base, i)) {
+    if !fields::is_name_field(base::presence_field(base, i)) {
         return false;
     }
     if !found::is_sds(base, base::presence_sds(base, i)) {

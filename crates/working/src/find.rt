@@ -20,7 +20,7 @@ fn local_name(base: &[u8], i: usize) -> &[u8]
     ensures { λ r. ⌜ now r ≡ strip (part (now (base .entry)) (presence-at i + 1) 16) ⌝ }
 {
     let field = base::presence_field(base, i);
-    let n = names::name_length(field);
+    let n = fields::name_length(field);
     &field[0..n]
 }
 

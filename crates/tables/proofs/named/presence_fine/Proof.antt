@@ -7,7 +7,7 @@ use mathlib.Core.Bool.{true≢false}
 use lib.ListN.{length}
 use borrow.Author.Tests.{not-true, not-false}
 use Rattle.rules.specs.04-Schema.{used-sds, kind-of, is-used}
-use Rattle.names.specs.Field.{name-field}
+use Rattle.fields.specs.Field.{name-field}
 use Rattle.rows.proofs.Decides.{decides-no}
 use Rattle.rows.proofs.Scan.{length-part}
 use Rattle.base.specs.Rows.{presence-at}

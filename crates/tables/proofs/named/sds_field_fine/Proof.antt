@@ -3,7 +3,7 @@ use borrow.Author.Needs.{needs}
 use native.Mathlib.Omega.{arith}
 use mathlib.Core.Path.{sym, ap, _∙_}
 use lib.ListN.{length}
-use Rattle.names.specs.Field.{name-field, blank-field}
+use Rattle.fields.specs.Field.{name-field, blank-field}
 use Rattle.rows.specs.Rows.{part}
 use Rattle.rows.proofs.Scan.{length-part}
 use Rattle.base.specs.Rows.{sds-at}

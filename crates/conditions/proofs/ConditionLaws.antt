@@ -13,20 +13,20 @@ use Rattle.rules.specs.04-Schema.{Schema, Side, kind-of, is-used, parents, is-p
 use Rattle.rules.specs.04-Schema.{is-application, applied, side-code, is-end, has-end}
 use Rattle.rules.specs.05-Descent.{members}
 use Rattle.rules.specs.07-Picture.{Sound, end-row}
-use Rattle.rules.specs.09-Refusals.{not-present, missing-parent, has-child, in-application, in-end, free-types}
+use Rattle.rules.specs.09-Refusals.{not-present, missing-parent, free-types}
 use Rattle.rules.specs.10-Changes.{new-type, second-new-type}
 use Rattle.rules.proofs.Bools.{and-of}
 use Rattle.rules.proofs.01-Lists.{any-at, numbers-first, numbers-none}
 use Rattle.rules.proofs.07-Picture.{read-side}
 use Rattle.rows.specs.Rows.{part, Rising, Counted}
 use Rattle.base.specs.Rows.{type-at, end-at, End-row}
-use Rattle.base.specs.Back.{schema-of, presence-count, application-count, end-count, presence-shown, application-shown, end-shown}
+use Rattle.base.specs.Back.{schema-of, presence-count, application-count, end-count, application-shown, end-shown}
 use Rattle.found.specs.Found.{Presence-row, First-row, End-found}
 use Rattle.base.specs.Stored.{Stored}
 use Rattle.found.proofs.KindBytes.{used-code, sound-code}
 use Rattle.base.proofs.Shown.{end-read, end-there}
 use Rattle.base.proofs.StoredLaws.{stored-long, stored-canonical}
-use Rattle.found.proofs.Walked.{some-presence, no-presence, first-presence, some-application, no-application, first-application, some-end, no-end}
+use Rattle.found.proofs.Walked.{first-presence, first-application}
 use Rattle.found.proofs.Walked.{presence-first}
 use Rattle.graph.proofs.Rows.{good-parental, parents-count, parents-place}
 use Rattle.working.proofs.ListedLaws.{any-there, any-nowhere}
@@ -34,7 +34,7 @@ use Rattle.held.specs.Held.{Ends}
 use Rattle.held.proofs.HeldLaws.{side-same, has-row}
 use Rattle.tables.proofs.OrderLaws.{ends-rise}
 use Rattle.tables.proofs.RestLaws.{written-side}
-use Rattle.conditions.specs.Conditions.{Free-type, child-in, application-with, end-with, End-place}
+use Rattle.conditions.specs.Conditions.{Free-type, End-place}
 
 -- ---- the tests of a row, one after the other: two numbers that must be the same, or either of two
 
@@ -146,34 +146,6 @@ module _ {b : List ℕ} (s : Sound b) {t n : ℕ} (h : t < 128) (count : n ≡ g
 pub present-row : {b : List ℕ} {d t r n : ℕ} → n ≡ presence-count b → Presence-row b (presence-count b) d t r → ltb r n ≡ present (schema-of b) d t
 unfolding present
 present-row {b} {d} {t} {r} e p = ap (ltb r) e ∙ first-presence b (holds-type d t) (presence-first b d t p)
-
-module _ (b : List ℕ) (d t : ℕ) where
-  pub child-here : (i : ℕ) → i < presence-count b → child-in (schema-of b) d t (presence-shown b i) ≡ true → true ≡ has-child (schema-of b) d t
-  unfolding has-child
-  child-here = some-presence b (child-in (schema-of b) d t)
-
-  pub no-child : ((i : ℕ) → i < presence-count b → child-in (schema-of b) d t (presence-shown b i) ≡ false) → false ≡ has-child (schema-of b) d t
-  unfolding has-child
-  no-child = no-presence b (child-in (schema-of b) d t)
-
-  -- ---- applications and ends with type t
-
-  pub application-here : (i : ℕ) → i < application-count b → application-with d t (application-shown b i) ≡ true → true ≡ in-application (schema-of b) d t
-  unfolding in-application
-  application-here = some-application b (application-with d t)
-
-  pub application-nowhere : ((i : ℕ) → i < application-count b → application-with d t (application-shown b i) ≡ false)
-      → false ≡ in-application (schema-of b) d t
-  unfolding in-application
-  application-nowhere = no-application b (application-with d t)
-
-  pub end-here : (i : ℕ) → i < end-count b → end-with d t (end-shown b i) ≡ true → true ≡ in-end (schema-of b) d t
-  unfolding in-end
-  end-here = some-end b (end-with d t)
-
-  pub end-nowhere : ((i : ℕ) → i < end-count b → end-with d t (end-shown b i) ≡ false) → false ≡ in-end (schema-of b) d t
-  unfolding in-end
-  end-nowhere = no-end b (end-with d t)
 
 -- ---- an application, and an end, by its row
 

@@ -7,13 +7,13 @@ ghost use lib.ListN.{length};
 ghost use Rattle.rules.specs.01-Lists.{any};
 ghost use Rattle.rules.specs.04-Schema.{present, is-parent, is-application, applied, has-end};
 ghost use Rattle.rules.specs.07-Picture.{Sound, base-length};
-ghost use Rattle.rules.specs.09-Refusals.{missing-parent, has-child, in-application, in-end, still-used};
+ghost use Rattle.rules.specs.09-Refusals.{missing-parent};
 ghost use Rattle.rules.proofs.07-Picture.{read-side};
-ghost use Rattle.base.specs.Back.{schema-of, presence-count, application-count, presence-shown, application-shown, end-shown};
+ghost use Rattle.base.specs.Back.{schema-of, application-count, application-shown};
 ghost use Rattle.found.specs.Found.{First-row};
 ghost use Rattle.base.specs.Stored.{Stored};
 ghost use Rattle.conditions.specs.Reverse.{Reverse-of};
-ghost use Rattle.conditions.specs.Conditions.{Free-type, child-in, application-with, end-with, End-place};
+ghost use Rattle.conditions.specs.Conditions.{Free-type, End-place};
 
 // ---- types
 
@@ -33,7 +33,7 @@ pub fn free_type(base: &[u8], from: usize) -> usize
 }
 
 // Whether a is a parent of type t.
-fn is_parent(base: &[u8], t: usize, a: usize) -> bool
+pub fn is_parent(base: &[u8], t: usize, a: usize) -> bool
     requires { ⌜ Sound (now base) × (t < 128) ⌝ }
     ensures { λ r. ⌜ r ≡ is-parent (schema-of (now (base .entry))) t a ⌝ }
 {
@@ -104,32 +104,6 @@ pub fn is_parent_missing(base: &[u8], target: usize, t: usize) -> bool
     false
 }
 
-// Whether row i says that a child of type t is in SDS d.
-fn is_child(base: &[u8], i: usize, d: usize, t: usize) -> bool
-    requires { ⌜ Sound (now base) × (i < presence-count (now base)) ⌝ }
-    ensures { λ r. ⌜ r ≡ child-in (schema-of (now (base .entry))) d t (presence-shown (now (base .entry)) i) ⌝ }
-{
-    if base::presence_sds(base, i) != d {
-        return false;
-    }
-    is_parent(base, base::presence_type(base, i), t)
-}
-
-pub fn has_child(base: &[u8], d: usize, t: usize) -> bool
-    requires { ⌜ Sound (now base) ⌝ }
-    ensures { λ r. ⌜ r ≡ has-child (schema-of (now (base .entry))) d t ⌝ }
-{
-    let n = base::used::presence_count(base);
-    let mut i = 0;
-    while i < n {
-        if is_child(base, i, d, t) {
-            return true;
-        }
-        i += 1;
-    }
-    false
-}
-
 // ---- applications
 
 // Whether row i applies attribute type a to type t in SDS d.
@@ -169,35 +143,6 @@ pub fn is_applied(base: &[u8], d: usize, t: usize, a: usize) -> bool
     application_row(base, d, t, a) < base::used::application_count(base)
 }
 
-// Whether row i applies type t, or applies something to it, in SDS d.
-fn is_application_with(base: &[u8], i: usize, d: usize, t: usize) -> bool
-    requires { ⌜ (length (now base) ≡ base-length) × (i < 256) ⌝ }
-    ensures { λ r. ⌜ r ≡ application-with d t (application-shown (now (base .entry)) i) ⌝ }
-{
-    if base::application_sds(base, i) != d {
-        return false;
-    }
-    if base::application_to(base, i) == t {
-        return true;
-    }
-    base::application_attribute(base, i) == t
-}
-
-pub fn in_application(base: &[u8], d: usize, t: usize) -> bool
-    requires { ⌜ length (now base) ≡ base-length ⌝ }
-    ensures { λ r. ⌜ r ≡ in-application (schema-of (now (base .entry))) d t ⌝ }
-{
-    let n = base::used::application_count(base);
-    let mut i = 0;
-    while i < n {
-        if is_application_with(base, i, d, t) {
-            return true;
-        }
-        i += 1;
-    }
-    false
-}
-
 // ---- ends
 
 // The row of that end, or no row: as many as there are, or more. Sides are 0 origin, 1 destination.
@@ -216,48 +161,4 @@ pub fn is_end(base: &[u8], d: usize, l: usize, side: usize, o: usize) -> bool
     ensures { λ r. ⌜ r ≡ has-end (schema-of (now (base .entry))) d l (read-side side) o ⌝ }
 {
     end_row(base, d, l, side, o) < base::used::end_count(base)
-}
-
-// Whether row i is an end of type t, or one at it, in SDS d.
-fn is_end_with(base: &[u8], i: usize, d: usize, t: usize) -> bool
-    requires { ⌜ (length (now base) ≡ base-length) × (i < 512) ⌝ }
-    ensures { λ r. ⌜ r ≡ end-with d t (end-shown (now (base .entry)) i) ⌝ }
-{
-    if base::end_sds(base, i) != d {
-        return false;
-    }
-    if base::end_link(base, i) == t {
-        return true;
-    }
-    base::end_object(base, i) == t
-}
-
-pub fn in_end(base: &[u8], d: usize, t: usize) -> bool
-    requires { ⌜ length (now base) ≡ base-length ⌝ }
-    ensures { λ r. ⌜ r ≡ in-end (schema-of (now (base .entry))) d t ⌝ }
-{
-    let n = base::used::end_count(base);
-    let mut i = 0;
-    while i < n {
-        if is_end_with(base, i, d, t) {
-            return true;
-        }
-        i += 1;
-    }
-    false
-}
-
-// ---- what keeps a type from being removed from SDS d
-
-pub fn is_still_used(base: &[u8], d: usize, t: usize) -> bool
-    requires { ⌜ Sound (now base) ⌝ }
-    ensures { λ r. ⌜ r ≡ still-used (schema-of (now (base .entry))) d t ⌝ }
-{
-    if has_child(base, d, t) {
-        return true;
-    }
-    if in_application(base, d, t) {
-        return true;
-    }
-    in_end(base, d, t)
 }

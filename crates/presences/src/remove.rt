@@ -19,13 +19,13 @@ fn is_either_used(base: &[u8], d: usize, t: usize, r: usize) -> bool
     requires { ⌜ Sound (now base) × (r ≤ 128) ⌝ }
     ensures { λ x. ⌜ x ≡ any (still-used (schema-of (now (base .entry))) d) (t ∷ one-or-none r) ⌝ }
 {
-    if conditions::is_still_used(base, d, t) {
+    if uses::is_still_used(base, d, t) {
         return true;
     }
     if r == Limits::TYPES {
         return false;
     }
-    conditions::is_still_used(base, d, r)
+    uses::is_still_used(base, d, r)
 }
 
 // The presence of type t in SDS d goes.

@@ -1,8 +1,8 @@
 -- `change::conditions::is_application_with` meets its contract. Assumes nothing.
 use borrow.Author.Needs.{needs}
 use Rattle.conditions.proofs.ConditionLaws.{differs, agrees, the-one, the-other, last-one}
-use Rattle.conditions.proofs.is_application_with.Statement.{statement}
-use Rattle.conditions.proofs.is_application_with.Tie as tie
+use Rattle.uses.proofs.is_application_with.Statement.{statement}
+use Rattle.uses.proofs.is_application_with.Tie as tie
 
 application-sds-requires : tie.Need-application-sds-requires
 application-sds-requires c κs = search needs

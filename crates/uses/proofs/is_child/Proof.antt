@@ -8,9 +8,9 @@ use Rattle.rows.proofs.Rows.{filled-most}
 use Rattle.base.specs.Back.{schema-of}
 use Rattle.base.proofs.Kept.{sound-long}
 use Rattle.shown.proofs.ShownLaws.{presence-small}
 use Rattle.conditions.proofs.ConditionLaws.{differs, agrees}
-use Rattle.conditions.proofs.is_child.Statement.{statement}
-use Rattle.conditions.proofs.is_child.Tie as tie
+use Rattle.uses.proofs.is_child.Statement.{statement}
+use Rattle.uses.proofs.is_child.Tie as tie
 
 presence-sds-requires : tie.Need-presence-sds-requires
 presence-sds-requires c κs =

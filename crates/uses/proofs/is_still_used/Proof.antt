@@ -2,9 +2,9 @@
 use borrow.Author.Needs.{needs}
 use Rattle.rules.specs.09-Refusals.{still-used}
 use Rattle.base.proofs.Kept.{sound-long}
 use Rattle.conditions.proofs.ConditionLaws.{or-first, or-next}
-use Rattle.conditions.proofs.is_still_used.Statement.{statement}
-use Rattle.conditions.proofs.is_still_used.Tie as tie
+use Rattle.uses.proofs.is_still_used.Statement.{statement}
+use Rattle.uses.proofs.is_still_used.Tie as tie
 
 has-child-requires : tie.Need-has-child-requires
 has-child-requires c κs = search needs

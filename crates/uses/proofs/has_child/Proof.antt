@@ -6,10 +6,10 @@ use mathlib.Core.Bool.{false}
 use borrow.Author.Count.{below-none, below-more}
 use Rattle.base.specs.Back.{schema-of, presence-shown}
 use Rattle.base.proofs.Kept.{sound-long}
-use Rattle.conditions.specs.Conditions.{child-in}
-use Rattle.conditions.proofs.ConditionLaws.{child-here, no-child}
-use Rattle.conditions.proofs.has_child.Statement.{statement}
-use Rattle.conditions.proofs.has_child.Tie as tie
+use Rattle.uses.specs.Uses.{child-in}
+use Rattle.uses.proofs.UsesLaws.{child-here, no-child}
+use Rattle.uses.proofs.has_child.Statement.{statement}
+use Rattle.uses.proofs.has_child.Tie as tie
 
 abbrev Inv-loop : tie.InvT-loop
 Inv-loop base d t n i₀ i = (i ≤ n) × (n ≤ 512) × ((k : ℕ) → k < i → child-in (schema-of base) d t (presence-shown base k) ≡ false)

@@ -6,10 +6,10 @@ use mathlib.Core.Path.{_≡_, sym, _∙_}
 use mathlib.Core.Bool.{false}
 use borrow.Author.Count.{below-none, below-more}
 use Rattle.base.specs.Back.{application-shown}
-use Rattle.conditions.specs.Conditions.{application-with}
-use Rattle.conditions.proofs.ConditionLaws.{application-here, application-nowhere}
-use Rattle.conditions.proofs.in_application.Statement.{statement}
-use Rattle.conditions.proofs.in_application.Tie as tie
+use Rattle.uses.specs.Uses.{application-with}
+use Rattle.uses.proofs.UsesLaws.{application-here, application-nowhere}
+use Rattle.uses.proofs.in_application.Statement.{statement}
+use Rattle.uses.proofs.in_application.Tie as tie
 
 abbrev Inv-loop : tie.InvT-loop
 Inv-loop base d t n i₀ i = (i ≤ n) × ((k : ℕ) → k < i → application-with d t (application-shown base k) ≡ false)

@@ -6,10 +6,10 @@ use mathlib.Core.Path.{_≡_, sym, _∙_}
 use mathlib.Core.Bool.{false}
 use borrow.Author.Count.{below-none, below-more}
 use Rattle.base.specs.Back.{end-shown}
-use Rattle.conditions.specs.Conditions.{end-with}
-use Rattle.conditions.proofs.ConditionLaws.{end-here, end-nowhere}
-use Rattle.conditions.proofs.in_end.Statement.{statement}
-use Rattle.conditions.proofs.in_end.Tie as tie
+use Rattle.uses.specs.Uses.{end-with}
+use Rattle.uses.proofs.UsesLaws.{end-here, end-nowhere}
+use Rattle.uses.proofs.in_end.Statement.{statement}
+use Rattle.uses.proofs.in_end.Tie as tie
 
 abbrev Inv-loop : tie.InvT-loop
 Inv-loop base d t n i₀ i = (i ≤ n) × ((k : ℕ) → k < i → end-with d t (end-shown base k) ≡ false)

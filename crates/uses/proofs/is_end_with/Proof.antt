@@ -1,8 +1,8 @@
 -- `change::conditions::is_end_with` meets its contract. Assumes nothing.
 use borrow.Author.Needs.{needs}
 use Rattle.conditions.proofs.ConditionLaws.{differs, agrees, the-one, the-other, last-one}
-use Rattle.conditions.proofs.is_end_with.Statement.{statement}
-use Rattle.conditions.proofs.is_end_with.Tie as tie
+use Rattle.uses.proofs.is_end_with.Statement.{statement}
+use Rattle.uses.proofs.is_end_with.Tie as tie
 
 end-sds-requires : tie.Need-end-sds-requires
 end-sds-requires c κs = search needs

@@ -1,7 +1,7 @@
 // What still uses a type in an SDS, and keeps it from being removed there.
-use rules::Limits;
 ghost use mathlib.Core.Path.{_≡_};
 ghost use Prim.Native.Nat.{_<_};
+ghost use lib.ListN.{length};
 ghost use Rattle.rules.specs.07-Picture.{Sound, base-length};
 ghost use Rattle.rules.specs.09-Refusals.{has-child, in-application, in-end, still-used};
 ghost use Rattle.base.specs.Back.{schema-of, presence-count, presence-shown, application-shown, end-shown};

@@ -5,3 +5,4 @@ pub mod PositiveLaws
 pub mod PrintLaws
 pub mod ReplyLaws
 pub mod SayLaws
+pub mod SpokenLaws

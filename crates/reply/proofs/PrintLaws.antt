@@ -7,8 +7,9 @@ use mathlib.Core.List.{List, [], _∷_, _++_, append-assoc, append-nil}
 use mathlib.Core.Bool.{Bool, true, false, cond}
 use lib.Dec.{ltb}
 use lib.ListN.{length, getD, take, drop, set, length-append, length-take, length-drop, length-set}
-use lib.Seq.{take-at, take-suc-set}
+use lib.Seq.{take-at, take-suc, take-suc-set, take-length}
 use borrow.Author.Tests.{lt-ltb, le-ltb, ltb-true, ltb-false}
+use Rattle.rules.specs.12-Contracts.{entries}
 use Rattle.rules.specs.14-Run.{decimal, printed}
 use Rattle.rows.specs.Table.{written}
 use Rattle.io.specs.Digits.{digits, Fewest}
@@ -110,6 +111,14 @@ printed-byte b at c h = record {
     next : at + 1 ≡ suc at
     next = omega arith
 
+-- from the start on
+module _ {out text out′ : List ℕ} {r : ℕ} (p : Printed out 0 text out′ r) where
+  pub printed-line : take r out′ ≡ text
+  printed-line = p .is
+
+  pub printed-within : r ≤ length out′
+  printed-within = omega (arith, p .end, ap length (p .is), length-take r out′)
+
 -- ---- numbers one after the other
 
 pub spaced-append : (l m : List ℕ) → spaced (l ++ m) ≡ spaced l ++ spaced m
@@ -126,6 +135,27 @@ pub printed-spaced : (n : ℕ) (ns : List ℕ) → printed (n ∷ ns) ≡ decima
 unfolding printed spaced
 printed-spaced n [] = sym (append-nil (decimal 20 n))
 printed-spaced n (m ∷ ns) = ap (λ (t : List ℕ). decimal 20 n ++ (32 ∷ t)) (printed-spaced m ns)
+
+-- ---- the entries of a list
+
+entry-at : (l rest : List ℕ) (k : ℕ) → k < length l → getD (entries l ++ rest) (k * 2 + 1) 0 * 256 + getD (entries l ++ rest) (k * 2) 0 ≡ getD l k 0
+unfolding entries
+entry-at [] rest k h = absurd (omega arith)
+entry-at (x ∷ l) rest zero h = let whole : x / 256 * 256 + x % 256 ≡ x = omega arith in whole
+entry-at (x ∷ l) rest (suc k) h =
+    let low : suc k * 2 ≡ suc (suc (k * 2)) = omega arith in
+    let high : suc k * 2 + 1 ≡ suc (suc (k * 2 + 1)) = omega arith in
+    rw (high, low) (entry-at l rest k (omega arith))
+
+read-first : (l rest : List ℕ) (k : ℕ) → k ≤ length l → read-entries (entries l ++ rest) k ≡ take k l
+unfolding read-entries
+read-first l rest zero h = refl
+read-first l rest (suc k) h =
+    ap₂ (λ (m : List ℕ) (n : ℕ). m ++ (n ∷ [])) (read-first l rest k (omega arith)) (entry-at l rest k (omega arith))
+    ∙ sym (take-suc l k 0 (omega arith))
+
+pub read-all : (l rest : List ℕ) → read-entries (entries l ++ rest) (length l) ≡ l
+read-all l rest = read-first l rest (length l) (omega arith) ∙ take-length l
 
 -- the first i entries are put down; each takes 21 bytes at most
 pub record Going (out₀ : List ℕ) (at : ℕ) (list : List ℕ) (i : ℕ) (out : List ℕ) (end : ℕ) : Type 0 where

@@ -1,51 +1,58 @@
 // Which command a line gives.
+use super::parts;
 use words::Line;
 ghost use mathlib.Core.Path.{_≡_};
-ghost use mathlib.Core.Bool.{_&&_};
-ghost use lib.Dec.{leb, eqb};
-ghost use Rattle.rules.specs.01-Lists.{bytes, same-bytes};
+ghost use Prim.Native.Nat.{_<_};
+ghost use lib.ListN.{length};
+ghost use Rattle.rules.specs.03-Names.{names-in};
+ghost use Rattle.rules.specs.14-Run.{says-object};
+ghost use Rattle.rules.specs.14-Run.{says as Run·says};
 ghost use Rattle.reply.specs.Command.{code-of, command-of};
 
-fn says(word: &[u8], command: &[u8], n: usize, many: usize) -> bool
-    ensures { λ r. ⌜ r ≡ (same-bytes (now (word .entry)) (now (command .entry)) && eqb n many) ⌝ }
+// Whether the line begins with the command and has as many words.
+fn says(line: &[u8], command: &[u8], many: usize) -> bool
+    requires { ⌜ length (now line) < 128 ⌝ }
+    ensures { λ r. ⌜ r ≡ Run·says (now (command .entry)) many (names-in (now (line .entry))) ⌝ }
 {
-    if !names::is_equal(word, command) {
+    if !names::is_equal(parts::word(line, 0), command) {
         return false;
     }
-    n == many
+    words::count(line) == many
 }
 
 // `object` takes any number of parents.
-fn says_object(word: &[u8], n: usize) -> bool
-    ensures { λ r. ⌜ r ≡ (same-bytes (now (word .entry)) (bytes "object") && leb 3 n) ⌝ }
+fn says_object(line: &[u8]) -> bool
+    requires { ⌜ length (now line) < 128 ⌝ }
+    ensures { λ r. ⌜ r ≡ says-object (names-in (now (line .entry))) ⌝ }
 {
-    if !names::is_equal(word, b"object") {
+    if !names::is_equal(parts::word(line, 0), b"object") {
         return false;
     }
-    3 <= n
+    3 <= words::count(line)
 }
 
-// The code of a command that begins with the word and has n words: 1 sds, 2 import, 3 object, 4 remove, 5 desc, 6 depth, and 0
-// where there is no such command.
-fn code(word: &[u8], n: usize) -> usize
-    ensures { λ r. ⌜ r ≡ code-of (now (word .entry)) n ⌝ }
+// The code of the command that the words of a line give: 1 sds, 2 import, 3 object, 4 remove, 5 desc, 6 depth, and 0 where there is
+// no such command.
+fn code(line: &[u8]) -> usize
+    requires { ⌜ length (now line) < 128 ⌝ }
+    ensures { λ r. ⌜ r ≡ code-of (names-in (now (line .entry))) ⌝ }
 {
-    if says(word, b"sds", n, 2) {
+    if says(line, b"sds", 2) {
         return 1;
     }
-    if says(word, b"import", n, 4) {
+    if says(line, b"import", 4) {
         return 2;
     }
-    if says_object(word, n) {
+    if says_object(line) {
         return 3;
     }
-    if says(word, b"remove", n, 3) {
+    if says(line, b"remove", 3) {
         return 4;
     }
-    if says(word, b"desc", n, 3) {
+    if says(line, b"desc", 3) {
         return 5;
     }
-    if says(word, b"depth", n, 3) {
+    if says(line, b"depth", 3) {
         return 6;
     }
     0
@@ -61,8 +68,5 @@ pub fn of(line: &[u8]) -> usize
     if words::has_blank(line) {
         return 0;
     }
-    let word = words::word_at(line, 0);
-    let start = word.start;
-    let end = word.end;
-    code(&line[start..end], words::count(line))
+    code(line)
 }

@@ -6,13 +6,12 @@ ghost use Prim.Native.Nat.{_≤_};
 ghost use lib.ListN.{length, drop};
 ghost use Rattle.rules.specs.03-Names.{names-in};
 ghost use Rattle.rules.specs.07-Picture.{base-length};
-ghost use Rattle.rules.specs.14-Run.{joined};
+ghost use Rattle.rules.specs.14-Run.{sds-word, joined};
+ghost use Rattle.rules.specs.14-Run.{word as Run·word};
 ghost use Rattle.base.specs.Back.{schema-of};
-ghost use Rattle.reply.specs.Reply.{sds-word};
-ghost use Rattle.reply.specs.Reply.{word as Reply·word};
 
 pub fn word(line: &[u8], i: usize) -> &[u8]
-    ensures { λ r. ⌜ now r ≡ Reply·word (now (line .entry)) i ⌝ }
+    ensures { λ r. ⌜ now r ≡ Run·word (names-in (now (line .entry))) i ⌝ }
 {
     let found = words::word_at(line, i);
     let start = found.start;
@@ -32,7 +31,7 @@ pub fn words_from(line: &[u8], i: usize) -> &[u8]
 // The SDS that word i names, 16 where there is none.
 pub fn sds(base: &[u8], line: &[u8], i: usize) -> usize
     requires { ⌜ length (now base) ≡ base-length ⌝ }
-    ensures { λ r. ⌜ (r ≡ sds-word (now (line .entry)) i (schema-of (now (base .entry)))) × (r ≤ 16) ⌝ }
+    ensures { λ r. ⌜ (r ≡ sds-word (names-in (now (line .entry))) i (schema-of (now (base .entry)))) × (r ≤ 16) ⌝ }
 {
     called::sds_called(base, word(line, i))
 }

@@ -5,13 +5,15 @@ use super::say;
 ghost use mathlib.Core.Path.{_≡_};
 ghost use Prim.Native.Nat.{_≤_};
 ghost use lib.ListN.{length};
+ghost use Rattle.rules.specs.03-Names.{names-in};
 ghost use Rattle.rules.specs.07-Picture.{base-length};
-ghost use Rattle.reply.specs.Reply.{to-desc, to-depth, Says};
+ghost use Rattle.rules.specs.14-Run.{obey-desc, obey-depth};
+ghost use Rattle.reply.specs.Reply.{Says};
 
 // The count and the list.
 pub fn desc(base: &[u8], line: &[u8], out: &mut [u8]) -> usize
     requires { ⌜ (length (now base) ≡ base-length) × (4096 ≤ length (now out)) ⌝ }
-    ensures { λ r. ⌜ Says (to-desc (now (line .entry))) (now (base .entry)) (now (base .entry)) (now (out .entry)) (now (out .exit)) r ⌝ }
+    ensures { λ r. ⌜ Says (obey-desc (names-in (now (line .entry)))) (now (base .entry)) (now (base .entry)) (now (out .entry)) (now (out .exit)) r ⌝ }
 {
     let schema = parts::alone(parts::sds(base, line, 1));
     let found = ask::find(base, &schema, parts::word(line, 2));
@@ -29,7 +31,7 @@ pub fn desc(base: &[u8], line: &[u8], out: &mut [u8]) -> usize
 
 pub fn depth(base: &[u8], line: &[u8], out: &mut [u8]) -> usize
     requires { ⌜ (length (now base) ≡ base-length) × (4096 ≤ length (now out)) ⌝ }
-    ensures { λ r. ⌜ Says (to-depth (now (line .entry))) (now (base .entry)) (now (base .entry)) (now (out .entry)) (now (out .exit)) r ⌝ }
+    ensures { λ r. ⌜ Says (obey-depth (names-in (now (line .entry)))) (now (base .entry)) (now (base .entry)) (now (out .entry)) (now (out .exit)) r ⌝ }
 {
     let schema = parts::alone(parts::sds(base, line, 1));
     let found = ask::find(base, &schema, parts::word(line, 2));

@@ -12,7 +12,7 @@ says-requires c κs = search needs
 
 returns : tie.Need-returns
 returns c =
-    code-1 _ _ (sym (c .before .says .ensures) ∙ c .if1 .taken)
+    code-1 _ (sym (c .before .says .ensures) ∙ c .if1 .taken)
 
 slice-aggregate-says-2 : tie.Need-slice-aggregate-says-2
 slice-aggregate-says-2 c = search needs
@@ -22,7 +22,7 @@ says-requires-2 c κs = search needs
 
 returns-2 : tie.Need-returns-2
 returns-2 c =
-    code-2 _ _ (sym (c .before .before .before .before .says .ensures) ∙ c .before .before .before .if1 .left)
+    code-2 _ (sym (c .before .before .before .before .says .ensures) ∙ c .before .before .before .if1 .left)
     (sym (c .before .says2 .ensures) ∙ c .if2 .taken)
 
 says-object-requires : tie.Need-says-object-requires
@@ -30,7 +30,7 @@ says-object-requires c κs = search needs
 
 returns-3 : tie.Need-returns-3
 returns-3 c =
-    code-3 _ _ (sym (c .before .before .before .before .before .before .says .ensures) ∙ c .before .before .before .before .before .if1 .left)
+    code-3 _ (sym (c .before .before .before .before .before .before .says .ensures) ∙ c .before .before .before .before .before .if1 .left)
     (sym (c .before .before .before .says2 .ensures) ∙ c .before .before .if2 .left)
     (sym (c .before .says-object .ensures) ∙ c .if3 .taken)
 
@@ -42,7 +42,7 @@ says-requires-3 c κs = search needs
 
 returns-4 : tie.Need-returns-4
 returns-4 c =
-    code-4 _ _ (sym (c .before .before .before .before .before .before .before .before .before .says .ensures) ∙ c .before .before .before .before .before .before .before .before .if1 .left)
+    code-4 _ (sym (c .before .before .before .before .before .before .before .before .before .says .ensures) ∙ c .before .before .before .before .before .before .before .before .if1 .left)
     (sym (c .before .before .before .before .before .before .says2 .ensures) ∙ c .before .before .before .before .before .if2 .left)
     (sym (c .before .before .before .before .says-object .ensures) ∙ c .before .before .before .if3 .left)
     (sym (c .before .says3 .ensures) ∙ c .if4 .taken)
@@ -55,7 +55,7 @@ says-requires-4 c κs = search needs
 
 returns-5 : tie.Need-returns-5
 returns-5 c =
-    code-5 _ _ (sym (c .before .before .before .before .before .before .before .before .before .before .before .before .says .ensures) ∙ c .before
+    code-5 _ (sym (c .before .before .before .before .before .before .before .before .before .before .before .before .says .ensures) ∙ c .before
     .before .before .before .before .before .before .before .before .before .before .if1 .left)
     (sym (c .before .before .before .before .before .before .before .before .before .says2 .ensures) ∙ c .before .before .before .before .before .before .before .before .if2 .left)
     (sym (c .before .before .before .before .before .before .before .says-object .ensures) ∙ c .before .before .before .before .before .before .if3 .left)
@@ -70,7 +70,7 @@ says-requires-5 c κs = search needs
 
 returns-6 : tie.Need-returns-6
 returns-6 c =
-    code-6 _ _ (sym (c .before .before .before .before .before .before .before .before .before .before .before .before .before .before .before .says
+    code-6 _ (sym (c .before .before .before .before .before .before .before .before .before .before .before .before .before .before .before .says
     .ensures) ∙ c .before .before .before .before .before .before .before .before .before .before .before .before .before .before .if1 .left)
     (sym (c .before .before .before .before .before .before .before .before .before .before .before .before .says2 .ensures) ∙ c .before .before
     .before .before .before .before .before .before .before .before .before .if2 .left)
@@ -82,7 +82,7 @@ returns-6 c =
 
 returns-7 : tie.Need-returns-7
 returns-7 c =
-    code-0 _ _ (sym (c .before .before .before .before .before .before .before .before .before .before .before .before .before .before .before .says
+    code-0 _ (sym (c .before .before .before .before .before .before .before .before .before .before .before .before .before .before .before .says
     .ensures) ∙ c .before .before .before .before .before .before .before .before .before .before .before .before .before .before .if1 .left)
     (sym (c .before .before .before .before .before .before .before .before .before .before .before .before .says2 .ensures) ∙ c .before .before
     .before .before .before .before .before .before .before .before .before .if2 .left)

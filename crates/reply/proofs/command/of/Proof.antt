@@ -14,41 +14,12 @@ has-blank-requires c κs = search needs
 returns-2 : tie.Need-returns-2
 returns-2 c = command-blank _ (omega (arith, c .before .before .if1 .left)) (sym (c .before .has-blank .ensures) ∙ c .if2 .taken)
 
-word-at-requires : tie.Need-word-at-requires
-word-at-requires c κs = search needs
-
-sub-code : tie.Need-sub-code
-sub-code c = search needs
-
-part-code-start : tie.Need-part-code-start
-part-code-start c = search needs
-
-part-code-end : tie.Need-part-code-end
-part-code-end c = search needs
-
-count-requires : tie.Need-count-requires
-count-requires c κs = search needs
-
 code-requires : tie.Need-code-requires
 code-requires c κs = search needs
 
 returns-3 : tie.Need-returns-3
 returns-3 c =
-    command-code _ (omega (arith, c .before .before .before .before .before .before .if1 .left)) (sym (c .before .before .before .before .before
-    .has-blank .ensures) ∙ c .before .before .before .before .if2 .left) (c .before .before .before .word-at .ensures .is)
-    (c .before .count .ensures) (c .code .ensures)
+    command-code _ (omega (arith, c .before .before .before .if1 .left)) (sym (c .before .before .has-blank .ensures) ∙ c .before .if2 .left) (c .code .ensures)
 
 pub of-spec : {M : Type 1} → statement M
-of-spec =
-    tie.close
-    (tie.spec
-    returns
-    has-blank-requires
-    returns-2
-    word-at-requires
-    sub-code
-    part-code-start
-    part-code-end
-    count-requires
-    code-requires
-    returns-3)
+of-spec = tie.close (tie.spec returns has-blank-requires returns-2 code-requires returns-3)

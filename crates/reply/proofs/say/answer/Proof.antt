@@ -1,7 +1,7 @@
 use borrow.Author.Needs.{needs}
 use native.Mathlib.Omega.{arith}
 use Rattle.reply.proofs.PrintLaws.{decimal-few}
-use Rattle.reply.proofs.SayLaws.{answer-refused, answer-done}
+use Rattle.reply.proofs.SpokenLaws.{answer-refused, answer-done}
 use Rattle.reply.proofs.say.answer.Statement.{statement}
 use Rattle.reply.proofs.say.answer.Tie as tie
 

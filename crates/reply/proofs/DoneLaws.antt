@@ -13,9 +13,9 @@ use Rattle.rules.specs.12-Contracts.{Kept, Listed, Answered}
 use Rattle.rules.specs.14-Run.{decimal, changed, asked, word, sds-word, joined, about-type}
 use Rattle.rules.specs.14-Run.{obey-sds, obey-import, obey-object, obey-remove, obey-desc, obey-depth}
 use Rattle.base.specs.Back.{schema-of}
-use Rattle.reply.specs.Print.{Printed, spaced, read-entries}
+use Rattle.print.specs.Print.{Printed, spaced, read-entries}
 use Rattle.reply.specs.Reply.{Says}
-use Rattle.reply.proofs.PrintLaws.{printed-next}
+use Rattle.print.proofs.PrintLaws.{printed-next}
 use Rattle.reply.proofs.PositiveLaws.{new-sds-positive, import-positive, new-object-positive, remove-type-positive}
 use Rattle.reply.proofs.PositiveLaws.{find-positive, scan-object-positive, depth-positive}
 use Rattle.reply.proofs.SayLaws.{said-of, says-changed, says-not-found, says-found, answer-is, value-line, no-list-line, count-and-list-line}

@@ -14,7 +14,7 @@ use Rattle.rules.specs.07-Picture.{picture}
 use Rattle.rules.specs.14-Run.{Reply, says, says-object, obey, reply}
 use Rattle.rules.specs.14-Run.{obey-sds, obey-import, obey-object, obey-remove, obey-desc, obey-depth, unreadable}
 use Rattle.base.specs.Back.{schema-of}
-use Rattle.reply.specs.Command.{code-of, command-of}
+use Rattle.command.specs.Command.{code-of, command-of}
 use Rattle.reply.specs.Reply.{Says, Replied}
 
 -- ---- a command by its code

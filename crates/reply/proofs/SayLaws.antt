@@ -22,10 +22,10 @@ use Rattle.rules.proofs.09-Refusals.{Beyond, verdict-keeps}
 use Rattle.base.specs.Back.{schema-of}
 use Rattle.base.proofs.Back.{sound-good}
 use Rattle.base.proofs.StoredLaws.{sound-stored}
-use Rattle.reply.specs.Print.{Printed, spaced, read-entries}
-use Rattle.reply.specs.Reply.{spoken, Says}
-use Rattle.reply.proofs.PrintLaws.{printed-line, printed-within, read-all}
-use Rattle.reply.proofs.SpokenLaws.{printed-one, spoken-refused, spoken-list}
+use Rattle.print.specs.Print.{Printed, spaced, read-entries, spoken}
+use Rattle.reply.specs.Reply.{Says}
+use Rattle.print.proofs.PrintLaws.{printed-line, printed-within, read-all}
+use Rattle.print.proofs.SpokenLaws.{printed-one, spoken-refused, spoken-list}
 
 -- the number of an answer, and behind 0 its value
 abbrev pub said-of : Answer → List ℕ

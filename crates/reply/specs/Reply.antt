@@ -1,18 +1,12 @@
 -- What is said to a line, and what becomes of the base.
 use Prim.Native.Nat.{ℕ, _≤_}
 use mathlib.Core.Path.{_≡_}
-use mathlib.Core.List.{List, [], _∷_}
-use mathlib.Core.Bool.{cond}
-use lib.Dec.{eqb}
+use mathlib.Core.List.{List}
 use lib.ListN.{length, take}
 use Rattle.rules.specs.04-Schema.{Schema}
 use Rattle.rules.specs.07-Picture.{Sound, picture, base-length}
-use Rattle.rules.specs.14-Run.{Reply, printed, reply}
+use Rattle.rules.specs.14-Run.{Reply, reply}
 use Rattle.base.specs.Back.{schema-of}
-
--- "A refusal prints its number alone."
-unfoldable pub spoken : ℕ → List ℕ → List ℕ
-spoken n values = printed (cond (eqb n 0) (0 ∷ values) (n ∷ []))
 
 -- on a sound base the line that is printed, r bytes of it, and the base are what the rule says; on any other only lengths are kept
 pub record Says (rule : Schema → Reply) (b b′ out out′ : List ℕ) (r : ℕ) : Type 0 where

@@ -1,6 +1,5 @@
 // The commands that change the base.
-use super::parts;
-use super::say;
+use command::parts;
 ghost use mathlib.Core.Path.{_≡_};
 ghost use Prim.Native.Nat.{_≤_};
 ghost use lib.ListN.{length};
@@ -14,7 +13,7 @@ pub fn sds(base: &mut [u8], line: &[u8], out: &mut [u8]) -> usize
     ensures { λ r. ⌜ Says (obey-sds (names-in (now (line .entry)))) (now (base .entry)) (now (base .exit)) (now (out .entry)) (now (out .exit)) r ⌝ }
 {
     let answer = sdss::new_sds(base, parts::word(line, 1));
-    say::answer(out, answer.no, answer.one)
+    print::answer(out, answer.no, answer.one)
 }
 
 // The new names are blank.
@@ -26,7 +25,7 @@ pub fn import(base: &mut [u8], line: &[u8], out: &mut [u8]) -> usize
     let source = parts::sds(base, line, 2);
     let name = parts::word(line, 3);
     let answer = imports::import(base, target, source, name, b"", b"");
-    say::answer(out, answer.no, answer.one)
+    print::answer(out, answer.no, answer.one)
 }
 
 // The words behind the name are the parents.
@@ -38,7 +37,7 @@ pub fn object(base: &mut [u8], line: &[u8], out: &mut [u8]) -> usize
     let name = parts::word(line, 2);
     let parents = parts::words_from(line, 3);
     let answer = objects::new_object(base, d, name, parents);
-    say::answer(out, answer.no, answer.one)
+    print::answer(out, answer.no, answer.one)
 }
 
 pub fn remove(base: &mut [u8], line: &[u8], out: &mut [u8]) -> usize
@@ -47,5 +46,5 @@ pub fn remove(base: &mut [u8], line: &[u8], out: &mut [u8]) -> usize
 {
     let d = parts::sds(base, line, 1);
     let answer = presences::remove::remove_type(base, d, parts::word(line, 2));
-    say::answer(out, answer.no, answer.one)
+    print::answer(out, answer.no, answer.one)
 }

@@ -1,7 +1,5 @@
 // The commands that only ask.
-use super::parts;
-use super::print;
-use super::say;
+use command::parts;
 ghost use mathlib.Core.Path.{_≡_};
 ghost use Prim.Native.Nat.{_≤_};
 ghost use lib.ListN.{length};
@@ -22,7 +20,7 @@ pub fn desc(base: &[u8], line: &[u8], out: &mut [u8]) -> usize
     }
     let mut list = [0u8; 256];
     let answer = ask::scan_object(base, &schema, found.one, 1, &mut list);
-    let end = say::answer(out, answer.no, answer.one);
+    let end = print::answer(out, answer.no, answer.one);
     if answer.no != 0 {
         return end;
     }
@@ -39,5 +37,5 @@ pub fn depth(base: &[u8], line: &[u8], out: &mut [u8]) -> usize
         return print::number(out, 0, found.no);
     }
     let answer = ask::depth(base, &schema, found.one);
-    say::answer(out, answer.no, answer.one)
+    print::answer(out, answer.no, answer.one)
 }

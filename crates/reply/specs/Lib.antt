@@ -1,4 +1,1 @@
-pub mod Called
-pub mod Command
-pub mod Print
 pub mod Reply

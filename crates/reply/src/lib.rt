@@ -1,11 +1,6 @@
 // The run program's reply to a line.
-pub mod called;
 pub mod change;
-pub mod command;
-pub mod parts;
-pub mod print;
 pub mod question;
-pub mod say;
 
 ghost use mathlib.Core.Path.{_≡_};
 ghost use Prim.Native.Nat.{_≤_};
@@ -37,5 +32,5 @@ pub fn reply(base: &mut [u8], line: &[u8], out: &mut [u8]) -> usize
     if code == 6 {
         return question::depth(base, line, out);
     }
-    say::unreadable(out)
+    print::unreadable(out)
 }

@@ -12,7 +12,7 @@ use Rattle.rules.specs.08-Working.{listed-sdss, visible, applied-in, end
 use Rattle.rules.specs.09-Refusals as Refusals
 use Rattle.rules.specs.10-Changes as Changes
 use Rattle.rules.specs.11-Asks as Asks
-use Rattle.rules.specs.14-Run.{decimal, printed, sds-called, joined, obey, reply}
+use Rattle.rules.specs.14-Run as Run
 use Rattle.rules.specs.15-Cases.{marked, own, row-holds, calls-hold, lines-hold}
 
 pub cases-hold : all row-holds (marked ++ own) ≡ true
@@ -35,5 +35,6 @@ unfolding
     Changes.remove-end Changes.less-gone Changes.remove-type Changes.rename
     Asks.object-scan-list Asks.scan-object Asks.link-scan-list Asks.scan-link Asks.profile-list Asks.profile Asks.find
     Asks.depth-of Asks.place Asks.name Asks.marks Asks.visible-descendant Asks.descendant-set
-    decimal printed sds-called joined obey reply calls-hold lines-hold
+    Run.decimal Run.printed Run.sds-called Run.joined Run.obey-sds Run.obey-import Run.obey-object Run.obey-remove Run.obey-desc
+    Run.obey-depth Run.unreadable Run.obey Run.reply calls-hold lines-hold
 cases-hold = refl

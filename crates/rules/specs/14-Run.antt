@@ -1,7 +1,6 @@
 -- "The run program starts from a fresh base and reads commands on standard input, words parted by one space .. and prints a line for
 -- each": a line read, to a line printed and the next schema.
 use Prim.Native.Nat.{ℕ, zero, suc, _+_, _/_, _%_}
-use Prim.Native.String.{String}
 use mathlib.Core.List.{List, [], _∷_, _++_}
 use mathlib.Core.Bool.{Bool, cond, _&&_, _||_}
 use lib.Dec.{leb, ltb, eqb}
@@ -33,25 +32,27 @@ printed [] = []
 printed (n ∷ []) = decimal 20 n
 printed (n ∷ m ∷ ns) = decimal 20 n ++ (32 ∷ printed (m ∷ ns))
 
--- "A refusal prints its number alone."
-abbrev changed : (ℕ → List ℕ) → Schema → Outcome Schema → Reply
-changed values s (refused n) = record { line = printed (n ∷ []); next = s }
-changed values s (done one two three s′) = record { line = printed (0 ∷ values one); next = s′ }
+-- "prints a line for each: the number, then" the values; "A refusal prints its number alone."
+abbrev pub changed : Schema → Outcome Schema → Reply
+changed s (refused n) = record { line = printed (n ∷ []); next = s }
+changed s (done one two three s′) = record { line = printed (0 ∷ one ∷ []); next = s′ }
 
-abbrev asked : (ℕ → List ℕ → List ℕ) → Schema → Outcome (List ℕ) → Reply
+abbrev pub asked : (ℕ → List ℕ → List ℕ) → Schema → Outcome (List ℕ) → Reply
 asked values s (refused n) = record { line = printed (n ∷ []); next = s }
 asked values s (done one two three list) = record { line = printed (0 ∷ values one list); next = s }
 
--- ---- the commands
+-- ---- the words of a line
+
+-- word 0 is the command
+abbrev pub word : List Name → ℕ → Name
+word ws i = getD ws i []
 
 -- "SDSs by name (an unknown one counts as number 16)"
 unfoldable pub sds-called : Schema → Name → ℕ
 sds-called s n = getD (numbers 0 (limits .sdss) (λ d. used-sds s d && same-name (sds-name s d) n)) 0 16
 
--- "desc and depth list the one SDS named", and name the type there
-abbrev about-type : Outcome (List ℕ) → (ℕ → Outcome (List ℕ)) → Outcome (List ℕ)
-about-type (refused n) question = refused n
-about-type (done t two three list) question = question t
+abbrev pub sds-word : List Name → ℕ → Schema → ℕ
+sds-word ws i s = sds-called s (word ws i)
 
 -- the words of a run, parted by one space
 unfoldable pub joined : List Name → List ℕ
@@ -60,31 +61,61 @@ joined (n ∷ []) = n
 joined (n ∷ m ∷ ns) = n ++ (32 ∷ joined (m ∷ ns))
 
 -- the words begin with the command and are as many
-abbrev says : String → ℕ → List Name → Bool
-says command many ws = same-bytes (getD ws 0 []) (bytes command) && eqb (length ws) many
+abbrev pub says : Name → ℕ → List Name → Bool
+says command many ws = same-bytes (word ws 0) command && eqb (length ws) many
 
 -- "object takes any number of parents, none included"
-abbrev says-object : List Name → Bool
-says-object ws = same-bytes (getD ws 0 []) (bytes "object") && leb 3 (length ws)
+abbrev pub says-object : List Name → Bool
+says-object ws = same-bytes (word ws 0) (bytes "object") && leb 3 (length ws)
 
-abbrev unreadable : Schema → Reply
+-- ---- the commands
+
+-- "for `sds` the SDS number"
+unfoldable pub obey-sds : List Name → Schema → Reply
+obey-sds ws s = changed s (new-sds (word ws 1) s)
+
+-- "for `import` (target, source, name; new names blank), `object` and `remove` the type number"
+unfoldable pub obey-import : List Name → Schema → Reply
+obey-import ws s = changed s (import (sds-word ws 1 s) (sds-word ws 2 s) (word ws 3) [] [] s)
+
+-- "for .. `object` .. the type number": an SDS, the new name, and behind it the parents
+unfoldable pub obey-object : List Name → Schema → Reply
+obey-object ws s = changed s (new-object (sds-word ws 1 s) (word ws 2) (joined (drop 3 ws)) s)
+
+-- "for .. `remove` the type number": an SDS and the name there
+unfoldable pub obey-remove : List Name → Schema → Reply
+obey-remove ws s = changed s (remove-type (sds-word ws 1 s) (word ws 2) s)
+
+-- "desc and depth list the one SDS named", and name the type there
+abbrev pub about-type : Outcome (List ℕ) → (ℕ → Outcome (List ℕ)) → Outcome (List ℕ)
+about-type (refused n) question = refused n
+about-type (done t two three list) question = question t
+
+-- "for `desc` the count and the list"
+unfoldable pub obey-desc : List Name → Schema → Reply
+obey-desc ws s =
+    let listed : List ℕ = sds-word ws 1 s ∷ [] in
+    asked (λ one list. one ∷ list) s (about-type (find listed (word ws 2) s) (λ t. scan-object listed t 1 (limits .types) s))
+
+-- "for `depth` the depth"
+unfoldable pub obey-depth : List Name → Schema → Reply
+obey-depth ws s =
+    let listed : List ℕ = sds-word ws 1 s ∷ [] in
+    asked (λ one list. one ∷ []) s (about-type (find listed (word ws 2) s) (λ t. depth-of listed t s))
+
+-- "prints `?`"
+unfoldable pub unreadable : Schema → Reply
 unreadable s = record { line = bytes "?"; next = s }
 
--- for `sds` the SDS number; for `import`, `object` and `remove` the type number; for `desc` the count and the list; for `depth` the depth
+-- unreadable where it "begins with no such command" or "has the wrong number of words"
 unfoldable pub obey : List Name → Schema → Reply
 obey ws s =
-    let first : Name = getD ws 1 [] in
-    let second : Name = getD ws 2 [] in
-    let third : Name = getD ws 3 [] in
-    let d : ℕ = sds-called s first in
-    cond (says "sds" 2 ws) (changed (λ one. one ∷ []) s (new-sds first s))
-    (cond (says "import" 4 ws) (changed (λ one. one ∷ []) s (import d (sds-called s second) third [] [] s))
-    (cond (says-object ws) (changed (λ one. one ∷ []) s (new-object d second (joined (drop 3 ws)) s))
-    (cond (says "remove" 3 ws) (changed (λ one. one ∷ []) s (remove-type d second s))
-    (cond (says "desc" 3 ws)
-    (asked (λ one list. one ∷ list) s (about-type (find (d ∷ []) second s) (λ t. scan-object (d ∷ []) t 1 (limits .types) s)))
-    (cond (says "depth" 3 ws)
-    (asked (λ one list. one ∷ []) s (about-type (find (d ∷ []) second s) (λ t. depth-of (d ∷ []) t s)))
+    cond (says (bytes "sds") 2 ws) (obey-sds ws s)
+    (cond (says (bytes "import") 4 ws) (obey-import ws s)
+    (cond (says-object ws) (obey-object ws s)
+    (cond (says (bytes "remove") 3 ws) (obey-remove ws s)
+    (cond (says (bytes "desc") 3 ws) (obey-desc ws s)
+    (cond (says (bytes "depth") 3 ws) (obey-depth ws s)
     (unreadable s))))))
 
 -- "A line is unreadable, and prints `?`, when it is too long, begins with no such command, has an empty word or has the wrong number

@@ -3,7 +3,8 @@ use native.Mathlib.Omega.{arith}
 use Prim.Native.Nat.{ℕ}
 use mathlib.Core.Path.{ap, _∙_}
 use mathlib.Core.List.{[], _∷_}
-use Rattle.reply.proofs.SayLaws.{scan-few, spoken-few}
+use Rattle.print.proofs.SpokenLaws.{spoken-few}
+use Rattle.reply.proofs.SayLaws.{scan-few}
 use Rattle.reply.proofs.DoneLaws.{desc-not-found, desc-refused, desc-done}
 use Rattle.reply.proofs.question.desc.Statement.{statement}
 use Rattle.reply.proofs.question.desc.Tie as tie

@@ -16,13 +16,13 @@ use Rattle.rules.specs.04-Schema.{Presence, Application, End, presence-before, 
 use Rattle.rules.specs.07-Picture.{pad, presence-row, application-row, end-row, table}
 use Rattle.rules.proofs.Bools.{and-both, and-of}
 use Rattle.rules.proofs.01-Lists.{place-in, before-irreflexive, before-transitive, before-connected, rising-at}
-use Rattle.rules.proofs.Edits.{put-long, put-in, tail-rising, put-rising}
+use Rattle.rules.proofs.Edits.{put-long, put-in, put-place, tail-rising, put-rising}
 use Rattle.rules.proofs.03-Names.{pad-before}
 use Rattle.rules.proofs.07-Picture.{length-pad, length-table, wide-presence, wide-application, wide-end}
 use Rattle.rows.specs.Rows.{part}
 use Rattle.rows.specs.Table.{Rises, Put-in, closed}
 use Rattle.rows.proofs.Scan.{rising-far}
-use Rattle.rows.proofs.TableLaws.{row-fits, put-at, without-at, table-opened, table-closed}
+use Rattle.rows.proofs.TableLaws.{row-fits, without-at, table-opened, table-closed}
 use Rattle.base.specs.Stored.{Named, Applied, Ended, Ordered, less-row}
 use Rattle.base.proofs.Back.{row-there}
 
@@ -184,7 +184,7 @@ module _ {A : Type 0} {w : ℕ} {row : A → List ℕ} {Used : A → Type 0} {be
           let there : (i : ℕ) → i < length rs → before (getD rs i a) a ≡ bytes-before (part b (start + i * length (row a)) (length (row a))) (row a)
           = λ i l. rw (t .wide a, row-is a i l) (sym (t .order (getD rs i a) a (used-at a i l) u)) in
           let here : put before a rs ≡ take k rs ++ a ∷ drop k rs
-          = put-at before a a rs k (p .most) (λ i l. there i (omega (arith, p .most)) ∙ p .earlier i l) (λ i l m. there i m ∙ p .later i l m) in
+          = put-place before a a rs k (p .most) (λ i l. there i (omega (arith, p .most)) ∙ p .earlier i l) (λ m. there k m ∙ p .later k (omega arith) m) in
           x .is ∙ rw (t .wide a, whole, long, here) (table-opened w row (t .wide) n rs pre post k a (p .most) less)
 
     pub take-closed : {count : ℕ} → count ≡ length rs → (k : ℕ) → k < count

@@ -2,27 +2,25 @@
 use Prim.Native.Nat.{ℕ, _+_, _≤_, _<_}
 use native.Mathlib.Omega.{arith}
 use mathlib.Core.Path.{_≡_, refl, ap, _∙_, subst}
-use mathlib.Core.List.{List, [], _∷_, _++_}
+use mathlib.Core.List.{List, _∷_, _++_}
 use mathlib.Core.Bool.{Bool, true, false}
 use lib.Dec.{ltb}
 use lib.ListN.{length, drop, set}
 use borrow.Author.Tests.{lt-ltb, le-ltb}
 use Rattle.rules.specs.declared.Answer.{Answer}
-use Rattle.rules.specs.01-Lists.{any, all, put}
+use Rattle.rules.specs.01-Lists.{all, put}
 use Rattle.rules.specs.03-Names.{Name, well-formed}
 use Rattle.rules.specs.04-Schema.{Schema, Kind, bears, presence-before}
 use Rattle.rules.specs.04-Schema.Kind.{attribute, designation}
-use Rattle.rules.specs.07-Picture.{type-row, pad, picture}
-use Rattle.rules.specs.09-Refusals.{Outcome, Refusals, verdict, success, unknown-value-kind, names-taken, presences-full, types-full, free-types}
+use Rattle.rules.specs.07-Picture.{picture}
+use Rattle.rules.specs.09-Refusals.{Outcome, Refusals, verdict, success, unknown-value-kind, presences-full, types-full, free-types}
 use Rattle.rules.specs.09-Refusals.Outcome.{done}
 use Rattle.rules.specs.10-Changes.{with-types, with-presences, with-type, new-type, new-attribute, new-designation}
 use Rattle.rules.specs.12-Contracts.{Kept}
 use Rattle.rules.proofs.Bools.{or-left, or-right}
-use Rattle.rules.proofs.07-Picture.{kind-back}
-use Rattle.rules.proofs.07-Picture.Fitting.{fits-attribute, fits-designation}
 use Rattle.rules.proofs.09-Refusals.{Left, told}
 use Rattle.base.specs.Back.{schema-of, presence-count}
-use Rattle.base.specs.Stored.{Shows, Stored, Becomes, Type-written, type-fields}
+use Rattle.base.specs.Stored.{Shows, Stored, Becomes}
 use Rattle.base.proofs.Kept.{kept-done}
 use Rattle.base.proofs.Shown.{presences-long}
 use Rattle.base.proofs.StoredLaws.{shows-schema, shows-stored}
@@ -87,15 +85,6 @@ module _ {b : List ℕ} {d : ℕ} {n : Name} {no : ℕ} (a : Aimed b d n no) (z 
       ready = both-ready r;
     }
 
-module _ (s : Schema) (d : ℕ) (n : Name) where
-  pub one-taken : bears s d n ≡ true → names-taken s d (n ∷ []) ≡ true
-  unfolding names-taken any
-  one-taken e = rw e
-
-  pub one-free : bears s d n ≡ false → names-taken s d (n ∷ []) ≡ false
-  unfolding names-taken any
-  one-free e = rw e
-
 -- the room for new types is room for their numbers and for their presences
 module _ (b : List ℕ) (more : ℕ) where
   pub numbers-short : ltb (length (free-types (schema-of b))) more ≡ true → types-full (schema-of b) more ≡ true
@@ -130,16 +119,6 @@ module _ (b : List ℕ) (t : ℕ) (k : Kind) {b₁ : List ℕ} (w : Becomes b t 
       → Shows b₂ (with-type t k d n (schema-of b))
   type-put {b₂} p =
       subst (λ (x : Schema). Shows b₂ (with-presences x (put presence-before (record { sds = d; name = n; type = t }) (x .presences)))) typed p
-
--- the kinds by their rows
-module _ {b : List ℕ} {t : ℕ} {b₁ : List ℕ} where
-  pub attribute-written : (v : ℕ) → Type-written b t (type-fields 2 v 0 []) b₁ → Becomes b t (attribute v) b₁
-  unfolding type-row pad
-  attribute-written v w = w .shows (attribute v) refl (kind-back fits-attribute)
-
-  pub designation-written : Type-written b t (type-fields 3 4 0 []) b₁ → Becomes b t designation b₁
-  unfolding type-row pad
-  designation-written w = w .shows designation refl (kind-back fits-designation)
 
 -- ---- the rules
 

@@ -15,13 +15,14 @@ use Rattle.rules.specs.09-Refusals.{Outcome, verdict, answer-of, success, malfo
 use Rattle.rules.specs.09-Refusals.Outcome.{done}
 use Rattle.rules.specs.10-Changes as Changes
 use Rattle.rules.specs.12-Contracts.{base-after}
-use Rattle.rules.specs.13-History.{Call, next, after, after-all, Allowed, Runs, Demand-3}
+use Rattle.rules.specs.13-History.{Call, next, after, after-all, Allowed, Runs}
 use Rattle.rules.specs.13-History.Change.{new-sds}
 use Rattle.rules.specs.13-History.Call.{begin-fresh, change, ask}
 use Rattle.rules.specs.13-History.Runs.{stop, step}
 use Rattle.rules.proofs.06-Good.{fresh-good}
 use Rattle.rules.proofs.07-Picture.{picture-length, picture-same}
 use Rattle.history.proofs.Numbers.{no-of, allowed-not-1}
+use Rattle.history.proofs.Demand.{demand-3}
 use Rattle.history.proofs.SdsChanges.{new-sds-keeps}
 
 -- what a keeper answers to a call and leaves of the base; it may remember the calls before, the last of them first
@@ -146,10 +147,10 @@ after-on s [] ds = refl
 after-on s (c ∷ cs) ds = after-on (after s c) cs ds
 
 -- whatever was called before, a keeper that leaves the base as it was does so because the rules leave the schema as it was
-pub never-feigns : Demand-3 → (cs : List Call) (c : Call) (b : List ℕ) → Runs (picture fresh) cs b → Runs b (c ∷ []) b
+pub never-feigns : (cs : List Call) (c : Call) (b : List ℕ) → Runs (picture fresh) cs b → Runs b (c ∷ []) b
     → after (after-all fresh cs) c ≡ after-all fresh cs
 unfolding after-all
-never-feigns demand cs c b r q =
+never-feigns cs c b r q =
     let both : picture (after-all fresh (cs ++ (c ∷ []))) ≡ picture (after-all fresh cs)
-    = sym (demand .bytes (cs ++ (c ∷ [])) b (runs-on r q)) ∙ demand .bytes cs b r in
-    sym (after-on fresh cs (c ∷ [])) ∙ picture-same (demand .good (cs ++ (c ∷ []))) (demand .good cs) both
+    = sym (demand-3 .bytes (cs ++ (c ∷ [])) b (runs-on r q)) ∙ demand-3 .bytes cs b r in
+    sym (after-on fresh cs (c ∷ [])) ∙ picture-same (demand-3 .good (cs ++ (c ∷ []))) (demand-3 .good cs) both

@@ -12,11 +12,11 @@ use Rattle.rules.specs.04-Schema.Side.{origin, destination}
 use Rattle.rules.specs.05-Descent.{descends, members}
 use Rattle.rules.specs.08-Working.{listed-sdss, applied-in, end-in, upward}
 use Rattle.rules.proofs.Bools.{same-test}
-use Rattle.rules.proofs.01-Lists.{any-at, any-where}
+use Rattle.rules.proofs.01-Lists.{any-at, any-where, among-in, in-among}
 use Rattle.rules.proofs.05-Descent.{members-in, members-of}
 use Rattle.kin.specs.Kin.{parents-of, children-of, ancestors-of, descendants-of}
 use Rattle.shown.specs.Shown.{gathered}
-use Rattle.shown.proofs.Rules.{among-in, in-among, attributes-are, links-are, objects-are}
+use Rattle.shown.proofs.Rules.{attributes-are, links-are, objects-are}
 use Rattle.scans.specs.Scans.{object-scan, link-scan, sources, Scanned}
 
 -- ---- members

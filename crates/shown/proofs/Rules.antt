@@ -6,17 +6,11 @@ use mathlib.Core.Bool.{Bool, true, _&&_}
 use lib.Dec.{eqb}
 use borrow.Author.Tests.{eqb-true, eq-eqb}
 use Rattle.rules.specs.01-Lists.{_∈_, any, among}
-use Rattle.rules.specs.04-Schema.{Schema, Side, Presence, Application, End, holds-type, present, is-application, applied, side-code, is-end, has-end}
+use Rattle.rules.specs.04-Schema.{Schema, Side, End, holds-type, present, is-application, applied, side-code, is-end, has-end}
 use Rattle.rules.specs.08-Working.{listed-sdss, visible, applied-in, end-in}
 use Rattle.rules.proofs.Bools.{same-test, and-both, and-of}
-use Rattle.rules.proofs.01-Lists.{any-at, any-where}
+use Rattle.rules.proofs.01-Lists.{any-at, any-where, among-in, in-among}
 use Rattle.shown.specs.Shown.{gathered}
-
-pub among-in : (l : List ℕ) (n : ℕ) → among l n ≡ true → n ∈ l
-among-in l n e = let (x, i, h) = any-where (eqb n) l e in rw (eqb-true n x h) i
-
-pub in-among : {l : List ℕ} {n : ℕ} → n ∈ l → among l n ≡ true
-in-among {n = n} i = any-at (eqb n) i (eq-eqb n n refl)
 
 -- a row that passes and puts k in
 module _ {A : Type 0} (test : A → Bool) (type : A → ℕ) (l : List A) (k : ℕ) where

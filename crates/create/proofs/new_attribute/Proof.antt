@@ -5,7 +5,8 @@ use borrow.Author.Tests.{ltb-false}
 use Rattle.rules.specs.01-Lists.{all}
 use Rattle.base.proofs.StoredLaws.{sound-stored}
 use Rattle.conditions.proofs.TestedLaws.{tested-stops, tested-passes}
-use Rattle.create.proofs.CreateLaws.{attribute-written, presence-ready, made-kept, new-attribute-left}
+use Rattle.edit.proofs.TypeWritten.{attribute-written}
+use Rattle.create.proofs.CreateLaws.{presence-ready, made-kept, new-attribute-left}
 use Rattle.create.proofs.new_attribute.Statement.{statement}
 use Rattle.create.proofs.new_attribute.Tie as tie
 
@@ -50,7 +51,7 @@ write-type-requires c κs =
 
 put-presence-requires : tie.Need-put-presence-requires
 put-presence-requires c κs = presence-ready (c .before .before .before .before .before .before .before .before .place-for .ensures .ready
-    (c .before .before .before .before .before .before .if1 .left)) _ (attribute-written _ (c .before .before .before .write-type .ensures))
+    (c .before .before .before .before .before .before .if1 .left)) _ (attribute-written (c .before .before .before .write-type .ensures))
 
 done-requires : tie.Need-done-requires
 done-requires c κs = search needs
@@ -63,7 +64,7 @@ unfolding all
 returns-2 c =
     let p = c .before .before .before .before .before .before .before .before .before .before .before .before .place-for .ensures in
     let z = c .before .before .before .before .before .before .before .before .before .before .if1 .left in
-    made-kept (p .ready z) _ (attribute-written _ (c .before .before .before .before .before .before .before .write-type .ensures))
+    made-kept (p .ready z) _ (attribute-written (c .before .before .before .before .before .before .before .write-type .ensures))
     (tested-passes (p .told) z refl (new-attribute-left _ _ _ _)) (c .done .ensures) (c .before .before .before .put-presence .ensures)
 
 pub new-attribute-spec : {M : Type 1} → statement M

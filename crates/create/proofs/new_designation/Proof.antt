@@ -4,7 +4,8 @@ use mathlib.Core.Path.{refl}
 use Rattle.rules.specs.01-Lists.{all}
 use Rattle.base.proofs.StoredLaws.{sound-stored}
 use Rattle.conditions.proofs.TestedLaws.{tested-stops, tested-passes}
-use Rattle.create.proofs.CreateLaws.{designation-written, presence-ready, made-kept, new-designation-left}
+use Rattle.edit.proofs.TypeWritten.{designation-written}
+use Rattle.create.proofs.CreateLaws.{presence-ready, made-kept, new-designation-left}
 use Rattle.create.proofs.new_designation.Statement.{statement}
 use Rattle.create.proofs.new_designation.Tie as tie
 

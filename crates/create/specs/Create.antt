@@ -1,30 +1,23 @@
 -- What the calls that make types have tested of their inputs.
 use Prim.Native.Nat.{ℕ, _<_}
 use mathlib.Core.Path.{_≡_}
-use mathlib.Core.List.{List, [], _∷_, _++_}
+use mathlib.Core.List.{List, _∷_, _++_}
 use mathlib.Core.Bool.{Bool, true, false}
-use lib.ListN.{length}
+use lib.ListN.{length, take, drop}
 use Rattle.rules.specs.03-Names.{Name, well-formed}
 use Rattle.rules.specs.04-Schema.{Schema, bears}
 use Rattle.rules.specs.07-Picture.{Sound}
-use Rattle.rules.specs.09-Refusals.{Refusals, unknown-sds, system-sds, malformed, names-taken, types-full}
-use Rattle.rules.specs.10-Changes.{new-type}
+use Rattle.rules.specs.09-Refusals.{Refusals}
+use Rattle.rules.specs.10-Changes.{new-type, new-designation-refusals}
 use Rattle.base.specs.Back.{schema-of}
 use Rattle.conditions.specs.Tested.{Tested}
 
--- the refusals, but for 1, that come first and last in every call which makes one type
+-- the refusals that come first and last in every call which makes one type: a new designation link type has no others
 abbrev pub aim-refusals : Schema → ℕ → Name → Refusals
-aim-refusals s d n =
-    (2, unknown-sds s d)
-    ∷ (3, system-sds d)
-    ∷ (4, malformed n)
-    ∷ []
+aim-refusals s d n = take 3 (new-designation-refusals d n s)
 
 abbrev pub room-refusals : Schema → ℕ → Name → Refusals
-room-refusals s d n =
-    (11, names-taken s d (n ∷ []))
-    ∷ (14, types-full s 1)
-    ∷ []
+room-refusals s d n = drop 3 (new-designation-refusals d n s)
 
 -- all of them, with a value kind that may be unknown
 abbrev pub one-refusals : Schema → ℕ → Name → Bool → Refusals

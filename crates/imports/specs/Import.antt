@@ -2,31 +2,23 @@
 use Prim.Native.Nat.{ℕ, _<_}
 use mathlib.Core.Path.{_≡_}
 use mathlib.Core.List.{List, [], _∷_, map}
-use mathlib.Core.Bool.{true, false, _||_}
-use lib.ListN.{length}
+use mathlib.Core.Bool.{true, false}
+use lib.ListN.{length, take}
 use Rattle.rules.specs.03-Names.{Name}
 use Rattle.rules.specs.04-Schema.{Schema, Presence, present, type-named, presence-before}
 use Rattle.rules.specs.07-Picture.{Sound}
-use Rattle.rules.specs.09-Refusals.{Outcome, Refusals, verdict, unknown-sds, system-sds, malformed, malformed-new, no-such-name}
-use Rattle.rules.specs.09-Refusals.{idle-reverse-name, missing-parent, names-taken, presences-full}
+use Rattle.rules.specs.09-Refusals.{Outcome, Refusals, verdict, malformed-new}
+use Rattle.rules.specs.09-Refusals.{names-taken, presences-full}
 use Rattle.rules.specs.09-Refusals.Outcome.{done}
-use Rattle.rules.specs.10-Changes.{with-presences, put-all}
+use Rattle.rules.specs.10-Changes.{with-presences, put-all, import-refusals}
 use Rattle.base.specs.Back.{schema-of}
 use Rattle.conditions.specs.Reverse.{Reverse-of}
 use Rattle.conditions.specs.Tested.{Tested}
 use Rattle.imports.specs.declared.Named.{Named}
 
--- the refusals of an import, but for 1, that its new names, blanks filled in, have no part in
+-- the refusals of an import that its new names, blanks filled in, have no part in: all but the last two
 abbrev pub first-refusals : ℕ → ℕ → Name → Name → Name → Schema → Refusals
-first-refusals target source n new new-reverse s =
-    (2, unknown-sds s target || unknown-sds s source)
-    ∷ (3, system-sds target)
-    ∷ (4, malformed n || (malformed-new new || malformed-new new-reverse))
-    ∷ (6, no-such-name s source n)
-    ∷ (7, idle-reverse-name s (type-named s source n) new-reverse)
-    ∷ (9, present s target (type-named s source n))
-    ∷ (10, missing-parent s target (type-named s source n))
-    ∷ []
+first-refusals target source n new new-reverse s = take 7 (import-refusals target source n new new-reverse s)
 
 -- what is so where none holds: t is the type that is named, r its reverse, 128 where it has none
 pub record Importable (b : List ℕ) (target source : ℕ) (n new new-reverse : Name) (t r : ℕ) : Type 0 where

@@ -1,15 +1,11 @@
--- What the check of the types decides of the bytes.
+-- What the check of the rows of types decides of the bytes.
 -- A part speaks of the schema that the bytes show; its fields are those of `Good` and of `Canonical`, under the same names.
 use Prim.Native.Nat.{ℕ, _≤_, _<_}
 use mathlib.Core.Path.{_≡_}
-use mathlib.Core.List.{List, []}
-use mathlib.Core.Bool.{true}
-use lib.Dec.{ltb}
+use mathlib.Core.List.{List}
 use lib.ListN.{length}
-use Rattle.rules.specs.01-Lists.{rising}
-use Rattle.rules.specs.04-Schema.{kind-of, is-object}
+use Rattle.rules.specs.04-Schema.{kind-of}
 use Rattle.rules.specs.04-Schema.Kind.{object, attribute, paired}
-use Rattle.rules.specs.05-Descent.{Parent}
 use Rattle.rules.specs.07-Picture.{type-row}
 use Rattle.rows.specs.Rows.{part}
 use Rattle.base.specs.Rows.{type-at}
@@ -20,14 +16,3 @@ pub record Kinds (b : List ℕ) : Type 0 where
   pub parents-few : (t : ℕ) (ps : List ℕ) → kind-of (schema-of b) t ≡ object ps → length ps ≤ 4
   pub value-kinds : (t v : ℕ) → kind-of (schema-of b) t ≡ attribute v → v ≤ 5
   pub categories : (t c r : ℕ) → kind-of (schema-of b) t ≡ paired c r → c ≤ 3
-
-pub record Parents (b : List ℕ) : Type 0 where
-  pub parents-rising : (t : ℕ) (ps : List ℕ) → kind-of (schema-of b) t ≡ object ps → rising ltb ps ≡ true
-  pub parents-objects : (t a : ℕ) → Parent (schema-of b) t a → is-object (kind-of (schema-of b) a) ≡ true
-  pub root : kind-of (schema-of b) 0 ≡ object []
-  pub only-root : (t : ℕ) → kind-of (schema-of b) t ≡ object [] → t ≡ 0
-
-pub record Reverses (b : List ℕ) : Type 0 where
-  pub reverse-different : (t c r : ℕ) → kind-of (schema-of b) t ≡ paired c r → r ≡ t → ⊥
-  pub reverse-in-turn : (t c r : ℕ) → kind-of (schema-of b) t ≡ paired c r → (c′ : ℕ) × (kind-of (schema-of b) r ≡ paired c′ t)
-  pub not-both-implicit : (t r : ℕ) → kind-of (schema-of b) t ≡ paired 3 r → kind-of (schema-of b) r ≡ paired 3 t → ⊥

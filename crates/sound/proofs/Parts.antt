@@ -11,7 +11,8 @@ use Rattle.base.proofs.Back.{sound-canonical, sound-good, is-sound}
 use Rattle.base.proofs.Shown.{presences-long, applications-long, ends-long, presence-read, end-read, sdss-long, types-long}
 use Rattle.base.proofs.Shown.{used-application, used-end}
 use Rattle.tables.specs.Parts.{Sdss, Presences, Rest}
-use Rattle.kinds.specs.Parts.{Kinds, Parents, Reverses}
+use Rattle.kinds.specs.Parts.{Kinds}
+use Rattle.ties.specs.Parts.{Parents, Reverses}
 use Rattle.sound.specs.Parts.{Acyclic}
 use Rattle.closed.specs.Parts.{Closed}
 

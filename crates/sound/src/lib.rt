@@ -16,10 +16,10 @@ pub fn is_sound(base: &[u8]) -> bool
     if !kinds::kinds_fine(base) {
         return false;
     }
-    if !kinds::parents_fine(base) {
+    if !ties::parents_fine(base) {
         return false;
     }
-    if !kinds::reverses_fine(base) {
+    if !ties::reverses_fine(base) {
         return false;
     }
     if !graph::is_acyclic(base) {

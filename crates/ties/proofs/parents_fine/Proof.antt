@@ -1,4 +1,4 @@
--- `kinds::parents_fine` meets its contract: type 0 is the root, the types below t are fine, and the answer on t decides.
+-- `ties::parents_fine` meets its contract: type 0 is the root, the types below t are fine, and the answer on t decides.
 -- Assumes nothing.
 use native.Mathlib.Omega.{arith}
 use borrow.Author.Needs.{needs}
@@ -6,10 +6,10 @@ use Prim.Native.Nat.{ℕ, _≤_, _<_, _-_}
 use borrow.Author.Count.{below-none, below-more}
 use borrow.Author.Tests.{not-true, not-false}
 use Rattle.rows.proofs.Decides.{decides-yes, decides-no}
-use Rattle.kinds.specs.TypeRows.{ParentsFine}
-use Rattle.kinds.proofs.TypesLaws.{root-fine, parents-of, parents-root, parents-each}
-use Rattle.kinds.proofs.parents_fine.Statement.{statement}
-use Rattle.kinds.proofs.parents_fine.Tie as tie
+use Rattle.ties.specs.Ties.{ParentsFine}
+use Rattle.ties.proofs.TiesLaws.{root-fine, parents-of, parents-root, parents-each}
+use Rattle.ties.proofs.parents_fine.Statement.{statement}
+use Rattle.ties.proofs.parents_fine.Tie as tie
 
 abbrev Inv-loop : tie.InvT-loop
 Inv-loop base t₀ t = (0 < t) × (t ≤ 128) × ((k : ℕ) → k < t → ParentsFine base k)

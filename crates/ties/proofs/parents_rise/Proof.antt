@@ -1,4 +1,4 @@
--- `kinds::parents_rise` meets its contract: the parents before place i are fine, `least` is past the last of them, and each
+-- `ties::parents_rise` meets its contract: the parents before place i are fine, `least` is past the last of them, and each
 -- refusal contradicts one field of the parent in place i. Assumes nothing.
 use native.Mathlib.Omega.{arith}
 use borrow.Author.Needs.{needs}
@@ -6,10 +6,10 @@ use Prim.Native.Nat.{ℕ, _≤_, _<_, _-_}
 use mathlib.Core.Path.{_≡_, refl, sym, _∙_}
 use borrow.Author.Count.{below-none, below-more}
 use Rattle.rows.proofs.Decides.{decides-yes, decides-no}
-use Rattle.kinds.specs.TypeRows.{least, ParentFine}
-use Rattle.kinds.proofs.TypesLaws.{least-next, kind-at}
-use Rattle.kinds.proofs.parents_rise.Statement.{statement}
-use Rattle.kinds.proofs.parents_rise.Tie as tie
+use Rattle.ties.specs.Ties.{least, ParentFine}
+use Rattle.ties.proofs.TiesLaws.{least-next, kind-at}
+use Rattle.ties.proofs.parents_rise.Statement.{statement}
+use Rattle.ties.proofs.parents_rise.Tie as tie
 
 abbrev Inv-loop : tie.InvT-loop
 Inv-loop base t n least₀ i₀ past i = (i ≤ n) × (past ≡ least base t i) × ((k : ℕ) → k < i → ParentFine base t k)

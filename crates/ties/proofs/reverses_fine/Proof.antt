@@ -1,4 +1,4 @@
--- `kinds::reverses_fine` meets its contract: the types below t are fine, and the answer on t decides.
+-- `ties::reverses_fine` meets its contract: the types below t are fine, and the answer on t decides.
 -- Assumes nothing.
 use native.Mathlib.Omega.{arith}
 use borrow.Author.Needs.{needs}
@@ -6,10 +6,10 @@ use Prim.Native.Nat.{ℕ, _≤_, _<_, _-_}
 use borrow.Author.Count.{below-none, below-more}
 use borrow.Author.Tests.{not-true, not-false}
 use Rattle.rows.proofs.Decides.{decides-yes, decides-no}
-use Rattle.kinds.specs.TypeRows.{ReverseFine}
-use Rattle.kinds.proofs.TypesLaws.{reverses-of, reverses-each}
-use Rattle.kinds.proofs.reverses_fine.Statement.{statement}
-use Rattle.kinds.proofs.reverses_fine.Tie as tie
+use Rattle.ties.specs.Ties.{ReverseFine}
+use Rattle.ties.proofs.TiesLaws.{reverses-of, reverses-each}
+use Rattle.ties.proofs.reverses_fine.Statement.{statement}
+use Rattle.ties.proofs.reverses_fine.Tie as tie
 
 abbrev Inv-loop : tie.InvT-loop
 Inv-loop base t₀ t = (t ≤ 128) × ((k : ℕ) → k < t → ReverseFine base k)

@@ -1,11 +1,11 @@
--- `kinds::type_parents_fine` meets its contract: only an object type has parents, it has some, and each decides.
+-- `ties::type_parents_fine` meets its contract: only an object type has parents, it has some, and each decides.
 -- Assumes nothing.
 use native.Mathlib.Omega.{arith}
 use borrow.Author.Needs.{needs}
 use Rattle.rows.proofs.Decides.{decides-yes, decides-no, decides-iff}
-use Rattle.kinds.proofs.TypesLaws.{count-few}
-use Rattle.kinds.proofs.type_parents_fine.Statement.{statement}
-use Rattle.kinds.proofs.type_parents_fine.Tie as tie
+use Rattle.ties.proofs.TiesLaws.{count-few}
+use Rattle.ties.proofs.type_parents_fine.Statement.{statement}
+use Rattle.ties.proofs.type_parents_fine.Tie as tie
 
 kind-requires : tie.Need-kind-requires
 kind-requires c κs = search needs

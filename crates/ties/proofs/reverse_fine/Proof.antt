@@ -1,11 +1,11 @@
--- `kinds::reverse_fine` meets its contract: each refusal contradicts one field.
+-- `ties::reverse_fine` meets its contract: each refusal contradicts one field.
 -- Assumes nothing.
 use native.Mathlib.Omega.{arith}
 use borrow.Author.Needs.{needs}
 use Rattle.rows.proofs.Decides.{decides-yes, decides-no}
-use Rattle.kinds.proofs.TypesLaws.{answers-fine}
-use Rattle.kinds.proofs.reverse_fine.Statement.{statement}
-use Rattle.kinds.proofs.reverse_fine.Tie as tie
+use Rattle.ties.proofs.TiesLaws.{answers-fine}
+use Rattle.ties.proofs.reverse_fine.Statement.{statement}
+use Rattle.ties.proofs.reverse_fine.Tie as tie
 
 kind-requires : tie.Need-kind-requires
 kind-requires c κs = search needs

@@ -1,11 +1,11 @@
--- `kinds::answers` meets its contract: each refusal contradicts one field.
+-- `ties::answers` meets its contract: each refusal contradicts one field.
 -- Assumes nothing.
 use native.Mathlib.Omega.{arith}
 use borrow.Author.Needs.{needs}
 use Rattle.rows.proofs.Decides.{decides-yes, decides-no, decides-iff}
-use Rattle.kinds.proofs.TypesLaws.{decides-other}
-use Rattle.kinds.proofs.answers.Statement.{statement}
-use Rattle.kinds.proofs.answers.Tie as tie
+use Rattle.ties.proofs.TiesLaws.{decides-other}
+use Rattle.ties.proofs.answers.Statement.{statement}
+use Rattle.ties.proofs.answers.Tie as tie
 
 kind-requires : tie.Need-kind-requires
 kind-requires c κs = search needs

@@ -10,7 +10,7 @@ use Rattle.rules.specs.07-Picture.{Sound}
 use Rattle.rules.specs.09-Refusals.{Refusals, unknown-sds, system-sds, malformed, names-taken, types-full}
 use Rattle.rules.specs.10-Changes.{new-type}
 use Rattle.base.specs.Back.{schema-of}
-use Rattle.conditions.specs.Tested.{Tested}
+use Rattle.base.specs.Tested.{Tested}
 
 -- the refusals, but for 1, that come first and last in every call which makes one type
 abbrev pub aim-refusals : Schema → ℕ → Name → Refusals

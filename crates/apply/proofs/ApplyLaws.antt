@@ -3,73 +3,38 @@ use Prim.Native.Nat.{ℕ, _+_, _≤_, _<_}
 use native.Mathlib.Omega.{arith}
 use mathlib.Core.Path.{_≡_, refl, sym, ap, _∙_}
 use mathlib.Core.List.{List, [], _∷_, _++_}
-use mathlib.Core.Bool.{Bool, true, false, not, cond, _&&_, _||_}
+use mathlib.Core.Bool.{Bool, true, false, not, _&&_, _||_}
 use lib.Dec.{eqb, ltb}
-use lib.ListN.{length, drop}
+use lib.ListN.{length}
 use borrow.Author.Tests.{eqb-true, lt-ltb, le-ltb}
-use Rattle.rules.specs.declared.Answer.{Answer}
-use Rattle.rules.specs.01-Lists.{all, without, put}
+use Rattle.rules.specs.01-Lists.{without, put}
 use Rattle.rules.specs.03-Names.{Name}
 use Rattle.rules.specs.04-Schema.{Schema, Application, kind-of, is-attribute, type-named, applied, is-application, application-before}
-use Rattle.rules.specs.07-Picture.{Sound, picture}
-use Rattle.rules.specs.09-Refusals.{Outcome, Refusals, no-such-name, no-object, no-attribute, no-link, applications-full, refusal}
-use Rattle.rules.specs.09-Refusals.Outcome.{refused, done}
+use Rattle.rules.specs.07-Picture.{picture}
+use Rattle.rules.specs.09-Refusals.{Refusals, no-such-name, no-object, no-attribute, no-link, applications-full}
+use Rattle.rules.specs.09-Refusals.Outcome.{done}
 use Rattle.rules.specs.10-Changes.{with-applications, application-refusals, apply, unapply}
-use Rattle.rules.specs.12-Contracts.{Kept}
 use Rattle.rules.proofs.Bools.{or-left, or-right, and-both}
-use Rattle.rules.proofs.09-Refusals.{Left, told, told-stops, told-passes}
+use Rattle.rules.proofs.09-Refusals.{Left}
 use Rattle.rows.specs.Rows.{Counted}
 use Rattle.base.specs.Back.{schema-of, application-count, application-shown}
+use Rattle.base.specs.Tested.{Tested}
 use Rattle.found.specs.Found.{First-row}
 use Rattle.base.specs.Stored.{less-row, Shows}
-use Rattle.base.proofs.Kept.{kept-refused}
 use Rattle.base.proofs.Shown.{applications-long}
 use Rattle.base.proofs.StoredLaws.{sound-stored}
 use Rattle.edit.proofs.TakenLaws.{application-without}
 use Rattle.found.specs.Kinds.{kind-code}
 use Rattle.found.proofs.KindBytes.{told-object, told-attribute, told-link}
 use Rattle.apply.specs.declared.Asked.{Asked}
-use Rattle.apply.specs.Applying.{wrong-kind, Both, Tested}
+use Rattle.apply.specs.Applying.{wrong-kind, Both, Aimed}
 use Rattle.conditions.proofs.ConditionLaws.{applied-row}
 
--- ---- the tests that both calls make, one after the other
+-- ---- what the tests that both calls make say
 
-module _ (b : List ℕ) (d : ℕ) (a n : Name) where
-  -- the base is sound, and the conditions cs are left to tell
-  pub record Come (cs : Refusals) : Type 0 where
-    pub sound : Sound b
-    pub left : told (application-refusals d a n (schema-of b)) ≡ told cs
-
-  -- the first k conditions have failed
-  abbrev pub Past : ℕ → Type 0
-  Past k = Come (drop k (application-refusals d a n (schema-of b)))
-
-  pub come-first : Sound b → Past 0
-  come-first s = record { sound = s; left = refl }
-
-module _ {b : List ℕ} {d : ℕ} {a n : Name} where
-  pub come-next : {k : ℕ} {x : Bool} {cs : Refusals} → Come b d a n ((k, x) ∷ cs) → x ≡ false → Come b d a n cs
-  unfolding told
-  come-next c e = record { sound = c .sound; left = c .left ∙ rw e }
-
-  module _ {v : Asked} where
-    pub asked-spoiled : (Sound b → ⊥) → v .no ≡ 1 → Tested b d a n v
-    asked-spoiled o e = record { spoiled = λ _. e; told = λ s. absurd (o s); both = λ z. absurd (omega arith) }
-
-    pub asked-refused : {k : ℕ} {x : Bool} {cs : Refusals} → Come b d a n ((k, x) ∷ cs) → x ≡ true → 0 < k → v .no ≡ k → Tested b d a n v
-    unfolding told
-    asked-refused {k} {x} {cs} c e h r = record {
-      spoiled = λ o. absurd (o (c .sound));
-      told = λ s. r ∙ sym (c .left ∙ here);
-      both = λ z. absurd (omega arith);
-    }
-      where
-        here : cond x k (told cs) ≡ k
-        here = rw e
-
-    pub asked-both : Past b d a n 5 → v .no ≡ 0 → Both b d a n v → Tested b d a n v
-    unfolding told
-    asked-both c e t = record { spoiled = λ o. absurd (o (c .sound)); told = λ s. e ∙ sym (c .left); both = λ z. t }
+pub not-aimed : {b : List ℕ} {d : ℕ} {a n : Name} {v : Asked} → Tested b (application-refusals d a n (schema-of b)) (v .no) → (v .no ≡ 0 → ⊥)
+    → Aimed b d a n v
+not-aimed t z = record { told = t; both = λ e. absurd (z e) }
 
 module _ (s : Schema) (d : ℕ) (a n : Name) where
   pub one-missing : no-such-name s d a ≡ true → no-such-name s d a || no-such-name s d n ≡ true
@@ -102,26 +67,6 @@ module _ (b : List ℕ) (a t : ℕ) {x : Bool} (e : x ≡ eqb (kind-code (kind-o
 -- of the types that were found, and so of those that are named
 pub wrong-named : (s : Schema) {a a′ t t′ : ℕ} → a ≡ a′ → t ≡ t′ → {r : Bool} → r ≡ wrong-kind s a t → r ≡ wrong-kind s a′ t′
 wrong-named s {a′ = a′} {t = t} e f q = q ∙ ap (λ (x : ℕ). wrong-kind s x t) e ∙ ap (wrong-kind s a′) f
-
--- ---- the verdict of a call whose refusals begin with these
-
-module _ {b : List ℕ} {d : ℕ} {a n : Name} {v : Asked} (x : Tested b d a n v) (rest : Refusals) {effect : Outcome Schema} where
-  pub tested-passes : {o : Outcome Schema} → Left o (application-refusals d a n (schema-of b) ++ rest) effect → v .no ≡ 0 → Left o rest effect
-  unfolding all
-  tested-passes left z = record {
-    is = told-passes effect (application-refusals d a n (schema-of b)) rest refl (left .is) (sym (x .told (x .both z .sound)) ∙ z);
-  }
-
-  pub tested-refused : {rule : Schema → Outcome Schema} {r : Answer} → Left (rule (schema-of b)) (application-refusals d a n (schema-of b) ++ rest) effect
-      → (v .no ≡ 0 → ⊥) → r ≡ refusal (v .no) → Kept b rule r b
-  tested-refused {rule} left o e = record {
-    spoiled = λ u. (e ∙ ap refusal (x .spoiled u), refl);
-    kept = λ s g p.
-        let sound : Sound b = record { schema = s; good = g; shown = p } in
-        let is = x .told sound in
-        kept-refused {rule = rule} sound
-        (told-stops effect (application-refusals d a n (schema-of b)) rest (left .is) (λ z. o (is ∙ z)) ∙ ap refused (sym is)) e .kept s g p;
-  }
 
 -- ---- the two rules
 

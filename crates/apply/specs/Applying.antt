@@ -8,8 +8,8 @@ use Rattle.rules.specs.04-Schema.{Schema, type-named}
 use Rattle.rules.specs.07-Picture.{Sound}
 use Rattle.rules.specs.09-Refusals.{no-object, no-attribute, no-link}
 use Rattle.rules.specs.10-Changes.{application-refusals}
-use Rattle.rules.proofs.09-Refusals.{told}
 use Rattle.base.specs.Back.{schema-of}
+use Rattle.base.specs.Tested.{Tested}
 use Rattle.apply.specs.declared.Asked.{Asked}
 
 -- a is no attribute type, or t is neither an object nor a link type
@@ -24,7 +24,6 @@ pub record Both (b : List ℕ) (d : ℕ) (a n : Name) (v : Asked) : Type 0 where
   pub attribute : (v .attribute < 128) × (v .attribute ≡ type-named (schema-of b) d a)
   pub to : (v .to < 128) × (v .to ≡ type-named (schema-of b) d n)
 
-pub record Tested (b : List ℕ) (d : ℕ) (a n : Name) (v : Asked) : Type 0 where
-  pub spoiled : (Sound b → ⊥) → v .no ≡ 1
-  pub told : Sound b → v .no ≡ told (application-refusals d a n (schema-of b))
+pub record Aimed (b : List ℕ) (d : ℕ) (a n : Name) (v : Asked) : Type 0 where
+  pub told : Tested b (application-refusals d a n (schema-of b)) (v .no)
   pub both : v .no ≡ 0 → Both b d a n v

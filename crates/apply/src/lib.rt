@@ -8,7 +8,7 @@ ghost use Rattle.rules.specs.07-Picture.{base-length};
 ghost use Rattle.rules.specs.10-Changes.{apply, unapply};
 ghost use Rattle.rules.specs.12-Contracts.{Kept};
 ghost use Rattle.base.specs.Back.{schema-of};
-ghost use Rattle.apply.specs.Applying.{wrong-kind, Tested};
+ghost use Rattle.apply.specs.Applying.{wrong-kind, Aimed};
 
 // The number of the refusal, 0 where there is none; then the attribute type, and the type that it is to be applied to.
 pub struct Asked {
@@ -43,7 +43,7 @@ fn is_wrong_kind(base: &[u8], a: usize, t: usize) -> bool
 
 // What both calls test, once, in the order of their refusals.
 fn tested(base: &[u8], sds: usize, attribute: &[u8], to: &[u8]) -> Asked
-    ensures { λ r. ⌜ Tested (now (base .entry)) sds (now (attribute .entry)) (now (to .entry)) r ⌝ }
+    ensures { λ r. ⌜ Aimed (now (base .entry)) sds (now (attribute .entry)) (now (to .entry)) r ⌝ }
 {
     if !sound::is_sound(base) {
         return refused(1);

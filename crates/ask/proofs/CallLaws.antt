@@ -1,4 +1,4 @@
--- The calls over their view: refused by it, or what is left of the rule. Assumes nothing.
+-- The calls over their view: what it leaves of the rule, and what is then listed. Assumes nothing.
 use Prim.Native.Nat.{ℕ, _+_, _^_, _<_}
 use native.Mathlib.Omega.{arith}
 use mathlib.Core.Path.{_≡_, refl, sym, ap, ap₂, _∙_, subst}
@@ -13,45 +13,23 @@ use Rattle.rules.specs.04-Schema.{Schema, kind-of, is-object, is-link}
 use Rattle.rules.specs.05-Descent.{depth, members}
 use Rattle.rules.specs.07-Picture.{Sound}
 use Rattle.rules.specs.08-Working.{visible, shown}
-use Rattle.rules.specs.09-Refusals.{Outcome, Refusals, verdict, refusal, success, unknown-sds, unknown-object-scan, unknown-link-scan}
+use Rattle.rules.specs.09-Refusals.{Outcome, Refusals, verdict, success, unknown-sds, unknown-object-scan, unknown-link-scan}
 use Rattle.rules.specs.09-Refusals.{not-visible, no-object, no-link, short-output}
 use Rattle.rules.specs.09-Refusals.Outcome.{done}
 use Rattle.rules.specs.11-Asks.{object-scan-list, scan-object, link-scan-list, scan-link, profile-ancestors, profile-attributes, profile-links}
 use Rattle.rules.specs.11-Asks.{profile-list, profile, depth-of, marks, visible-descendant, descendant-set}
-use Rattle.rules.specs.12-Contracts.{room, Listed, Answered}
+use Rattle.rules.specs.12-Contracts.{room, Listed}
 use Rattle.rules.proofs.09-Refusals.{Left}
 use Rattle.base.specs.Back.{schema-of}
-use Rattle.base.proofs.Kept.{listed-as, answered-as}
+use Rattle.base.proofs.Kept.{listed-as}
 use Rattle.marks.specs.declared.TypeSet.{TypeSet}
 use Rattle.marks.specs.Set.{has}
 use Rattle.marks.proofs.Members.{members-alike}
 use Rattle.marks.proofs.Set.{words-are}
 use Rattle.scans.specs.declared.view.View.{View}
-use Rattle.scans.specs.View.{type-refusals, Through, Viewed}
+use Rattle.scans.specs.View.{type-refusals, Through}
 use Rattle.scans.specs.Scans.{object-scan, link-scan, Scanned}
 use Rattle.scans.specs.Lists.{listing, three-listing, Puts}
-use Rattle.scans.proofs.ViewLaws.{viewed-stops, viewed-passes}
-
--- ---- refused by the view, whether the base is spoiled or not
-
-module _ {b w : List ℕ} {t : ℕ} {link known : Bool} {v : View} (viewed : Viewed b w t link known v) (n : v .no ≡ 0 → ⊥)
-    {rule : Schema → Outcome (List ℕ)} {effect : Outcome (List ℕ)} (rest : Refusals)
-    (left : Left (rule (schema-of b)) (type-refusals (schema-of b) w t link known ++ rest) effect) {a : Answer} (e : a ≡ refusal (v .no)) where
-  pub listed-refused : {out : List ℕ} → Listed b rule a out out
-  listed-refused = record {
-    spoiled = λ o. (e ∙ ap refusal (viewed .spoiled o), refl);
-    kept = λ s g p.
-        let sound : Sound b = record { schema = s; good = g; shown = p } in
-        listed-as {rule = rule} sound (viewed-stops viewed rest left sound n) e refl .kept s g p;
-  }
-
-  pub answered-refused : Answered b rule a
-  answered-refused = record {
-    spoiled = λ o. e ∙ ap refusal (viewed .spoiled o);
-    kept = λ s g p.
-        let sound : Sound b = record { schema = s; good = g; shown = p } in
-        answered-as {rule = rule} sound (viewed-stops viewed rest left sound n) e .kept s g p;
-  }
 
 -- ---- a rule's refusals begin with those of the view
 

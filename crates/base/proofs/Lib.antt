@@ -5,3 +5,4 @@ pub mod Kept
 pub mod OrderLaws
 pub mod StoredLaws
 pub mod OrderedLaws
+pub mod TestedLaws

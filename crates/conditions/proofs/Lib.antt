@@ -1,4 +1,3 @@
 pub mod NameLaws
-pub mod TestedLaws
 pub mod ReverseLaws
 pub mod ConditionLaws

@@ -1,3 +1,2 @@
-pub mod Tested
 pub mod Reverse
 pub mod Conditions

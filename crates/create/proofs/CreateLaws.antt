@@ -5,7 +5,7 @@ use mathlib.Core.Path.{_≡_, refl, ap, _∙_, subst}
 use mathlib.Core.List.{List, _∷_, _++_}
 use mathlib.Core.Bool.{Bool, true, false}
 use lib.Dec.{ltb}
-use lib.ListN.{length, drop, set}
+use lib.ListN.{length, set}
 use borrow.Author.Tests.{lt-ltb, le-ltb}
 use Rattle.rules.specs.declared.Answer.{Answer}
 use Rattle.rules.specs.01-Lists.{all, put}
@@ -24,15 +24,11 @@ use Rattle.base.specs.Stored.{Shows, Stored, Becomes}
 use Rattle.base.proofs.Kept.{kept-done}
 use Rattle.base.proofs.Shown.{presences-long}
 use Rattle.base.proofs.StoredLaws.{shows-schema, shows-stored}
-use Rattle.conditions.specs.Tested.{Tested}
-use Rattle.conditions.proofs.TestedLaws.{Come, come-first, come-next, come-stops, come-rest, come-past, tested-first, tested-sound}
+use Rattle.base.specs.Tested.{Tested}
+use Rattle.base.proofs.TestedLaws.{Come, come-first, come-next, come-stops, come-rest, come-past, tested-first, tested-sound}
 use Rattle.create.specs.Create.{aim-refusals, room-refusals, one-refusals, Ready, Aimed, Room, Placed}
 
 -- ---- what the tests of a call that makes one type say
-
--- the tests of a part of the refusals, k of which are passed
-abbrev pub Past : List ℕ → Refusals → ℕ → Type 0
-Past b cs k = Come b cs (drop k cs)
 
 module _ {b : List ℕ} {d : ℕ} {n : Name} {no : ℕ} where
   pub not-aimed : Tested b (aim-refusals (schema-of b) d n) no → (no ≡ 0 → ⊥) → Aimed b d n no

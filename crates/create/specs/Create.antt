@@ -10,7 +10,7 @@ use Rattle.rules.specs.07-Picture.{Sound}
 use Rattle.rules.specs.09-Refusals.{Refusals}
 use Rattle.rules.specs.10-Changes.{new-type, new-designation-refusals}
 use Rattle.base.specs.Back.{schema-of}
-use Rattle.conditions.specs.Tested.{Tested}
+use Rattle.base.specs.Tested.{Tested}
 
 -- the refusals that come first and last in every call which makes one type: a new designation link type has no others
 abbrev pub aim-refusals : Schema → ℕ → Name → Refusals

@@ -5,7 +5,7 @@ use mathlib.Core.Path.{_≡_, refl, sym, ap, _∙_, subst}
 use mathlib.Core.List.{List, [], _∷_, _++_, map}
 use mathlib.Core.Bool.{Bool, true, false, not, _||_, true≢false, or-false}
 use lib.Dec.{ltb}
-use lib.ListN.{length, drop}
+use lib.ListN.{length}
 use borrow.Author.Tests.{eq-eqb, ne-eqb, ltb-true, ltb-false, lt-ltb, le-ltb}
 use Rattle.rules.specs.01-Lists.{any, all, without, put}
 use Rattle.rules.specs.03-Names.{Name}
@@ -35,18 +35,12 @@ use Rattle.found.proofs.KindBytes.{object-byte, link-byte}
 use Rattle.conditions.proofs.ReverseLaws.{one-is, none-is}
 use Rattle.ends.specs.declared.Aim.{Aim}
 use Rattle.ends.specs.Ends.{Aimed}
-use Rattle.conditions.specs.Tested.{Tested}
+use Rattle.base.specs.Tested.{Tested}
 use Rattle.conditions.specs.Reverse.{one-or-none, Reverse-of}
 use Rattle.conditions.specs.Conditions.{End-place}
-use Rattle.conditions.proofs.TestedLaws.{Come, begun-passes}
+use Rattle.base.proofs.TestedLaws.{begun-passes}
 use Rattle.conditions.proofs.ConditionLaws.{end-place-has}
 use Rattle.conditions.proofs.NameLaws.{name-there, name-missing}
-
--- ---- the tests, one after the other
-
--- the first k conditions have failed
-abbrev pub Past : List ℕ → ℕ → Name → Name → ℕ → Type 0
-Past b d n m k = Come b (end-refusals d n m (schema-of b)) (drop k (end-refusals d n m (schema-of b)))
 
 pub not-aimed : {b : List ℕ} {d : ℕ} {n m : Name} {v : Aim} → Tested b (end-refusals d n m (schema-of b)) (v .no) → (v .no ≡ 0 → ⊥) → Aimed b d n m v
 not-aimed t z = record { told = t; through = λ e. absurd (z e) }

@@ -8,7 +8,7 @@ use Rattle.rules.specs.04-Schema.{used-sds, kind-of, is-link, type-named}
 use Rattle.rules.specs.07-Picture.{Sound}
 use Rattle.rules.specs.10-Changes.{end-refusals}
 use Rattle.base.specs.Back.{schema-of}
-use Rattle.conditions.specs.Tested.{Tested}
+use Rattle.base.specs.Tested.{Tested}
 use Rattle.ends.specs.declared.Aim.{Aim}
 
 -- what a call goes on with where nothing refuses

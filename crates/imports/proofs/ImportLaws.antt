@@ -5,7 +5,7 @@ use mathlib.Core.Path.{_≡_, refl, sym, ap, _∙_}
 use mathlib.Core.List.{List, [], _∷_, map, append-nil}
 use mathlib.Core.Bool.{Bool, true, false, not, cond, _&&_, _||_, true≢false}
 use lib.Dec.{leb, ltb, eqb}
-use lib.ListN.{length, getD, take, drop, replicate}
+use lib.ListN.{length, getD, take, replicate}
 use borrow.Author.Tests.{eq-eqb, ne-eqb, ltb-true, ltb-false, lt-ltb, le-ltb, le-leb, lt-leb, leb-false}
 use Rattle.rules.specs.declared.Answer.{Answer}
 use Rattle.rules.specs.01-Lists.{all, first, put}
@@ -39,9 +39,9 @@ use Rattle.base.proofs.StoredLaws.{shows-schema, shows-next}
 use Rattle.found.proofs.Walked.{row-below, row-name}
 use Rattle.fields.specs.Field.{Stripped}
 use Rattle.conditions.specs.Reverse.{one-or-none, Reverse-of}
-use Rattle.conditions.specs.Tested.{Tested}
+use Rattle.base.specs.Tested.{Tested}
 use Rattle.conditions.proofs.ReverseLaws.{one-is, none-is}
-use Rattle.conditions.proofs.TestedLaws.{Come, tested-passes}
+use Rattle.base.proofs.TestedLaws.{tested-passes}
 use Rattle.imports.specs.declared.Named.{Named}
 use Rattle.imports.specs.Import.{first-refusals, Chosen, presence-of, enter-refusals, enter}
 
@@ -90,10 +90,6 @@ idle-is {s} n e rev q = ap (λ (l : List ℕ). not (blank n) && eqb (length l) 0
 -- what was tested of the type that was found
 pub of-named : {t t′ : ℕ} {x : Bool} (p : ℕ → Bool) → t ≡ t′ → x ≡ p t → p t′ ≡ x
 of-named p e q = ap p (sym e) ∙ sym q
-
-abbrev pub Past : List ℕ → ℕ → ℕ → Name → Name → Name → ℕ → Type 0
-Past b target source n new new-reverse k =
-    Come b (first-refusals target source n new new-reverse (schema-of b)) (drop k (first-refusals target source n new new-reverse (schema-of b)))
 
 module _ {b : List ℕ} {target source : ℕ} {n new new-reverse : Name} {v : Named} where
   pub not-chosen : Tested b (first-refusals target source n new new-reverse (schema-of b)) (v .no) → (v .no ≡ 0 → ⊥)

@@ -13,7 +13,7 @@ use Rattle.rules.specs.09-Refusals.Outcome.{done}
 use Rattle.rules.specs.10-Changes.{with-presences, put-all, import-refusals}
 use Rattle.base.specs.Back.{schema-of}
 use Rattle.conditions.specs.Reverse.{Reverse-of}
-use Rattle.conditions.specs.Tested.{Tested}
+use Rattle.base.specs.Tested.{Tested}
 use Rattle.imports.specs.declared.Named.{Named}
 
 -- the refusals of an import that its new names, blanks filled in, have no part in: all but the last two

@@ -5,7 +5,7 @@ use mathlib.Core.Path.{_≡_, refl, sym, _∙_}
 use mathlib.Core.List.{List, [], _∷_}
 use mathlib.Core.Bool.{Bool, true, false, _&&_, _||_, or-false}
 use lib.Dec.{ltb, eqb}
-use lib.ListN.{length, drop}
+use lib.ListN.{length}
 use borrow.Author.Tests.{ltb-false, lt-ltb, le-ltb, eq-eqb, ne-eqb}
 use Rattle.rules.specs.declared.Answer.{Answer}
 use Rattle.rules.specs.01-Lists.{any, put}
@@ -24,8 +24,7 @@ use Rattle.base.specs.Back.{schema-of}
 use Rattle.base.specs.Stored.{Shows, Stored, Becomes}
 use Rattle.base.proofs.Kept.{kept-done}
 use Rattle.base.proofs.StoredLaws.{shows-has, shows-stored, shows-next}
-use Rattle.conditions.specs.Tested.{Tested}
-use Rattle.conditions.proofs.TestedLaws.{Come}
+use Rattle.base.specs.Tested.{Tested}
 use Rattle.create.specs.Create.{Ready}
 use Rattle.pairs.specs.Pair.{Two-free, Two-names, Pair-room, Pair-ready, Pair-placed, room-refusals}
 use Rattle.create.proofs.CreateLaws.{room-typed, free-typed, type-put}
@@ -89,9 +88,6 @@ two-names {b} d n m e =
 
 pub no-two : {b : List ℕ} {no t r : ℕ} → Tested b (room-refusals b) no → (no ≡ 0 → ⊥) → Pair-room b no t r
 no-two e z = record { told = e; two = λ q. absurd (z q) }
-
-abbrev pub Past : List ℕ → ℕ → Name → Name → ℕ → ℕ → ℕ → Type 0
-Past b d n m c c′ k = Come b (new-pair-refusals d n m c c′ (schema-of b)) (drop k (new-pair-refusals d n m c c′ (schema-of b)))
 
 module _ {b : List ℕ} {d : ℕ} {n m : Name} {c c′ no t r : ℕ} where
   pub not-placed : Tested b (new-pair-refusals d n m c c′ (schema-of b)) no → (no ≡ 0 → ⊥) → Pair-placed b d n m c c′ no t r

@@ -10,7 +10,7 @@ use Rattle.rules.specs.07-Picture.{Sound}
 use Rattle.rules.specs.09-Refusals.{Refusals, types-full}
 use Rattle.rules.specs.10-Changes.{new-type, second-new-type, new-pair-refusals}
 use Rattle.base.specs.Back.{schema-of}
-use Rattle.conditions.specs.Tested.{Tested}
+use Rattle.base.specs.Tested.{Tested}
 
 -- t and r are the numbers that the forward type and its reverse take, and there is room for their presences
 pub record Two-free (b : List ℕ) (t r : ℕ) : Type 0 where

@@ -2,84 +2,33 @@
 use Prim.Native.Nat.{ℕ, _<_}
 use native.Mathlib.Omega.{arith}
 use mathlib.Core.Path.{_≡_, refl, sym, ap, _∙_}
-use mathlib.Core.List.{List, [], _∷_, _++_}
-use mathlib.Core.Bool.{Bool, true, false, not, cond, true≢false, false≢true}
-use lib.Dec.{leb, ltb}
-use lib.ListN.{length, getD, drop}
+use mathlib.Core.List.{List, _++_}
+use mathlib.Core.Bool.{Bool, true, false, not, true≢false, false≢true}
+use lib.Dec.{leb}
+use lib.ListN.{length, getD}
 use borrow.Author.Tests.{not-false}
-use Rattle.rules.specs.01-Lists.{any, all, repeated}
+use Rattle.rules.specs.01-Lists.{any, all}
 use Rattle.rules.specs.04-Schema.{Kind, used-sds, is-object, is-link}
 use Rattle.rules.specs.07-Picture.{Sound}
 use Rattle.rules.specs.08-Working.{visible}
-use Rattle.rules.specs.09-Refusals.{Outcome, Refusals, verdict, unknown-sds, not-visible}
-use Rattle.rules.specs.09-Refusals.Outcome.{refused}
-use Rattle.rules.proofs.Bools.{or-neither, and-both}
+use Rattle.rules.specs.09-Refusals.{Outcome, Refusals, unknown-sds, not-visible}
+use Rattle.rules.proofs.Bools.{or-neither}
 use Rattle.rules.proofs.01-Lists.{any-at, place-in}
 use Rattle.rules.proofs.05-Descent.{used-below}
 use Rattle.rules.proofs.08-Working.{visible-used}
-use Rattle.rules.proofs.09-Refusals.{Left, told, told-stops, told-passes}
+use Rattle.rules.proofs.09-Refusals.{Left}
 use Rattle.base.specs.Back.{schema-of}
+use Rattle.base.specs.Tested.{Tested}
 use Rattle.base.proofs.Back.{sound-good}
 use Rattle.base.proofs.Kept.{sound-long}
+use Rattle.base.proofs.TestedLaws.{begun-passes}
 use Rattle.found.proofs.SdsShown as SdsShown
 use Rattle.scans.specs.declared.view.View.{View}
-use Rattle.scans.specs.View.{of-kind, type-refusals, Through, Viewed}
+use Rattle.scans.specs.View.{of-kind, type-refusals, Viewed}
 
--- ---- the tests, one after the other
-
-module _ (b w : List ℕ) (t : ℕ) (link known : Bool) where
-  abbrev all-tests : Refusals
-  all-tests = type-refusals (schema-of b) w t link known
-
-  -- the base is sound, and the conditions cs are left to tell
-  pub record Come (cs : Refusals) : Type 0 where
-    pub sound : Sound b
-    pub left : told (type-refusals (schema-of b) w t link known) ≡ told cs
-
-  -- the first k conditions have failed
-  abbrev pub Past : ℕ → Type 0
-  Past k = Come (drop k (type-refusals (schema-of b) w t link known))
-
-  pub come-first : Sound b → Past 0
-  come-first s = record { sound = s; left = refl }
-
-module _ {b w : List ℕ} {t : ℕ} {link known : Bool} where
-  pub come-next : {n : ℕ} {x : Bool} {cs : Refusals} → Come b w t link known ((n, x) ∷ cs) → x ≡ false → Come b w t link known cs
-  unfolding told
-  come-next c e = record { sound = c .sound; left = c .left ∙ rw e }
-
-  module _ {v : View} where
-    pub view-spoiled : (Sound b → ⊥) → v .no ≡ 1 → Viewed b w t link known v
-    view-spoiled n e = record {
-      spoiled = λ _. e;
-      told = λ s. absurd (n s);
-      sound = λ o. absurd (o e);
-      code-known = λ z. absurd (omega arith);
-      through = λ z. absurd (omega arith);
-    }
-
-    pub view-refused : {n : ℕ} {x : Bool} {cs : Refusals} → Come b w t link known ((n, x) ∷ cs) → x ≡ true → 0 < n → v .no ≡ n → Viewed b w t link known v
-    unfolding told
-    view-refused {n} {x} {cs} c e h r = record {
-      spoiled = λ o. absurd (o (c .sound));
-      told = λ s. r ∙ sym (c .left ∙ here);
-      sound = λ o. c .sound;
-      code-known = λ z. absurd (omega arith);
-      through = λ z. absurd (omega arith);
-    }
-      where
-        here : cond x n (told cs) ≡ n
-        here = rw e
-
-    pub view-through : Past b w t link known 5 → known ≡ true → v .no ≡ 0 → Through b w t link v → Viewed b w t link known v
-    unfolding told
-    view-through c k e th = record {
-      spoiled = λ o. absurd (o (c .sound));
-      told = λ s. e ∙ sym (c .left);
-      sound = λ o. c .sound;
-      code-known = λ z. k;
-      through = λ z. th;
-    }
+pub not-viewed : {b w : List ℕ} {t : ℕ} {link known : Bool} {v : View} → Tested b (type-refusals (schema-of b) w t link known) (v .no)
+    → (v .no ≡ 0 → ⊥) → Viewed b w t link known v
+not-viewed r z = record { told = r; code-known = λ e. absurd (z e); through = λ e. absurd (z e) }
 
 -- ---- what the tests say
 
@@ -119,16 +68,9 @@ pub kind-object : (link : Bool) (k : Kind) {r : Bool} → link ≡ false → r �
 kind-object true k e f = absurd (true≢false e)
 kind-object false k e f = f
 
--- ---- the verdict of a call whose refusals begin with these
+-- ---- of refusals that begin with these, the others are left where none of them holds
 
-module _ {Made : Type 0} {o effect : Outcome Made} {b w : List ℕ} {t : ℕ} {link known : Bool} {v : View} (viewed : Viewed b w t link known v) where
-  -- rest is what the call tests besides
-  pub viewed-stops : (rest : Refusals) → Left o (type-refusals (schema-of b) w t link known ++ rest) effect → Sound b → (v .no ≡ 0 → ⊥) → o ≡ refused (v .no)
-  viewed-stops rest l s n =
-      told-stops effect (type-refusals (schema-of b) w t link known) rest (l .is) (λ z. n (viewed .told s ∙ z)) ∙ ap refused (sym (viewed .told s))
-
-  pub viewed-passes : (rest : Refusals) → Left o (type-refusals (schema-of b) w t link known ++ rest) effect → v .no ≡ 0 → Left o rest effect
-  unfolding all
-  viewed-passes rest l z = record {
-    is = told-passes effect (type-refusals (schema-of b) w t link known) rest refl (l .is) (sym (viewed .told (viewed .through z .sound)) ∙ z);
-  }
+pub viewed-passes : {Made : Type 0} {o effect : Outcome Made} {b w : List ℕ} {t : ℕ} {link known : Bool} {v : View} → Viewed b w t link known v
+    → (rest : Refusals) → Left o (type-refusals (schema-of b) w t link known ++ rest) effect → v .no ≡ 0 → Left o rest effect
+unfolding all
+viewed-passes viewed rest l z = begun-passes rest (viewed .told) z refl l

@@ -8,8 +8,8 @@ use Rattle.rules.specs.04-Schema.{Schema, Kind, kind-of, is-object, is-link}
 use Rattle.rules.specs.07-Picture.{Sound}
 use Rattle.rules.specs.08-Working.{listed-sdss, visible}
 use Rattle.rules.specs.09-Refusals.{Refusals, unknown-sds, not-visible}
-use Rattle.rules.proofs.09-Refusals.{told}
 use Rattle.base.specs.Back.{schema-of}
+use Rattle.base.specs.Tested.{Tested}
 use Rattle.marks.specs.Set.{has}
 use Rattle.scans.specs.declared.view.View.{View}
 
@@ -37,8 +37,6 @@ pub record Through (b w : List ℕ) (t : ℕ) (link : Bool) (v : View) : Type 0 
   pub visible : (k : ℕ) → has (v .visible) k ≡ visible (schema-of b) w k
 
 pub record Viewed (b w : List ℕ) (t : ℕ) (link known : Bool) (v : View) : Type 0 where
-  pub spoiled : (Sound b → ⊥) → v .no ≡ 1
-  pub told : Sound b → v .no ≡ told (type-refusals (schema-of b) w t link known)
-  pub sound : (v .no ≡ 1 → ⊥) → Sound b
+  pub told : Tested b (type-refusals (schema-of b) w t link known) (v .no)
   pub code-known : v .no ≡ 0 → known ≡ true
   pub through : v .no ≡ 0 → Through b w t link v

@@ -1,17 +1,14 @@
 use borrow.Author.Needs.{needs}
-use Prim.Native.Nat.{ℕ, _<_}
-use native.Mathlib.Omega.{arith}
-use mathlib.Core.Path.{_≡_, refl, sym, ap, _∙_}
+use Prim.Native.Nat.{ℕ}
+use mathlib.Core.Path.{ap, _∙_}
 use mathlib.Core.List.{[]}
-use borrow.Author.Tests.{ltb-true}
-use Rattle.rules.specs.12-Contracts.{room}
 use Rattle.rules.specs.09-Refusals.{success}
 use Rattle.rules.proofs.09-Refusals.{ends}
 use Rattle.base.specs.Back.{schema-of}
 use Rattle.base.proofs.Kept.{answered-as}
-use Rattle.marks.specs.Set.{has}
+use Rattle.base.proofs.TestedLaws.{answered-stops}
 use Rattle.scans.proofs.ViewLaws.{viewed-passes}
-use Rattle.ask.proofs.CallLaws.{depth-left, answered-refused}
+use Rattle.ask.proofs.CallLaws.{depth-left}
 use Rattle.ask.proofs.depth.Statement.{statement}
 use Rattle.ask.proofs.depth.Tie as tie
 
@@ -22,8 +19,8 @@ refused-requires : tie.Need-refused-requires
 refused-requires c κs = search needs
 
 returns : tie.Need-returns
-returns c = let x = c .before .before .before .before .before .before .args in answered-refused (c .before .before .before .of .ensures)
-    (c .before .if1 .taken) _ (depth-left (x .schema .now) (x .t) (schema-of (x .base .now))) (c .refused .ensures)
+returns c = let x = c .before .before .before .before .before .before .args in answered-stops _ (c .before .before .before .of .ensures .told) (c .before .if1 .taken)
+    (depth-left (x .schema .now) (x .t) (schema-of (x .base .now))) (c .refused .ensures)
 
 depth-requires : tie.Need-depth-requires
 depth-requires c κs = let th = c .before .before .of .ensures .through (c .if1 .left) in (th .sound, th .kind)

@@ -1,18 +1,15 @@
 use borrow.Author.Needs.{needs}
-use Prim.Native.Nat.{ℕ, _<_}
 use native.Mathlib.Omega.{arith}
-use mathlib.Core.Path.{_≡_, refl, sym, ap, _∙_}
+use mathlib.Core.Path.{ap, _∙_}
 use mathlib.Core.List.{[]}
-use borrow.Author.Tests.{ltb-true}
-use Rattle.rules.specs.12-Contracts.{room}
 use Rattle.rules.specs.09-Refusals.{success}
 use Rattle.rules.proofs.09-Refusals.{ends}
 use Rattle.base.specs.Back.{schema-of}
 use Rattle.base.proofs.Kept.{answered-as}
-use Rattle.marks.specs.Set.{has}
+use Rattle.base.proofs.TestedLaws.{answered-stops}
 use Rattle.scans.proofs.ViewLaws.{viewed-passes}
 use Rattle.rules.specs.11-Asks.{visible-descendant}
-use Rattle.ask.proofs.CallLaws.{descendant-left, answered-refused, descendants-seen, set-answer}
+use Rattle.ask.proofs.CallLaws.{descendant-left, descendants-seen, set-answer}
 use Rattle.ask.proofs.descendant_set.Statement.{statement}
 use Rattle.ask.proofs.descendant_set.Tie as tie
 
@@ -23,8 +20,8 @@ refused-requires : tie.Need-refused-requires
 refused-requires c κs = search needs
 
 returns : tie.Need-returns
-returns c = let x = c .before .before .before .before .before .before .args in answered-refused (c .before .before .before .of .ensures)
-    (c .before .if1 .taken) _ (descendant-left (x .schema .now) (x .t) (schema-of (x .base .now))) (c .refused .ensures)
+returns c = let x = c .before .before .before .before .before .before .args in answered-stops _ (c .before .before .before .of .ensures .told) (c .before .if1 .taken)
+    (descendant-left (x .schema .now) (x .t) (schema-of (x .base .now))) (c .refused .ensures)
 
 of-object-requires : tie.Need-of-object-requires
 of-object-requires c κs = let th = c .before .before .of .ensures .through (c .if1 .left) in (th .sound, (th .below, omega arith))

@@ -1,18 +1,11 @@
 use borrow.Author.Needs.{needs}
-use Prim.Native.Nat.{ℕ, _<_}
-use native.Mathlib.Omega.{arith}
-use mathlib.Core.Path.{_≡_, refl, sym, ap, _∙_}
-use mathlib.Core.List.{[]}
 use borrow.Author.Tests.{ltb-true}
 use Rattle.rules.specs.12-Contracts.{room}
-use Rattle.rules.specs.09-Refusals.{success}
-use Rattle.rules.proofs.09-Refusals.{ends}
 use Rattle.base.specs.Back.{schema-of}
-use Rattle.base.proofs.Kept.{answered-as}
-use Rattle.marks.specs.Set.{has}
+use Rattle.base.proofs.TestedLaws.{listed-stops}
 use Rattle.scans.proofs.ViewLaws.{viewed-passes}
 use Rattle.rules.specs.11-Asks.{object-scan-list}
-use Rattle.ask.proofs.CallLaws.{scan-object-left, room-test, listed-refused, object-list, listed-put}
+use Rattle.ask.proofs.CallLaws.{scan-object-left, room-test, object-list, listed-put}
 use Rattle.ask.proofs.scan_object.Statement.{statement}
 use Rattle.ask.proofs.scan_object.Tie as tie
 
@@ -25,7 +18,7 @@ refused-requires c κs = search needs
 returns : tie.Need-returns
 returns c =
     let x = c .before .before .before .before .before .before .before .args in
-    listed-refused (c .before .before .before .of .ensures) (c .before .if1 .taken) _
+    listed-stops _ (c .before .before .before .of .ensures .told) (c .before .if1 .taken)
     (scan-object-left (x .schema .now) (x .t) (x .code) (room (x .out .now)) (schema-of (x .base .now))) (c .refused .ensures)
 
 of-object-requires : tie.Need-of-object-requires

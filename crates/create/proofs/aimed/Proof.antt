@@ -8,11 +8,11 @@ use Rattle.rules.specs.04-Schema.{used-sds}
 use Rattle.base.specs.Back.{schema-of}
 use Rattle.base.proofs.Kept.{sound-long}
 use Rattle.found.proofs.SdsShown.{used-below, known, unknown}
-use Rattle.conditions.specs.Tested.Tested.{spoiled}
+use Rattle.base.specs.Tested.Tested.{spoiled}
 use Rattle.conditions.proofs.NameLaws.{formed-passes, malformed-stops, system-stops, system-passes}
-use Rattle.conditions.proofs.TestedLaws.{come-first, come-next, come-stops, come-through}
+use Rattle.base.proofs.TestedLaws.{Past, come-first, come-next, come-stops, come-through}
 use Rattle.create.specs.Create.{aim-refusals}
-use Rattle.create.proofs.CreateLaws.{Past, not-aimed}
+use Rattle.create.proofs.CreateLaws.{not-aimed}
 use Rattle.create.proofs.aimed.Statement.{statement}
 use Rattle.create.proofs.aimed.Tie as tie
 

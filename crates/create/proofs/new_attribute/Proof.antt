@@ -4,7 +4,7 @@ use mathlib.Core.Path.{refl}
 use borrow.Author.Tests.{ltb-false}
 use Rattle.rules.specs.01-Lists.{all}
 use Rattle.base.proofs.StoredLaws.{sound-stored}
-use Rattle.conditions.proofs.TestedLaws.{tested-stops, tested-passes}
+use Rattle.base.proofs.TestedLaws.{tested-stops, tested-passes}
 use Rattle.edit.proofs.TypeWritten.{attribute-written}
 use Rattle.create.proofs.CreateLaws.{presence-ready, made-kept, new-attribute-left}
 use Rattle.create.proofs.new_attribute.Statement.{statement}

@@ -3,7 +3,7 @@ use native.Mathlib.Omega.{arith}
 use mathlib.Core.Path.{refl}
 use Rattle.rules.specs.01-Lists.{all}
 use Rattle.base.proofs.StoredLaws.{sound-stored}
-use Rattle.conditions.proofs.TestedLaws.{tested-stops, tested-passes}
+use Rattle.base.proofs.TestedLaws.{tested-stops, tested-passes}
 use Rattle.edit.proofs.TypeWritten.{designation-written}
 use Rattle.create.proofs.CreateLaws.{presence-ready, made-kept, new-designation-left}
 use Rattle.create.proofs.new_designation.Statement.{statement}

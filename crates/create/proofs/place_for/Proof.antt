@@ -1,6 +1,6 @@
 -- `create::place_for` meets its contract. What its two parts tell, and the value kind between them, are its refusals. Assumes nothing.
 use borrow.Author.Needs.{needs}
-use Rattle.conditions.proofs.TestedLaws.{tested-sound}
+use Rattle.base.proofs.TestedLaws.{tested-sound}
 use Rattle.create.proofs.CreateLaws.{aimed-stops, aimed-unknown, aimed-placed}
 use Rattle.create.proofs.place_for.Statement.{statement}
 use Rattle.create.proofs.place_for.Tie as tie

@@ -10,9 +10,9 @@ use Rattle.base.proofs.Kept.{sound-long}
 use Rattle.base.proofs.Shown.{presences-long}
 use Rattle.conditions.proofs.NameLaws.{borne, not-borne, one-taken, one-free}
 use Rattle.conditions.proofs.ConditionLaws.{new-type-is, room-for-one, no-room-for}
-use Rattle.conditions.proofs.TestedLaws.{come-first, come-next, come-stops, come-through}
+use Rattle.base.proofs.TestedLaws.{Past, come-first, come-next, come-stops, come-through}
 use Rattle.create.specs.Create.{room-refusals}
-use Rattle.create.proofs.CreateLaws.{Past, no-room, numbers-short, presences-short, both-fit}
+use Rattle.create.proofs.CreateLaws.{no-room, numbers-short, presences-short, both-fit}
 use Rattle.create.proofs.room_for.Statement.{statement}
 use Rattle.create.proofs.room_for.Tie as tie
 

@@ -10,7 +10,7 @@ use Rattle.base.specs.Back.{schema-of}
 use Rattle.found.proofs.SdsShown.{used-below}
 use Rattle.base.proofs.Kept.{sound-long, kept-refused, kept-done}
 use Rattle.base.proofs.StoredLaws.{sound-stored, shows-stored}
-use Rattle.conditions.proofs.TestedLaws.{begun-stops}
+use Rattle.base.proofs.TestedLaws.{begun-stops}
 use Rattle.ends.specs.Ends.{Through}
 use Rattle.ends.proofs.EndLaws.{add-left, add-tests, full-is, room-first, room-second, second-free, added-one, added-both}
 use Rattle.ends.proofs.add_end.Statement.{statement}

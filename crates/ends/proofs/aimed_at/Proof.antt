@@ -6,27 +6,31 @@ use mathlib.Core.Bool.{true}
 use borrow.Author.Tests.{not-true, not-false}
 use Rattle.rules.specs.03-Names.{well-formed}
 use Rattle.rules.specs.04-Schema.{used-sds, bears, type-named}
+use Rattle.rules.specs.10-Changes.{end-refusals}
 use Rattle.base.specs.Back.{schema-of}
 use Rattle.found.proofs.SdsShown.{known, unknown}
 use Rattle.base.proofs.Kept.{sound-long}
 use Rattle.conditions.proofs.NameLaws.{formed-passes, malformed-stops, system-stops, system-passes, one-malformed, other-malformed, none-malformed, borne, not-borne}
-use Rattle.conditions.specs.Tested.Tested.{spoiled}
-use Rattle.conditions.proofs.TestedLaws.{come-first, come-next, come-stops, come-through}
-use Rattle.ends.proofs.EndLaws.{Past, not-aimed, both-there, one-missing, other-missing}
+use Rattle.base.specs.Tested.Tested.{spoiled}
+use Rattle.base.proofs.TestedLaws.{Past, come-first, come-next, come-stops, come-through}
+use Rattle.ends.proofs.EndLaws.{not-aimed, both-there, one-missing, other-missing}
 use Rattle.ends.proofs.EndLaws.{link-is, no-link-there, no-object-there, both-kinds}
 use Rattle.ends.proofs.aimed_at.Statement.{statement}
 use Rattle.ends.proofs.aimed_at.Tie as tie
 
-past-0 : (c : tie.Else1) → let x = c .before .before .before .before .before .args in Past (x .base .now) (x .sds) (x .link .now) (x .object .now) 0
+past-0 : (c : tie.Else1) → let x = c .before .before .before .before .before .args in
+    Past (x .base .now) (end-refusals (x .sds) (x .link .now) (x .object .now) (schema-of (x .base .now))) 0
 past-0 c = come-first (c .before .is-sound .ensures .holds (not-false _ (c .if1 .left)))
 
 used-2 : (c : tie.Else2) → let x = c .before .before .before .before .before .before .before .args in used-sds (schema-of (x .base .now)) (x .sds) ≡ true
 used-2 c = sym (c .before .is-sds .ensures) ∙ not-false _ (c .if2 .left)
 
-past-1 : (c : tie.Else2) → let x = c .before .before .before .before .before .before .before .args in Past (x .base .now) (x .sds) (x .link .now) (x .object .now) 1
+past-1 : (c : tie.Else2) → let x = c .before .before .before .before .before .before .before .args in
+    Past (x .base .now) (end-refusals (x .sds) (x .link .now) (x .object .now) (schema-of (x .base .now))) 1
 past-1 c = come-next (past-0 (c .before .before)) (known _ (sound-long (past-0 (c .before .before) .sound)) _ (used-2 c))
 
-past-2 : (c : tie.Else3) → let x = c .before .before .before .before .before .before .before .before .args in Past (x .base .now) (x .sds) (x .link .now) (x .object .now) 2
+past-2 : (c : tie.Else3) → let x = c .before .before .before .before .before .before .before .before .args in
+    Past (x .base .now) (end-refusals (x .sds) (x .link .now) (x .object .now) (schema-of (x .base .now))) 2
 past-2 c = come-next (past-1 (c .before)) (system-passes _ (c .if3 .left))
 
 formed-4 : (c : tie.Else4) → well-formed (c .before .before .before .before .before .before .before .before .before .before .args .link .now) ≡ true
@@ -35,8 +39,8 @@ formed-4 c = sym (c .before .is-well-formed .ensures) ∙ not-false _ (c .if4 .l
 formed-5 : (c : tie.Else5) → well-formed (c .before .before .before .before .before .before .before .before .before .before .before .before .args .object .now) ≡ true
 formed-5 c = sym (c .before .is-well-formed2 .ensures) ∙ not-false _ (c .if5 .left)
 
-past-3 : (c : tie.Else5) → let x = c .before .before .before .before .before .before .before .before .before .before .before .before .args in Past
-    (x .base .now) (x .sds) (x .link .now) (x .object .now) 3
+past-3 : (c : tie.Else5) → let x = c .before .before .before .before .before .before .before .before .before .before .before .before .args in
+    Past (x .base .now) (end-refusals (x .sds) (x .link .now) (x .object .now) (schema-of (x .base .now))) 3
 past-3 c = come-next (past-2 (c .before .before .before .before)) (none-malformed _ _ (formed-passes _ (formed-4 (c .before .before))) (formed-passes _ (formed-5 c)))
 
 bears-6 : (c : tie.Else6) → let x =
@@ -60,8 +64,8 @@ type-7 : (c : tie.Else7) → let x =
 type-7 c = c .before .type-in2 .ensures .found (bears-7 c)
 
 past-4 : (c : tie.Else7) → let x =
-    c .before .before .before .before .before .before .before .before .before .before .before .before .before .before .before .before .args in Past
-    (x .base .now) (x .sds) (x .link .now) (x .object .now) 4
+    c .before .before .before .before .before .before .before .before .before .before .before .before .before .before .before .before .args in
+    Past (x .base .now) (end-refusals (x .sds) (x .link .now) (x .object .now) (schema-of (x .base .now))) 4
 past-4 c = come-next (past-3 (c .before .before .before .before)) (both-there _ _ _ _ (bears-6 (c .before .before)) (bears-7 c))
 
 is-sound-requires : tie.Need-is-sound-requires

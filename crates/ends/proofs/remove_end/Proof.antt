@@ -10,7 +10,7 @@ use Rattle.base.specs.Back.{schema-of, end-count}
 use Rattle.found.proofs.SdsShown.{used-below}
 use Rattle.base.proofs.Kept.{sound-long, kept-refused, kept-done}
 use Rattle.base.proofs.StoredLaws.{sound-stored, shows-stored}
-use Rattle.conditions.proofs.TestedLaws.{begun-stops}
+use Rattle.base.proofs.TestedLaws.{begun-stops}
 use Rattle.ends.specs.Ends.{Through}
 use Rattle.ends.proofs.EndLaws.{remove-left, remove-tests, row-none, row-some, removed-one, mirror-row, removed-both}
 use Rattle.ends.proofs.remove_end.Statement.{statement}

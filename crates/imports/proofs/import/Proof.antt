@@ -4,7 +4,7 @@ use native.Mathlib.Omega.{arith}
 use mathlib.Core.Path.{_≡_, ap, _∙_}
 use Rattle.rules.specs.03-Names.{well-formed}
 use Rattle.base.proofs.Back.{sound-good}
-use Rattle.conditions.proofs.TestedLaws.{tested-stops}
+use Rattle.base.proofs.TestedLaws.{tested-stops}
 use Rattle.imports.specs.Import.{Importable}
 use Rattle.imports.proofs.ImportLaws.{import-left, import-one, import-both, reverse-below, reverse-there, filled-formed, cut-is}
 use Rattle.imports.proofs.import.Statement.{statement}

@@ -10,16 +10,17 @@ use Rattle.rules.specs.09-Refusals.{unknown-sds, malformed, malformed-new, miss
 use Rattle.base.specs.Back.{schema-of}
 use Rattle.base.proofs.Back.{sound-good}
 use Rattle.base.proofs.Kept.{sound-long}
-use Rattle.conditions.specs.Tested.Tested.{spoiled}
+use Rattle.base.specs.Tested.Tested.{spoiled}
 use Rattle.conditions.proofs.NameLaws.{system-stops, system-passes, name-there, name-missing, borne, not-borne}
-use Rattle.conditions.proofs.TestedLaws.{come-first, come-next, come-stops, come-through}
-use Rattle.imports.proofs.ImportLaws.{Past, not-chosen, first-below, idle-is, of-named, new-formed}
+use Rattle.base.proofs.TestedLaws.{Past, come-first, come-next, come-stops, come-through}
+use Rattle.imports.specs.Import.{first-refusals}
+use Rattle.imports.proofs.ImportLaws.{not-chosen, first-below, idle-is, of-named, new-formed}
 use Rattle.presences.proofs.HeldLaws.{held-named}
 use Rattle.imports.proofs.named_by.Statement.{statement}
 use Rattle.imports.proofs.named_by.Tie as tie
 
 past-0 : (c : tie.Else1) → let x = c .before .before .before .before .before .before .args in
-    Past (x .base .now) (x .target) (x .source) (x .name .now) (x .new .now) (x .new-reverse .now) 0
+    Past (x .base .now) (first-refusals (x .target) (x .source) (x .name .now) (x .new .now) (x .new-reverse .now) (schema-of (x .base .now))) 0
 past-0 c = come-first (c .before .is-sound .ensures .holds (not-false _ (c .if1 .left)))
 
 known-2 : (c : tie.Else2) → let x = c .before .before .before .before .before .before .before .before .args in
@@ -27,11 +28,11 @@ known-2 : (c : tie.Else2) → let x = c .before .before .before .before .before 
 known-2 c = sym (c .before .is-one-unknown .ensures) ∙ c .if2 .left
 
 past-1 : (c : tie.Else2) → let x = c .before .before .before .before .before .before .before .before .args in
-    Past (x .base .now) (x .target) (x .source) (x .name .now) (x .new .now) (x .new-reverse .now) 1
+    Past (x .base .now) (first-refusals (x .target) (x .source) (x .name .now) (x .new .now) (x .new-reverse .now) (schema-of (x .base .now))) 1
 past-1 c = come-next (past-0 (c .before .before)) (known-2 c)
 
 past-2 : (c : tie.Else3) → let x = c .before .before .before .before .before .before .before .before .before .args in
-    Past (x .base .now) (x .target) (x .source) (x .name .now) (x .new .now) (x .new-reverse .now) 2
+    Past (x .base .now) (first-refusals (x .target) (x .source) (x .name .now) (x .new .now) (x .new-reverse .now) (schema-of (x .base .now))) 2
 past-2 c = come-next (past-1 (c .before)) (system-passes _ (c .if3 .left))
 
 formed-4 : (c : tie.Else4) → let x = c .before .before .before .before .before .before .before .before .before .before .before .args in
@@ -39,7 +40,7 @@ formed-4 : (c : tie.Else4) → let x = c .before .before .before .before .before
 formed-4 c = sym (c .before .is-one-malformed .ensures) ∙ c .if4 .left
 
 past-3 : (c : tie.Else4) → let x = c .before .before .before .before .before .before .before .before .before .before .before .args in
-    Past (x .base .now) (x .target) (x .source) (x .name .now) (x .new .now) (x .new-reverse .now) 3
+    Past (x .base .now) (first-refusals (x .target) (x .source) (x .name .now) (x .new .now) (x .new-reverse .now) (schema-of (x .base .now))) 3
 past-3 c = come-next (past-2 (c .before .before)) (formed-4 c)
 
 bears-5 : (c : tie.Else5) → let x = c .before .before .before .before .before .before .before .before .before .before .before .before .before .args in
@@ -51,11 +52,11 @@ type-5 : (c : tie.Else5) → let x = c .before .before .before .before .before .
 type-5 c = c .before .type-in .ensures .found (bears-5 c)
 
 past-4 : (c : tie.Else5) → let x = c .before .before .before .before .before .before .before .before .before .before .before .before .before .args in
-    Past (x .base .now) (x .target) (x .source) (x .name .now) (x .new .now) (x .new-reverse .now) 4
+    Past (x .base .now) (first-refusals (x .target) (x .source) (x .name .now) (x .new .now) (x .new-reverse .now) (schema-of (x .base .now))) 4
 past-4 c = come-next (past-3 (c .before .before)) (name-there _ _ _ (bears-5 c))
 
 past-5 : (c : tie.Else6) → let x = c .before .before .before .before .before .before .before .before .before .before .before .before .before .before .before .before .args in
-    Past (x .base .now) (x .target) (x .source) (x .name .now) (x .new .now) (x .new-reverse .now) 5
+    Past (x .base .now) (first-refusals (x .target) (x .source) (x .name .now) (x .new .now) (x .new-reverse .now) (schema-of (x .base .now))) 5
 past-5 c =
     let x = c .before .before .before .before .before .before .before .before .before .before .before .before .before .before .before .before .args in
     come-next (past-4 (c .before .before .before))
@@ -63,7 +64,7 @@ past-5 c =
 
 past-6 : (c : tie.Else7) → let x = c .before .before .before .before .before .before .before .before .before .before .before .before .before .before
     .before .before .before .before .args in
-    Past (x .base .now) (x .target) (x .source) (x .name .now) (x .new .now) (x .new-reverse .now) 6
+    Past (x .base .now) (first-refusals (x .target) (x .source) (x .name .now) (x .new .now) (x .new-reverse .now) (schema-of (x .base .now))) 6
 past-6 c =
     let x = c .before .before .before .before .before .before .before .before .before .before .before .before .before .before .before .before .before .before .args in
     come-next (past-5 (c .before .before))
@@ -71,7 +72,7 @@ past-6 c =
 
 past-7 : (c : tie.Else8) → let x = c .before .before .before .before .before .before .before .before .before .before .before .before .before .before
     .before .before .before .before .before .before .args in
-    Past (x .base .now) (x .target) (x .source) (x .name .now) (x .new .now) (x .new-reverse .now) 7
+    Past (x .base .now) (first-refusals (x .target) (x .source) (x .name .now) (x .new .now) (x .new-reverse .now) (schema-of (x .base .now))) 7
 past-7 c =
     let x = c .before .before .before .before .before .before .before .before .before .before .before .before .before .before .before .before .before
     .before .before .before .args in

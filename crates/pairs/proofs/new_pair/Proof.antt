@@ -4,7 +4,7 @@ use mathlib.Core.Path.{refl}
 use Rattle.rules.specs.01-Lists.{all}
 use Rattle.base.proofs.StoredLaws.{sound-stored}
 use Rattle.edit.proofs.TypeWritten.{paired-written}
-use Rattle.conditions.proofs.TestedLaws.{tested-stops, tested-passes}
+use Rattle.base.proofs.TestedLaws.{tested-stops, tested-passes}
 use Rattle.create.proofs.CreateLaws.{presence-ready}
 use Rattle.pairs.proofs.PairLaws.{new-pair-left, forward-ready, row-ready, reverse-ready, pair-kept}
 use Rattle.pairs.proofs.new_pair.Statement.{statement}

@@ -7,18 +7,19 @@ use borrow.Author.Tests.{not-true, not-false}
 use Rattle.rules.specs.03-Names.{well-formed}
 use Rattle.rules.specs.04-Schema.{used-sds}
 use Rattle.rules.specs.09-Refusals.{no-pair, names-taken}
+use Rattle.rules.specs.10-Changes.{new-pair-refusals}
 use Rattle.base.specs.Back.{schema-of}
 use Rattle.base.proofs.Kept.{sound-long}
 use Rattle.found.proofs.SdsShown.{used-below, known, unknown}
-use Rattle.conditions.specs.Tested.Tested.{spoiled}
+use Rattle.base.specs.Tested.Tested.{spoiled}
 use Rattle.conditions.proofs.NameLaws.{formed-passes, malformed-stops, system-stops, system-passes, one-malformed, other-malformed, none-malformed}
-use Rattle.conditions.proofs.TestedLaws.{come-first, come-next, come-stops, come-rest}
-use Rattle.pairs.proofs.PairLaws.{Past, not-placed, categories-fit, two-names}
+use Rattle.base.proofs.TestedLaws.{Past, come-first, come-next, come-stops, come-rest}
+use Rattle.pairs.proofs.PairLaws.{not-placed, categories-fit, two-names}
 use Rattle.pairs.proofs.places_for.Statement.{statement}
 use Rattle.pairs.proofs.places_for.Tie as tie
 
 past-0 : (c : tie.Else1) → let x = c .before .before .before .before .before .args in
-    Past (x .base .now) (x .sds) (x .name .now) (x .reverse .now) (x .category) (x .back) 0
+    Past (x .base .now) (new-pair-refusals (x .sds) (x .name .now) (x .reverse .now) (x .category) (x .back) (schema-of (x .base .now))) 0
 past-0 c = come-first (c .before .is-sound .ensures .holds (not-false _ (c .if1 .left)))
 
 used-1 : (c : tie.Else2) → let x = c .before .before .before .before .before .before .before .args in
@@ -26,11 +27,11 @@ used-1 : (c : tie.Else2) → let x = c .before .before .before .before .before .
 used-1 c = sym (c .before .is-sds .ensures) ∙ not-false _ (c .if2 .left)
 
 past-1 : (c : tie.Else2) → let x = c .before .before .before .before .before .before .before .args in
-    Past (x .base .now) (x .sds) (x .name .now) (x .reverse .now) (x .category) (x .back) 1
+    Past (x .base .now) (new-pair-refusals (x .sds) (x .name .now) (x .reverse .now) (x .category) (x .back) (schema-of (x .base .now))) 1
 past-1 c = come-next (past-0 (c .before .before)) (known _ (sound-long (past-0 (c .before .before) .sound)) _ (used-1 c))
 
 past-2 : (c : tie.Else3) → let x = c .before .before .before .before .before .before .before .before .args in
-    Past (x .base .now) (x .sds) (x .name .now) (x .reverse .now) (x .category) (x .back) 2
+    Past (x .base .now) (new-pair-refusals (x .sds) (x .name .now) (x .reverse .now) (x .category) (x .back) (schema-of (x .base .now))) 2
 past-2 c = come-next (past-1 (c .before)) (system-passes _ (c .if3 .left))
 
 formed-2 : (c : tie.Else4) → well-formed (c .before .before .before .before .before .before .before .before .before .before .args .name .now) ≡ true
@@ -40,7 +41,7 @@ formed-3 : (c : tie.Else5) → well-formed (c .before .before .before .before .b
 formed-3 c = sym (c .before .is-well-formed2 .ensures) ∙ not-false _ (c .if5 .left)
 
 past-3 : (c : tie.Else5) → let x = c .before .before .before .before .before .before .before .before .before .before .before .before .args in
-    Past (x .base .now) (x .sds) (x .name .now) (x .reverse .now) (x .category) (x .back) 3
+    Past (x .base .now) (new-pair-refusals (x .sds) (x .name .now) (x .reverse .now) (x .category) (x .back) (schema-of (x .base .now))) 3
 past-3 c = come-next (past-2 (c .before .before .before .before)) (none-malformed _ _ (formed-passes _ (formed-2 (c .before .before))) (formed-passes _ (formed-3 c)))
 
 pair-4 : (c : tie.Else6) → let x = c .before .before .before .before .before .before .before .before .before .before .before .before .before .before .args in
@@ -48,7 +49,7 @@ pair-4 : (c : tie.Else6) → let x = c .before .before .before .before .before .
 pair-4 c = sym (c .before .is-no-pair .ensures) ∙ c .if6 .left
 
 past-4 : (c : tie.Else6) → let x = c .before .before .before .before .before .before .before .before .before .before .before .before .before .before .args in
-    Past (x .base .now) (x .sds) (x .name .now) (x .reverse .now) (x .category) (x .back) 4
+    Past (x .base .now) (new-pair-refusals (x .sds) (x .name .now) (x .reverse .now) (x .category) (x .back) (schema-of (x .base .now))) 4
 past-4 c = come-next (past-3 (c .before .before)) (pair-4 c)
 
 free-5 : (c : tie.Else7) → let x = c .before .before .before .before .before .before .before .before .before .before .before .before .before .before .before .before .args in
@@ -56,7 +57,7 @@ free-5 : (c : tie.Else7) → let x = c .before .before .before .before .before .
 free-5 c = sym (c .before .are-taken .ensures) ∙ c .if7 .left
 
 past-5 : (c : tie.Else7) → let x = c .before .before .before .before .before .before .before .before .before .before .before .before .before .before .before .before .args in
-    Past (x .base .now) (x .sds) (x .name .now) (x .reverse .now) (x .category) (x .back) 5
+    Past (x .base .now) (new-pair-refusals (x .sds) (x .name .now) (x .reverse .now) (x .category) (x .back) (schema-of (x .base .now))) 5
 past-5 c = come-next (past-4 (c .before .before)) (free-5 c)
 
 is-sound-requires : tie.Need-is-sound-requires

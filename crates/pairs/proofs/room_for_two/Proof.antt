@@ -4,7 +4,7 @@ use Prim.Native.Nat.{_<_}
 use Rattle.base.proofs.Kept.{sound-long}
 use Rattle.base.proofs.Shown.{presences-long}
 use Rattle.conditions.proofs.ConditionLaws.{new-type-is, second-type-is, room-for-two, no-room-for, no-room-for-two}
-use Rattle.conditions.proofs.TestedLaws.{come-first, come-next, come-stops, come-through}
+use Rattle.base.proofs.TestedLaws.{come-first, come-next, come-stops, come-through}
 use Rattle.create.proofs.CreateLaws.{numbers-short, presences-short, both-fit}
 use Rattle.pairs.proofs.PairLaws.{no-two}
 use Rattle.pairs.proofs.room_for_two.Statement.{statement}

@@ -5,17 +5,19 @@ use mathlib.Core.Path.{_≡_, refl, sym, ap, _∙_}
 use mathlib.Core.List.{List, [], _∷_, _++_, append-nil}
 use mathlib.Core.Bool.{Bool, true, false, cond}
 use lib.Dec.{ltb}
+use lib.ListN.{drop}
 use Rattle.rules.specs.declared.Answer.{Answer}
 use Rattle.rules.specs.01-Lists.{all}
 use Rattle.rules.specs.04-Schema.{Schema}
 use Rattle.rules.specs.07-Picture.{Sound}
 use Rattle.rules.specs.09-Refusals.{Outcome, Refusals, verdict, refusal}
-use Rattle.rules.specs.12-Contracts.{Kept}
+use Rattle.rules.specs.09-Refusals.Outcome.{refused}
+use Rattle.rules.specs.12-Contracts.{Kept, Listed, Answered}
 use Rattle.rules.proofs.09-Refusals.{Left, ends, told, told-first, told-rest, told-stops, told-passes}
 use Rattle.base.specs.Back.{schema-of}
-use Rattle.base.proofs.Kept.{kept-spoiled, kept-refused}
-use Rattle.conditions.specs.Tested.{Tested}
-use Rattle.conditions.specs.Tested.Tested.{spoiled, tested}
+use Rattle.base.specs.Tested.{Tested}
+use Rattle.base.specs.Tested.Tested.{spoiled, tested}
+use Rattle.base.proofs.Kept.{kept-spoiled, kept-refused, listed-spoiled, listed-as, answered-spoiled, answered-as}
 
 -- ---- the tests, one after the other
 
@@ -23,6 +25,10 @@ use Rattle.conditions.specs.Tested.Tested.{spoiled, tested}
 pub record Come (b : List ℕ) (whole cs : Refusals) : Type 0 where
   pub sound : Sound b
   pub left : told whole ≡ told cs
+
+-- the first k conditions have failed
+abbrev pub Past : List ℕ → Refusals → ℕ → Type 0
+Past b cs k = Come b cs (drop k cs)
 
 pub come-first : {b : List ℕ} {whole : Refusals} → Sound b → Come b whole whole
 come-first s = record { sound = s; left = refl }
@@ -71,16 +77,29 @@ module _ {b : List ℕ} {whole : Refusals} (cs rest : Refusals) {no : ℕ} (c : 
 
 -- ---- the verdict of a call whose first conditions were told at once; rest is what it tests besides
 
-module _ {b : List ℕ} {cs : Refusals} {no : ℕ} {effect : Outcome Schema} (rest : Refusals) where
-  pub begun-stops : {rule : Schema → Outcome Schema} {a : Answer} → Tested b cs no → (no ≡ 0 → ⊥) → Left (rule (schema-of b)) (cs ++ rest) effect
-      → a ≡ refusal no → Kept b rule a b
-  begun-stops (spoiled n e) z l q = kept-spoiled n (q ∙ ap refusal e)
-  begun-stops (tested s e) z l q = kept-refused s (told-stops effect cs rest (l .is) (λ w. z (e ∙ w))) (q ∙ ap refusal e)
+module _ {Made : Type 0} {b : List ℕ} {cs : Refusals} {no : ℕ} {o effect : Outcome Made} (rest : Refusals) where
+  -- what holds of the base wherever the call refuses, for want of soundness or by its verdict
+  begun-either : {P : Type 0} → Tested b cs no → (no ≡ 0 → ⊥) → Left o (cs ++ rest) effect → ((Sound b → ⊥) → no ≡ 1 → P)
+      → (Sound b → o ≡ refused no → P) → P
+  begun-either (spoiled n e) z l f g = f n e
+  begun-either (tested s e) z l f g = g s (told-stops effect cs rest (l .is) (λ w. z (e ∙ w)) ∙ ap refused (sym e))
 
-  pub begun-passes : {o : Outcome Schema} → Tested b cs no → no ≡ 0 → all (λ c. ltb 0 (c .0)) cs ≡ true → Left o (cs ++ rest) effect
-      → Left o rest effect
+  pub begun-passes : Tested b cs no → no ≡ 0 → all (λ c. ltb 0 (c .0)) cs ≡ true → Left o (cs ++ rest) effect → Left o rest effect
   begun-passes (spoiled n e) z h l = absurd (omega arith)
   begun-passes (tested s e) z h l = record { is = told-passes effect cs rest h (l .is) (sym e ∙ z) }
+
+module _ {b : List ℕ} {cs : Refusals} {no : ℕ} (rest : Refusals) {a : Answer} where
+  pub begun-stops : {rule : Schema → Outcome Schema} {effect : Outcome Schema} → Tested b cs no → (no ≡ 0 → ⊥)
+      → Left (rule (schema-of b)) (cs ++ rest) effect → a ≡ refusal no → Kept b rule a b
+  begun-stops t z l q = begun-either rest t z l (λ n e. kept-spoiled n (q ∙ ap refusal e)) (λ s r. kept-refused s r q)
+
+  module _ {rule : Schema → Outcome (List ℕ)} {effect : Outcome (List ℕ)} where
+    pub listed-stops : {out : List ℕ} → Tested b cs no → (no ≡ 0 → ⊥) → Left (rule (schema-of b)) (cs ++ rest) effect → a ≡ refusal no
+        → Listed b rule a out out
+    listed-stops t z l q = begun-either rest t z l (λ n e. listed-spoiled n (q ∙ ap refusal e)) (λ s r. listed-as s r q refl)
+
+    pub answered-stops : Tested b cs no → (no ≡ 0 → ⊥) → Left (rule (schema-of b)) (cs ++ rest) effect → a ≡ refusal no → Answered b rule a
+    answered-stops t z l q = begun-either rest t z l (λ n e. answered-spoiled n (q ∙ ap refusal e)) (λ s r. answered-as s r q)
 
 -- ---- the verdict of a call that has tested all of its conditions
 

@@ -3,7 +3,7 @@ use Prim.Native.Nat.{ℕ, _+_, _≤_, _<_}
 use native.Mathlib.Omega.{arith}
 use mathlib.Core.Path.{_≡_, refl, sym, ap, _∙_}
 use mathlib.Core.List.{List, [], _∷_, _++_}
-use mathlib.Core.Bool.{Bool, true, false, not, _&&_, _||_}
+use mathlib.Core.Bool.{Bool, true, false, not, _&&_}
 use lib.Dec.{eqb, ltb}
 use lib.ListN.{length}
 use borrow.Author.Tests.{eqb-true, lt-ltb, le-ltb}
@@ -11,10 +11,10 @@ use Rattle.rules.specs.01-Lists.{without, put}
 use Rattle.rules.specs.03-Names.{Name}
 use Rattle.rules.specs.04-Schema.{Schema, Application, kind-of, is-attribute, type-named, applied, is-application, application-before}
 use Rattle.rules.specs.07-Picture.{picture}
-use Rattle.rules.specs.09-Refusals.{Refusals, no-such-name, no-object, no-attribute, no-link, applications-full}
+use Rattle.rules.specs.09-Refusals.{Refusals, no-object, no-attribute, no-link, applications-full}
 use Rattle.rules.specs.09-Refusals.Outcome.{done}
 use Rattle.rules.specs.10-Changes.{with-applications, application-refusals, apply, unapply}
-use Rattle.rules.proofs.Bools.{or-left, or-right, and-both}
+use Rattle.rules.proofs.Bools.{or-left, and-both}
 use Rattle.rules.proofs.09-Refusals.{Left}
 use Rattle.rows.specs.Rows.{Counted}
 use Rattle.base.specs.Back.{schema-of, application-count, application-shown}
@@ -35,16 +35,6 @@ use Rattle.conditions.proofs.ConditionLaws.{applied-row}
 pub not-aimed : {b : List ℕ} {d : ℕ} {a n : Name} {v : Asked} → Tested b (application-refusals d a n (schema-of b)) (v .no) → (v .no ≡ 0 → ⊥)
     → Aimed b d a n v
 not-aimed t z = record { told = t; both = λ e. absurd (z e) }
-
-module _ (s : Schema) (d : ℕ) (a n : Name) where
-  pub one-missing : no-such-name s d a ≡ true → no-such-name s d a || no-such-name s d n ≡ true
-  one-missing e = or-left (no-such-name s d a) (no-such-name s d n) e
-
-  pub other-missing : no-such-name s d n ≡ true → no-such-name s d a || no-such-name s d n ≡ true
-  other-missing e = or-right (no-such-name s d a) (no-such-name s d n) e
-
-  pub none-missing : no-such-name s d a ≡ false → no-such-name s d n ≡ false → no-such-name s d a || no-such-name s d n ≡ false
-  none-missing e f = rw (e, f)
 
 -- ---- the kinds, by their codes
 

@@ -61,6 +61,17 @@ pub name-missing : (s : Schema) (d : ℕ) (n : Name) → bears s d n ≡ false �
 unfolding no-such-name
 name-missing s d n e = ap not e
 
+-- of the two that a call names
+module _ (s : Schema) (d : ℕ) (n m : Name) where
+  pub both-there : bears s d n ≡ true → bears s d m ≡ true → no-such-name s d n || no-such-name s d m ≡ false
+  both-there e f = rw (name-there s d n e, name-there s d m f)
+
+  pub one-missing : bears s d n ≡ false → no-such-name s d n || no-such-name s d m ≡ true
+  one-missing e = or-left (no-such-name s d n) (no-such-name s d m) (name-missing s d n e)
+
+  pub other-missing : bears s d m ≡ false → no-such-name s d n || no-such-name s d m ≡ true
+  other-missing e = or-right (no-such-name s d n) (no-such-name s d m) (name-missing s d m e)
+
 -- ---- new names: one, or the two of a call
 
 module _ (s : Schema) (d : ℕ) (n : Name) where

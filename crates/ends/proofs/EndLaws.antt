@@ -9,13 +9,13 @@ use lib.ListN.{length}
 use borrow.Author.Tests.{eq-eqb, ne-eqb, ltb-true, ltb-false, lt-ltb, le-ltb}
 use Rattle.rules.specs.01-Lists.{any, all, without, put}
 use Rattle.rules.specs.03-Names.{Name}
-use Rattle.rules.specs.04-Schema.{Schema, Side, End, bears, kind-of, is-link, is-object, reverse, with-reverse, type-named}
+use Rattle.rules.specs.04-Schema.{Schema, Side, End, kind-of, is-link, is-object, reverse, with-reverse, type-named}
 use Rattle.rules.specs.04-Schema.{other-side, is-end, has-end, end-before}
 use Rattle.rules.specs.04-Schema.Kind.{paired}
 use Rattle.rules.specs.04-Schema.Side.{origin, destination}
 use Rattle.rules.specs.06-Good.{Good}
 use Rattle.rules.specs.07-Picture.{Sound, picture}
-use Rattle.rules.specs.09-Refusals.{Outcome, Refusals, verdict, no-such-name, no-link, no-object, ends-full}
+use Rattle.rules.specs.09-Refusals.{Outcome, Refusals, verdict, no-link, no-object, ends-full}
 use Rattle.rules.specs.09-Refusals.Outcome.{done}
 use Rattle.rules.specs.10-Changes.{with-ends, put-all, both-ends, end-refusals, add-end, is-one-of, remove-end}
 use Rattle.rules.proofs.Bools.{or-left, or-right}
@@ -40,22 +40,11 @@ use Rattle.conditions.specs.Reverse.{one-or-none, Reverse-of}
 use Rattle.conditions.specs.Conditions.{End-place}
 use Rattle.base.proofs.TestedLaws.{begun-passes}
 use Rattle.conditions.proofs.ConditionLaws.{end-place-has}
-use Rattle.conditions.proofs.NameLaws.{name-there, name-missing}
 
 pub not-aimed : {b : List ℕ} {d : ℕ} {n m : Name} {v : Aim} → Tested b (end-refusals d n m (schema-of b)) (v .no) → (v .no ≡ 0 → ⊥) → Aimed b d n m v
 not-aimed t z = record { told = t; through = λ e. absurd (z e) }
 
 -- ---- what the tests of the two types say
-
-module _ (s : Schema) (d : ℕ) (n m : Name) where
-  pub both-there : bears s d n ≡ true → bears s d m ≡ true → no-such-name s d n || no-such-name s d m ≡ false
-  both-there e f = rw (name-there s d n e, name-there s d m f)
-
-  pub one-missing : bears s d n ≡ false → no-such-name s d n || no-such-name s d m ≡ true
-  one-missing e = or-left (no-such-name s d n) (no-such-name s d m) (name-missing s d n e)
-
-  pub other-missing : bears s d m ≡ false → no-such-name s d n || no-such-name s d m ≡ true
-  other-missing e = or-right (no-such-name s d n) (no-such-name s d m) (name-missing s d m e)
 
 module _ {b : List ℕ} {t x : ℕ} (h : t < 128) (r : Reads b (type-at t) x) where
   pub link-is : x ≡ 3 → is-link (kind-of (schema-of b) t) ≡ true

@@ -14,8 +14,8 @@ use Rattle.base.proofs.Kept.{sound-long}
 use Rattle.base.proofs.TestedLaws.{Past, come-first, come-next, come-stops, come-through}
 use Rattle.apply.specs.Applying.{wrong-kind}
 use Rattle.conditions.proofs.NameLaws.{formed-passes, malformed-stops, system-stops, system-passes, one-malformed, other-malformed, none-malformed}
-use Rattle.conditions.proofs.NameLaws.{name-there, name-missing, borne, not-borne}
-use Rattle.apply.proofs.ApplyLaws.{not-aimed, one-missing, other-missing, none-missing, wrong-named}
+use Rattle.conditions.proofs.NameLaws.{both-there, one-missing, other-missing, borne, not-borne}
+use Rattle.apply.proofs.ApplyLaws.{not-aimed, wrong-named}
 use Rattle.apply.proofs.tested.Statement.{statement}
 use Rattle.apply.proofs.tested.Tie as tie
 
@@ -67,7 +67,7 @@ type-7 c = c .before .type-in2 .ensures .found (bears-7 c)
 past-4 : (c : tie.Else7) → let x =
     c .before .before .before .before .before .before .before .before .before .before .before .before .before .before .before .before .args in
     Past (x .base .now) (application-refusals (x .sds) (x .attribute .now) (x .to .now) (schema-of (x .base .now))) 4
-past-4 c = come-next (past-3 (c .before .before .before .before)) (none-missing _ _ _ _ (name-there _ _ _ (bears-6 (c .before .before))) (name-there _ _ _ (bears-7 c)))
+past-4 c = come-next (past-3 (c .before .before .before .before)) (both-there _ _ _ _ (bears-6 (c .before .before)) (bears-7 c))
 
 -- the kinds were tested of the types that are named
 kinds-8 : (c : tie.After-is-wrong-kind) → let x =
@@ -138,7 +138,7 @@ refused-requires-6 c κs = search needs
 
 returns-6 : tie.Need-returns-6
 returns-6 c = not-aimed (come-stops (past-3 (c .before .before .before))
-    (one-missing _ _ _ _ (name-missing _ _ _ (not-borne (c .before .before .type-in .ensures) (c .before .if6 .taken)))) (c .refused6 .ensures))
+    (one-missing _ _ _ _ (not-borne (c .before .before .type-in .ensures) (c .before .if6 .taken))) (c .refused6 .ensures))
     (λ z. omega (arith, c .refused6 .ensures))
 
 type-in-requires-2 : tie.Need-type-in-requires-2
@@ -149,7 +149,7 @@ refused-requires-7 c κs = search needs
 
 returns-7 : tie.Need-returns-7
 returns-7 c = not-aimed (come-stops (past-3 (c .before .before .before .before .before))
-    (other-missing _ _ _ _ (name-missing _ _ _ (not-borne (c .before .before .type-in2 .ensures) (c .before .if7 .taken)))) (c .refused7 .ensures))
+    (other-missing _ _ _ _ (not-borne (c .before .before .type-in2 .ensures) (c .before .if7 .taken))) (c .refused7 .ensures))
     (λ z. omega (arith, c .refused7 .ensures))
 
 is-wrong-kind-requires : tie.Need-is-wrong-kind-requires

@@ -1,4 +1,4 @@
--- `change::conditions::application_row` meets its contract. The loop's invariant: no row that it has passed does so. Assumes nothing.
+-- `conditions::application_row` meets its contract. The loop's invariant: no row that it has passed does so. Assumes nothing.
 use native.Mathlib.Omega.{arith}
 use borrow.Author.Needs.{needs}
 use Prim.Native.Nat.{ℕ, _≤_, _<_, _-_}

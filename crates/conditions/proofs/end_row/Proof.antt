@@ -1,4 +1,4 @@
--- `change::conditions::end_row` meets its contract. Assumes nothing.
+-- `conditions::end_row` meets its contract. Assumes nothing.
 use native.Mathlib.Omega.{arith}
 use Rattle.base.proofs.StoredLaws.{stored-long}
 use Rattle.conditions.proofs.ConditionLaws.{rows-rise, end-placed}

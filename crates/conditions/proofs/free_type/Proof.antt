@@ -1,4 +1,4 @@
--- `change::conditions::free_type` meets its contract. The loop's invariant: every number that it has passed is used. Assumes nothing.
+-- `conditions::free_type` meets its contract. The loop's invariant: every number that it has passed is used. Assumes nothing.
 use native.Mathlib.Omega.{arith}
 use Prim.Native.Nat.{ℕ, _≤_, _<_, _-_}
 use mathlib.Core.Path.{_≡_, sym, ap, _∙_}

@@ -1,4 +1,4 @@
--- `change::conditions::is_application` meets its contract. Assumes nothing.
+-- `conditions::is_application` meets its contract. Assumes nothing.
 use borrow.Author.Needs.{needs}
 use Rattle.conditions.proofs.ConditionLaws.{differs, agrees, last-one}
 use Rattle.conditions.proofs.is_application.Statement.{statement}

@@ -1,4 +1,4 @@
--- `change::conditions::is_applied` meets its contract. Assumes nothing.
+-- `conditions::is_applied` meets its contract. Assumes nothing.
 use borrow.Author.Needs.{needs}
 use Rattle.conditions.proofs.ConditionLaws.{applied-row}
 use Rattle.conditions.proofs.is_applied.Statement.{statement}

@@ -1,4 +1,4 @@
--- `change::conditions::is_elsewhere` meets its contract. The loop's invariant: no row that it has passed is the type's. Assumes nothing.
+-- `conditions::is_elsewhere` meets its contract. The loop's invariant: no row that it has passed is the type's. Assumes nothing.
 use native.Mathlib.Omega.{arith}
 use borrow.Author.Needs.{needs}
 use Prim.Native.Nat.{ℕ, _≤_, _<_, _-_}

@@ -1,4 +1,4 @@
--- `change::conditions::is_end` meets its contract. Assumes nothing.
+-- `conditions::is_end` meets its contract. Assumes nothing.
 use Rattle.base.proofs.Kept.{sound-long}
 use Rattle.base.proofs.StoredLaws.{sound-stored}
 use Rattle.conditions.proofs.ConditionLaws.{end-place-has}

@@ -1,4 +1,4 @@
--- `change::conditions::is_parent` meets its contract. The loop's invariant: no place that it has passed holds the type. Assumes nothing.
+-- `conditions::is_parent` meets its contract. The loop's invariant: no place that it has passed holds the type. Assumes nothing.
 use native.Mathlib.Omega.{arith}
 use Prim.Native.Nat.{ℕ, _+_, _≤_, _<_, _-_}
 use mathlib.Core.Path.{_≡_, _∙_}

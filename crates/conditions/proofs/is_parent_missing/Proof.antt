@@ -1,4 +1,4 @@
--- `change::conditions::is_parent_missing` meets its contract. The loop's invariant: every parent that it has passed is in the target.
+-- `conditions::is_parent_missing` meets its contract. The loop's invariant: every parent that it has passed is in the target.
 -- Assumes nothing.
 use native.Mathlib.Omega.{arith}
 use Prim.Native.Nat.{ℕ, _+_, _≤_, _<_, _-_}

@@ -1,4 +1,4 @@
--- `change::conditions::is_present` meets its contract. Assumes nothing.
+-- `conditions::is_present` meets its contract. Assumes nothing.
 use borrow.Author.Needs.{needs}
 use Rattle.conditions.proofs.ConditionLaws.{present-row}
 use Rattle.conditions.proofs.is_present.Statement.{statement}

@@ -1,4 +1,4 @@
--- `presences::import::enter_both` meets its contract: the second presence goes in among those that the first one left. Assumes nothing.
+-- `imports::enter_both` meets its contract: the second presence goes in among those that the first one left. Assumes nothing.
 use borrow.Author.Needs.{needs}
 use Prim.Native.Nat.{_+_, _≤_}
 use native.Mathlib.Omega.{arith}

@@ -1,4 +1,4 @@
--- `presences::import::enter_one` meets its contract: what refuses leaves the base, what does not puts one presence in. Assumes nothing.
+-- `imports::enter_one` meets its contract: what refuses leaves the base, what does not puts one presence in. Assumes nothing.
 use borrow.Author.Needs.{needs}
 use Prim.Native.Nat.{_+_, _≤_}
 use native.Mathlib.Omega.{arith}

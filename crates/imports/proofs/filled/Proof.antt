@@ -1,4 +1,4 @@
--- `presences::import::filled` meets its contract: a given name is padded with zeros, a name of the source is copied with its field. Assumes nothing.
+-- `imports::filled` meets its contract: a given name is padded with zeros, a name of the source is copied with its field. Assumes nothing.
 use borrow.Author.Needs.{needs}
 use native.Mathlib.Omega.{arith}
 use Rattle.base.proofs.Kept.{sound-long}

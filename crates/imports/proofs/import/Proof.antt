@@ -1,4 +1,4 @@
--- `presences::import::import` meets its contract: the rule comes to `enter` of one presence or of two, under the names filled in. Assumes nothing.
+-- `imports::import` meets its contract: the rule comes to `enter` of one presence or of two, under the names filled in. Assumes nothing.
 use borrow.Author.Needs.{needs}
 use native.Mathlib.Omega.{arith}
 use mathlib.Core.Path.{_≡_, ap, _∙_}

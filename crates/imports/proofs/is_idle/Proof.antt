@@ -1,4 +1,4 @@
--- `presences::import::is_idle` meets its contract: a blank name is never idle, any other where there is no reverse. Assumes nothing.
+-- `imports::is_idle` meets its contract: a blank name is never idle, any other where there is no reverse. Assumes nothing.
 use Rattle.imports.proofs.ImportLaws.{blank-idle, given-idle}
 use Rattle.imports.proofs.is_idle.Statement.{statement}
 use Rattle.imports.proofs.is_idle.Tie as tie

@@ -1,4 +1,4 @@
--- `presences::import::is_malformed_new` meets its contract: a blank name passes, any other is tested. Assumes nothing.
+-- `imports::is_malformed_new` meets its contract: a blank name passes, any other is tested. Assumes nothing.
 use borrow.Author.Needs.{needs}
 use Rattle.imports.proofs.ImportLaws.{blank-fine, given-tested}
 use Rattle.imports.proofs.is_malformed_new.Statement.{statement}

@@ -1,4 +1,4 @@
--- `presences::import::is_one_malformed` meets its contract: one test after the other. Assumes nothing.
+-- `imports::is_one_malformed` meets its contract: one test after the other. Assumes nothing.
 use borrow.Author.Needs.{needs}
 use Rattle.conditions.proofs.ConditionLaws.{or-first, or-next}
 use Rattle.imports.proofs.ImportLaws.{malformed-is}

@@ -1,4 +1,4 @@
--- `presences::import::is_one_unknown` meets its contract: each test is the contrary of what `is_sds` says. Assumes nothing.
+-- `imports::is_one_unknown` meets its contract: each test is the contrary of what `is_sds` says. Assumes nothing.
 use borrow.Author.Needs.{needs}
 use Rattle.conditions.proofs.ConditionLaws.{or-first, or-next}
 use Rattle.imports.proofs.ImportLaws.{unknown-is}

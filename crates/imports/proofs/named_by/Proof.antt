@@ -1,4 +1,4 @@
--- `presences::import::named_by` meets its contract: test by test, by what is left of the refusals. Assumes nothing.
+-- `imports::named_by` meets its contract: test by test, by what is left of the refusals. Assumes nothing.
 use borrow.Author.Needs.{needs}
 use Prim.Native.Nat.{_<_}
 use native.Mathlib.Omega.{arith}

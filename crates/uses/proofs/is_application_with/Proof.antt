@@ -1,4 +1,4 @@
--- `change::conditions::is_application_with` meets its contract. Assumes nothing.
+-- `uses::is_application_with` meets its contract. Assumes nothing.
 use borrow.Author.Needs.{needs}
 use Rattle.conditions.proofs.ConditionLaws.{differs, agrees, the-one, the-other, last-one}
 use Rattle.uses.proofs.is_application_with.Statement.{statement}

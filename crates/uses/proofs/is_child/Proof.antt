@@ -1,4 +1,4 @@
--- `change::conditions::is_child` meets its contract. Assumes nothing.
+-- `uses::is_child` meets its contract. Assumes nothing.
 use native.Mathlib.Omega.{arith}
 use Prim.Native.Nat.{ℕ}
 use mathlib.Core.Path.{ap, _∙_}

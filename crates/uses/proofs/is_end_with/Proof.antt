@@ -1,4 +1,4 @@
--- `change::conditions::is_end_with` meets its contract. Assumes nothing.
+-- `uses::is_end_with` meets its contract. Assumes nothing.
 use borrow.Author.Needs.{needs}
 use Rattle.conditions.proofs.ConditionLaws.{differs, agrees, the-one, the-other, last-one}
 use Rattle.uses.proofs.is_end_with.Statement.{statement}

@@ -1,4 +1,4 @@
--- `change::conditions::is_still_used` meets its contract. Assumes nothing.
+-- `uses::is_still_used` meets its contract. Assumes nothing.
 use borrow.Author.Needs.{needs}
 use Rattle.rules.specs.09-Refusals.{still-used}
 use Rattle.base.proofs.Kept.{sound-long}

@@ -1,4 +1,4 @@
--- `ask::view::is_of_kind` meets its contract. Assumes nothing.
+-- `scans::view::is_of_kind` meets its contract. Assumes nothing.
 use native.Mathlib.Omega.{arith}
 use mathlib.Core.Path.{sym}
 use Rattle.found.proofs.KindBytes.{told-object, told-link}

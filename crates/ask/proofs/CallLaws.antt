@@ -22,14 +22,14 @@ use Rattle.rules.specs.12-Contracts.{room, Listed}
 use Rattle.rules.proofs.09-Refusals.{Left}
 use Rattle.base.specs.Back.{schema-of}
 use Rattle.base.proofs.Kept.{listed-as}
-use Rattle.marks.specs.declared.TypeSet.{TypeSet}
-use Rattle.marks.specs.Set.{has}
-use Rattle.marks.proofs.Members.{members-alike}
-use Rattle.marks.proofs.Set.{words-are}
-use Rattle.scans.specs.declared.view.View.{View}
-use Rattle.scans.specs.View.{type-refusals, Through}
-use Rattle.scans.specs.Scans.{object-scan, link-scan, Scanned}
-use Rattle.scans.specs.Lists.{listing, three-listing, Puts}
+use Rattle.type_set.specs.declared.TypeSet.{TypeSet}
+use Rattle.type_set.specs.Set.{has}
+use Rattle.type_set.proofs.Members.{members-alike}
+use Rattle.type_set.proofs.Set.{words-are}
+use Rattle.ask_scans.specs.declared.view.View.{View}
+use Rattle.ask_scans.specs.View.{type-refusals, Through}
+use Rattle.ask_scans.specs.Scans.{object-scan, link-scan, Scanned}
+use Rattle.ask_scans.specs.Lists.{listing, three-listing, Puts}
 
 -- ---- a rule's refusals begin with those of the view
 

@@ -14,15 +14,15 @@ use Rattle.rules.specs.09-Refusals.{Outcome, not-present}
 use Rattle.rules.specs.09-Refusals.Outcome.{done}
 use Rattle.rules.specs.11-Asks.{place, name, name-refusals}
 use Rattle.rules.specs.12-Contracts.{Answered, Handed, stretch}
-use Rattle.rules.proofs.07-Picture.{strip}
+use Rattle.rules.specs.Read.{strip}
 use Rattle.rules.proofs.09-Refusals.{Left}
 use Rattle.rules.proofs.11-Asks.{place-is, local-at, name-start-is, name-within}
 use Rattle.rows.specs.Rows.{part}
 use Rattle.base.specs.Rows.{presence-at}
 use Rattle.base.specs.Back.{schema-of, presence-shown, presence-count}
-use Rattle.found.specs.Found.{Presence-row, First-row}
+use Rattle.lookup.specs.Found.{Presence-row, First-row}
 use Rattle.base.proofs.Shown.{presences-long, presence-is}
-use Rattle.found.proofs.Walked.{first-presence, presence-first}
+use Rattle.lookup.proofs.Walked.{first-presence, presence-first}
 use Rattle.base.proofs.Kept.{sound-long}
 
 abbrev pub name-effect : ℕ → ℕ → Schema → Outcome (List ℕ)

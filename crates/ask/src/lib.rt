@@ -9,38 +9,38 @@ ghost use Rattle.rules.specs.12-Contracts.{room, Listed, Answered, Handed};
 pub fn scan_object(base: &[u8], schema: &[u8], t: usize, code: usize, out: &mut [u8]) -> Answer
     ensures { λ r. ⌜ Listed (now (base .entry)) (scan-object (now (schema .entry)) t code (room (now (out .entry)))) r (now (out .entry)) (now (out .exit)) ⌝ }
 {
-    let view = scans::view::of(base, schema, t, false, code < 10);
+    let view = ask_scans::view::of(base, schema, t, false, code < 10);
     if view.no != 0 {
         return Answer::refused(view.no);
     }
-    let set = scans::scan::of_object(base, view.listed, t, code);
-    scans::lists::put(view.visible.meet(set), out)
+    let set = ask_scans::scan::of_object(base, view.listed, t, code);
+    ask_scans::lists::put(view.visible.meet(set), out)
 }
 
 // The like for a link type.
 pub fn scan_link(base: &[u8], schema: &[u8], t: usize, code: usize, out: &mut [u8]) -> Answer
     ensures { λ r. ⌜ Listed (now (base .entry)) (scan-link (now (schema .entry)) t code (room (now (out .entry)))) r (now (out .entry)) (now (out .exit)) ⌝ }
 {
-    let view = scans::view::of(base, schema, t, true, code < 5);
+    let view = ask_scans::view::of(base, schema, t, true, code < 5);
     if view.no != 0 {
         return Answer::refused(view.no);
     }
-    let set = scans::scan::of_link(base, view.listed, t, code);
-    scans::lists::put(view.visible.meet(set), out)
+    let set = ask_scans::scan::of_link(base, view.listed, t, code);
+    ask_scans::lists::put(view.visible.meet(set), out)
 }
 
 // Ancestors, attribute-all and link-origin-all of an object type, each list straight after the last.
 pub fn profile(base: &[u8], schema: &[u8], t: usize, out: &mut [u8]) -> Answer
     ensures { λ r. ⌜ Listed (now (base .entry)) (profile (now (schema .entry)) t (room (now (out .entry)))) r (now (out .entry)) (now (out .exit)) ⌝ }
 {
-    let view = scans::view::of(base, schema, t, false, true);
+    let view = ask_scans::view::of(base, schema, t, false, true);
     if view.no != 0 {
         return Answer::refused(view.no);
     }
-    let ancestors = scans::scan::of_object(base, view.listed, t, 3);
-    let attributes = scans::scan::of_object(base, view.listed, t, 5);
-    let links = scans::scan::of_object(base, view.listed, t, 7);
-    scans::lists::put_three(
+    let ancestors = ask_scans::scan::of_object(base, view.listed, t, 3);
+    let attributes = ask_scans::scan::of_object(base, view.listed, t, 5);
+    let links = ask_scans::scan::of_object(base, view.listed, t, 7);
+    ask_scans::lists::put_three(
         view.visible.meet(ancestors),
         view.visible.meet(attributes),
         view.visible.meet(links),
@@ -75,7 +75,7 @@ pub fn find(base: &[u8], schema: &[u8], name: &[u8]) -> Answer
 pub fn depth(base: &[u8], schema: &[u8], t: usize) -> Answer
     ensures { λ r. ⌜ Answered (now (base .entry)) (depth-of (now (schema .entry)) t) r ⌝ }
 {
-    let view = scans::view::of(base, schema, t, false, true);
+    let view = ask_scans::view::of(base, schema, t, false, true);
     if view.no != 0 {
         return Answer::refused(view.no);
     }
@@ -86,11 +86,11 @@ pub fn depth(base: &[u8], schema: &[u8], t: usize) -> Answer
 pub fn descendant_set(base: &[u8], schema: &[u8], t: usize) -> Answer
     ensures { λ r. ⌜ Answered (now (base .entry)) (descendant-set (now (schema .entry)) t) r ⌝ }
 {
-    let view = scans::view::of(base, schema, t, false, true);
+    let view = ask_scans::view::of(base, schema, t, false, true);
     if view.no != 0 {
         return Answer::refused(view.no);
     }
-    let descendants = scans::scan::of_object(base, view.listed, t, 1);
+    let descendants = ask_scans::scan::of_object(base, view.listed, t, 1);
     let set = view.visible.meet(descendants);
     Answer::done(set.low as usize, set.high as usize, set.count())
 }
@@ -102,14 +102,14 @@ pub fn name_place(base: &[u8], sds: usize, t: usize) -> Answer
     if !sound::is_sound(base) {
         return Answer::refused(1);
     }
-    if !found::is_sds(base, sds) {
+    if !lookup::is_sds(base, sds) {
         return Answer::refused(2);
     }
-    let row = found::presence_row(base, sds, t);
+    let row = lookup::presence_row(base, sds, t);
     if row == base::used::presence_count(base) {
         return Answer::refused(6);
     }
-    Answer::done(base::name_at(row), found::name_length(base, row), 0)
+    Answer::done(base::name_at(row), lookup::name_length(base, row), 0)
 }
 
 // The part of the base that holds it; empty where `name_place` refuses.

@@ -19,7 +19,8 @@ use Rattle.rules.specs.07-Picture.{pad, sds-row, type-row, presence-row, applic
 use Rattle.rules.specs.07-Picture.{presence-table, application-table, end-table, picture, Sound}
 use Rattle.rules.proofs.01-Lists.{place-in}
 use Rattle.rules.proofs.03-Names.{formed-no-zero}
-use Rattle.rules.proofs.07-Picture.{strip, read-kind, read-presence, read-application, read-end, wide-sds, wide-type, wide-presence}
+use Rattle.rules.proofs.07-Picture.{wide-sds, wide-type, wide-presence}
+use Rattle.rules.specs.Read.{strip, read-kind, read-presence, read-application, read-end}
 use Rattle.rules.proofs.07-Picture.{wide-application, wide-end, length-table, picture-length, sds-back, fitting, kind-back, presence-back}
 use Rattle.rules.proofs.07-Picture.{application-back, end-back, zeros-long}
 use Rattle.rows.specs.Rows.{part, rows, filled}

@@ -11,7 +11,7 @@ use Rattle.rules.specs.01-Lists.{_∈_}
 use Rattle.rules.specs.04-Schema.{Presence, Application, End, sds-name, kind-of, system-presence}
 use Rattle.rules.specs.04-Schema.Kind.{unused, object, attribute, designation, paired}
 use Rattle.rules.proofs.01-Lists.{place-in}
-use Rattle.rules.proofs.07-Picture.{strip, read-kind, read-presence, read-application, read-end}
+use Rattle.rules.specs.Read.{strip, read-kind, read-presence, read-application, read-end}
 use Rattle.rows.specs.Rows.{part, rows, filled}
 use Rattle.rows.proofs.Rows.{part-byte, part-part, length-rows, rows-at, rows-in, filled-used}
 use Rattle.base.specs.Rows.{type-at, presence-at, application-at, end-at}
@@ -155,7 +155,7 @@ module _ (b : List ℕ) where
       let link : getD r 1 0 ≡ getD b (end-at i + 1) 0 = part-byte b (end-at i) 4 1 (omega arith) in
       let side : getD r 2 0 ≡ getD b (end-at i + 2) 0 = part-byte b (end-at i) 4 2 (omega arith) in
       let object : getD r 3 0 ≡ getD b (end-at i + 3) 0 = part-byte b (end-at i) 4 3 (omega arith) in
-      ap read-end same ∙ (λ j. record { sds = sds j; link = link j; side = Rattle.rules.proofs.07-Picture.read-side (side j); object = object j })
+      ap read-end same ∙ (λ j. record { sds = sds j; link = link j; side = Rattle.rules.specs.Read.read-side (side j); object = object j })
 
   pub end-read : (i : ℕ) → read-end (part b (end-at i) 4) ≡ end-shown b i
   end-read i = sym (ap read-end (from-start 11264 (i * 4) 4)) ∙ read-end-at i

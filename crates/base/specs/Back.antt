@@ -6,7 +6,7 @@ use lib.ListN.{length, getD, drop, replicate}
 use Rattle.rules.specs.03-Names.{Name}
 use Rattle.rules.specs.04-Schema.{Schema, Kind, Presence, Application, End}
 use Rattle.rules.specs.07-Picture.{sds-row, type-row, presence-row, end-row, base-length}
-use Rattle.rules.proofs.07-Picture.{strip, read-kind, read-presence, read-application, read-side, read-end}
+use Rattle.rules.specs.Read.{strip, read-kind, read-presence, read-application, read-side, read-end}
 use Rattle.rows.specs.Rows.{part, rows, filled}
 use Rattle.base.specs.Rows.{sds-at, type-at, presence-at, application-at, end-at}
 

@@ -9,7 +9,7 @@ use Rattle.rules.specs.03-Names.{Name, well-formed}
 use Rattle.rules.specs.04-Schema.{Schema, Kind, Presence, Application, End, presence-before, application-before, end-before}
 use Rattle.rules.specs.07-Picture.{pad, sds-row, type-row, picture}
 use Rattle.rules.specs.10-Changes.{with-types}
-use Rattle.rules.proofs.07-Picture.{strip, read-kind}
+use Rattle.rules.specs.Read.{strip, read-kind}
 use Rattle.base.specs.Back.{schema-of}
 
 -- what tells a used row from an unused one: a presence has a name, an application or an end an SDS other than 0

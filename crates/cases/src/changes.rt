@@ -4,11 +4,11 @@ use super::read;
 use rules::Answer;
 
 fn new_sds(base: &mut [u8], line: &[u8]) -> Answer {
-    sdss::new_sds(base, read::name_at(line, 1))
+    change_sdss::new_sds(base, read::name_at(line, 1))
 }
 
 fn new_pair(base: &mut [u8], line: &[u8]) -> Answer {
-    pairs::new_pair(
+    change_pairs::new_pair(
         base,
         read::number_at(line, 1),
         read::name_at(line, 2),
@@ -19,7 +19,7 @@ fn new_pair(base: &mut [u8], line: &[u8]) -> Answer {
 }
 
 fn import(base: &mut [u8], line: &[u8]) -> Answer {
-    imports::import(
+    change_imports::import(
         base,
         read::number_at(line, 1),
         read::number_at(line, 2),
@@ -31,13 +31,13 @@ fn import(base: &mut [u8], line: &[u8]) -> Answer {
 
 pub fn other(base: &mut [u8], line: &[u8]) -> Answer {
     if read::begins(line, b"fresh") {
-        return sdss::fresh(base);
+        return change_sdss::fresh(base);
     }
     if read::begins(line, b"new_sds") {
         return new_sds(base, line);
     }
     if read::begins(line, b"remove_sds") {
-        return sdss::remove_sds(base, read::number_at(line, 1));
+        return change_sdss::remove_sds(base, read::number_at(line, 1));
     }
     if read::begins(line, b"new_pair") {
         return new_pair(base, line);
@@ -51,16 +51,16 @@ pub fn other(base: &mut [u8], line: &[u8]) -> Answer {
 // What stands behind an SDS and a name: a value kind, or the parents.
 fn one_name(base: &mut [u8], call: &[u8], sds: usize, name: &[u8], rest: &[u8]) -> Answer {
     if names::is_equal(call, b"new_object") {
-        return objects::new_object(base, sds, name, rest);
+        return change_objects::new_object(base, sds, name, rest);
     }
     if names::is_equal(call, b"new_attribute") {
-        return create::new_attribute(base, sds, name, read::number_at(rest, 0));
+        return change_types::new_attribute(base, sds, name, read::number_at(rest, 0));
     }
     if names::is_equal(call, b"new_designation") {
-        return create::new_designation(base, sds, name);
+        return change_types::new_designation(base, sds, name);
     }
     if names::is_equal(call, b"remove_type") {
-        return presences::remove::remove_type(base, sds, name);
+        return change_presences::remove::remove_type(base, sds, name);
     }
     Answer::refused(16)
 }
@@ -77,25 +77,25 @@ pub fn with_one_name(base: &mut [u8], line: &[u8]) -> Answer {
 
 fn two_names(base: &mut [u8], call: &[u8], sds: usize, name: &[u8], second: &[u8]) -> Answer {
     if names::is_equal(call, b"apply") {
-        return apply::apply(base, sds, name, second);
+        return change_applications::apply(base, sds, name, second);
     }
     if names::is_equal(call, b"unapply") {
-        return apply::unapply(base, sds, name, second);
+        return change_applications::unapply(base, sds, name, second);
     }
     if names::is_equal(call, b"apply_link") {
-        return ends::apply_link(base, sds, name, second);
+        return change_ends::apply_link(base, sds, name, second);
     }
     if names::is_equal(call, b"unapply_link") {
-        return ends::unapply_link(base, sds, name, second);
+        return change_ends::unapply_link(base, sds, name, second);
     }
     if names::is_equal(call, b"add_destination") {
-        return ends::add_destination(base, sds, name, second);
+        return change_ends::add_destination(base, sds, name, second);
     }
     if names::is_equal(call, b"remove_destination") {
-        return ends::remove_destination(base, sds, name, second);
+        return change_ends::remove_destination(base, sds, name, second);
     }
     if names::is_equal(call, b"rename") {
-        return presences::rename::rename(base, sds, name, second);
+        return change_presences::rename::rename(base, sds, name, second);
     }
     Answer::refused(16)
 }

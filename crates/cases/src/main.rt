@@ -6,12 +6,12 @@ mod changes;
 mod print;
 mod read;
 
-use words::input::Input;
-use words::input::next_line;
+use run_words::input::Input;
+use run_words::input::next_line;
 ghost use Prim.Native.Nat.{_≤_};
 ghost use mathlib.Core.Path.{_≡_};
 ghost use lib.ListN.{length};
-ghost use Rattle.words.specs.Input.{Within};
+ghost use Rattle.run_words.specs.Input.{Within};
 
 fn is_heading(line: &[u8]) -> bool {
     if line.len() == 0 {

@@ -1,5 +1,5 @@
 // The inputs of a call, by the words of a line.
-use words::Word;
+use run_words::Word;
 ghost use Prim.Native.Nat.{_≤_};
 ghost use mathlib.Core.Path.{_≡_};
 ghost use lib.ListN.{length};
@@ -7,7 +7,7 @@ ghost use Rattle.io.specs.Counts.{Counts};
 
 // Word i as it is.
 pub fn word_at(line: &[u8], i: usize) -> &[u8] {
-    let word = words::word_at(line, i);
+    let word = run_words::word_at(line, i);
     let start = word.start;
     let end = word.end;
     &line[start..end]
@@ -15,7 +15,7 @@ pub fn word_at(line: &[u8], i: usize) -> &[u8] {
 
 // From word i to the end of the line.
 pub fn rest_at(line: &[u8], i: usize) -> &[u8] {
-    let word = words::word_at(line, i);
+    let word = run_words::word_at(line, i);
     let start = word.start;
     &line[start..]
 }
@@ -29,7 +29,7 @@ pub fn begins(line: &[u8], call: &[u8]) -> bool {
 fn place_at(line: &[u8], i: usize) -> Word
     ensures { λ r. ⌜ (r .start ≤ r .end) × (r .end ≤ length (now (line .entry))) ⌝ }
 {
-    let word = words::word_at(line, i);
+    let word = run_words::word_at(line, i);
     if names::is_equal(word_at(line, i), b"-") {
         return Word {
             start: word.start,
@@ -72,7 +72,7 @@ fn with_digit(n: usize, c: u8) -> usize
 
 // Word i as a number in decimal.
 pub fn number_at(line: &[u8], i: usize) -> usize {
-    let word = words::word_at(line, i);
+    let word = run_words::word_at(line, i);
     let end = word.end;
     let mut at = word.start;
     let mut n = 0;

@@ -20,42 +20,42 @@ pub extern "C" fn cf_base_length() -> usize
 pub extern "C" fn cf_fresh(base: &mut [u8]) -> Answer
     ensures { λ r. ⌜ Freshened (now (base .entry)) r (now (base .exit)) ⌝ }
 {
-    sdss::fresh(base)
+    change_sdss::fresh(base)
 }
 
 #[no_mangle]
 pub extern "C" fn cf_new_sds(base: &mut [u8], name: &[u8]) -> Answer
     ensures { λ r. ⌜ Kept (now (base .entry)) (new-sds (now (name .entry))) r (now (base .exit)) ⌝ }
 {
-    sdss::new_sds(base, name)
+    change_sdss::new_sds(base, name)
 }
 
 #[no_mangle]
 pub extern "C" fn cf_remove_sds(base: &mut [u8], sds: usize) -> Answer
     ensures { λ r. ⌜ Kept (now (base .entry)) (remove-sds sds) r (now (base .exit)) ⌝ }
 {
-    sdss::remove_sds(base, sds)
+    change_sdss::remove_sds(base, sds)
 }
 
 #[no_mangle]
 pub extern "C" fn cf_new_object(base: &mut [u8], sds: usize, name: &[u8], parents: &[u8]) -> Answer
     ensures { λ r. ⌜ Kept (now (base .entry)) (new-object sds (now (name .entry)) (now (parents .entry))) r (now (base .exit)) ⌝ }
 {
-    objects::new_object(base, sds, name, parents)
+    change_objects::new_object(base, sds, name, parents)
 }
 
 #[no_mangle]
 pub extern "C" fn cf_new_attribute(base: &mut [u8], sds: usize, name: &[u8], value: usize) -> Answer
     ensures { λ r. ⌜ Kept (now (base .entry)) (new-attribute sds (now (name .entry)) value) r (now (base .exit)) ⌝ }
 {
-    create::new_attribute(base, sds, name, value)
+    change_types::new_attribute(base, sds, name, value)
 }
 
 #[no_mangle]
 pub extern "C" fn cf_new_designation(base: &mut [u8], sds: usize, name: &[u8]) -> Answer
     ensures { λ r. ⌜ Kept (now (base .entry)) (new-designation sds (now (name .entry))) r (now (base .exit)) ⌝ }
 {
-    create::new_designation(base, sds, name)
+    change_types::new_designation(base, sds, name)
 }
 
 #[no_mangle]
@@ -69,7 +69,7 @@ pub extern "C" fn cf_new_pair(
 ) -> Answer
     ensures { λ r. ⌜ Kept (now (base .entry)) (new-pair sds (now (name .entry)) (now (reverse .entry)) category back) r (now (base .exit)) ⌝ }
 {
-    pairs::new_pair(base, sds, name, reverse, category, back)
+    change_pairs::new_pair(base, sds, name, reverse, category, back)
 }
 
 #[no_mangle]
@@ -83,35 +83,35 @@ pub extern "C" fn cf_import(
 ) -> Answer
     ensures { λ r. ⌜ Kept (now (base .entry)) (import target source (now (name .entry)) (now (new .entry)) (now («new_reverse» .entry))) r (now (base .exit)) ⌝ }
 {
-    imports::import(base, target, source, name, new, new_reverse)
+    change_imports::import(base, target, source, name, new, new_reverse)
 }
 
 #[no_mangle]
 pub extern "C" fn cf_apply(base: &mut [u8], sds: usize, attribute: &[u8], to: &[u8]) -> Answer
     ensures { λ r. ⌜ Kept (now (base .entry)) (apply sds (now (attribute .entry)) (now (to .entry))) r (now (base .exit)) ⌝ }
 {
-    apply::apply(base, sds, attribute, to)
+    change_applications::apply(base, sds, attribute, to)
 }
 
 #[no_mangle]
 pub extern "C" fn cf_unapply(base: &mut [u8], sds: usize, attribute: &[u8], to: &[u8]) -> Answer
     ensures { λ r. ⌜ Kept (now (base .entry)) (unapply sds (now (attribute .entry)) (now (to .entry))) r (now (base .exit)) ⌝ }
 {
-    apply::unapply(base, sds, attribute, to)
+    change_applications::unapply(base, sds, attribute, to)
 }
 
 #[no_mangle]
 pub extern "C" fn cf_apply_link(base: &mut [u8], sds: usize, link: &[u8], object: &[u8]) -> Answer
     ensures { λ r. ⌜ Kept (now (base .entry)) (apply-link sds (now (link .entry)) (now (object .entry))) r (now (base .exit)) ⌝ }
 {
-    ends::apply_link(base, sds, link, object)
+    change_ends::apply_link(base, sds, link, object)
 }
 
 #[no_mangle]
 pub extern "C" fn cf_unapply_link(base: &mut [u8], sds: usize, link: &[u8], object: &[u8]) -> Answer
     ensures { λ r. ⌜ Kept (now (base .entry)) (unapply-link sds (now (link .entry)) (now (object .entry))) r (now (base .exit)) ⌝ }
 {
-    ends::unapply_link(base, sds, link, object)
+    change_ends::unapply_link(base, sds, link, object)
 }
 
 #[no_mangle]
@@ -123,7 +123,7 @@ pub extern "C" fn cf_add_destination(
 ) -> Answer
     ensures { λ r. ⌜ Kept (now (base .entry)) (add-destination sds (now (link .entry)) (now (object .entry))) r (now (base .exit)) ⌝ }
 {
-    ends::add_destination(base, sds, link, object)
+    change_ends::add_destination(base, sds, link, object)
 }
 
 #[no_mangle]
@@ -135,21 +135,21 @@ pub extern "C" fn cf_remove_destination(
 ) -> Answer
     ensures { λ r. ⌜ Kept (now (base .entry)) (remove-destination sds (now (link .entry)) (now (object .entry))) r (now (base .exit)) ⌝ }
 {
-    ends::remove_destination(base, sds, link, object)
+    change_ends::remove_destination(base, sds, link, object)
 }
 
 #[no_mangle]
 pub extern "C" fn cf_remove_type(base: &mut [u8], sds: usize, name: &[u8]) -> Answer
     ensures { λ r. ⌜ Kept (now (base .entry)) (remove-type sds (now (name .entry))) r (now (base .exit)) ⌝ }
 {
-    presences::remove::remove_type(base, sds, name)
+    change_presences::remove::remove_type(base, sds, name)
 }
 
 #[no_mangle]
 pub extern "C" fn cf_rename(base: &mut [u8], sds: usize, name: &[u8], new: &[u8]) -> Answer
     ensures { λ r. ⌜ Kept (now (base .entry)) (rename sds (now (name .entry)) (now (new .entry))) r (now (base .exit)) ⌝ }
 {
-    presences::rename::rename(base, sds, name, new)
+    change_presences::rename::rename(base, sds, name, new)
 }
 
 #[no_mangle]

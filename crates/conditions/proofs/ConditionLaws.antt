@@ -17,23 +17,23 @@ use Rattle.rules.specs.09-Refusals.{not-present, missing-parent, free-types}
 use Rattle.rules.specs.10-Changes.{new-type, second-new-type}
 use Rattle.rules.proofs.Bools.{and-of}
 use Rattle.rules.proofs.01-Lists.{any-at, numbers-first, numbers-none}
-use Rattle.rules.proofs.07-Picture.{read-side}
+use Rattle.rules.specs.Read.{read-side}
 use Rattle.rows.specs.Rows.{part, Rising, Counted}
 use Rattle.base.specs.Rows.{type-at, end-at, End-row}
 use Rattle.base.specs.Back.{schema-of, presence-count, application-count, end-count, application-shown, end-shown}
-use Rattle.found.specs.Found.{Presence-row, First-row, End-found}
+use Rattle.lookup.specs.Found.{Presence-row, First-row, End-found}
 use Rattle.base.specs.Stored.{Stored}
-use Rattle.found.proofs.KindBytes.{used-code, sound-code}
+use Rattle.lookup.proofs.KindBytes.{used-code, sound-code}
 use Rattle.base.proofs.Shown.{end-read, end-there}
 use Rattle.base.proofs.StoredLaws.{stored-long, stored-canonical}
-use Rattle.found.proofs.Walked.{first-presence, first-application}
-use Rattle.found.proofs.Walked.{presence-first}
+use Rattle.lookup.proofs.Walked.{first-presence, first-application}
+use Rattle.lookup.proofs.Walked.{presence-first}
 use Rattle.graph.proofs.Rows.{good-parental, parents-count, parents-place}
 use Rattle.working.proofs.ListedLaws.{any-there, any-nowhere}
-use Rattle.held.specs.Held.{Ends}
-use Rattle.held.proofs.HeldLaws.{side-same, has-row}
-use Rattle.tables.proofs.OrderLaws.{ends-rise}
-use Rattle.tables.proofs.RestLaws.{written-side}
+use Rattle.check_sds.specs.Held.{Ends}
+use Rattle.check_sds.proofs.HeldLaws.{side-same, has-row}
+use Rattle.check_rows.proofs.OrderLaws.{ends-rise}
+use Rattle.check_rows.proofs.RestLaws.{written-side}
 use Rattle.conditions.specs.Conditions.{Free-type, End-place}
 
 -- ---- the tests of a row, one after the other: two numbers that must be the same, or either of two

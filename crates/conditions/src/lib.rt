@@ -8,9 +8,9 @@ ghost use Rattle.rules.specs.01-Lists.{any};
 ghost use Rattle.rules.specs.04-Schema.{present, is-parent, is-application, applied, has-end};
 ghost use Rattle.rules.specs.07-Picture.{Sound, base-length};
 ghost use Rattle.rules.specs.09-Refusals.{missing-parent};
-ghost use Rattle.rules.proofs.07-Picture.{read-side};
+ghost use Rattle.rules.specs.Read.{read-side};
 ghost use Rattle.base.specs.Back.{schema-of, application-count, application-shown};
-ghost use Rattle.found.specs.Found.{First-row};
+ghost use Rattle.lookup.specs.Found.{First-row};
 ghost use Rattle.base.specs.Stored.{Stored};
 ghost use Rattle.conditions.specs.Reverse.{Reverse-of};
 ghost use Rattle.conditions.specs.Conditions.{Free-type, End-place};
@@ -69,7 +69,7 @@ pub fn is_present(base: &[u8], d: usize, t: usize) -> bool
     requires { ⌜ length (now base) ≡ base-length ⌝ }
     ensures { λ r. ⌜ r ≡ present (schema-of (now (base .entry))) d t ⌝ }
 {
-    found::presence_row(base, d, t) < base::used::presence_count(base)
+    lookup::presence_row(base, d, t) < base::used::presence_count(base)
 }
 
 // Whether type t is in some SDS.
@@ -152,7 +152,7 @@ pub fn end_row(base: &[u8], d: usize, l: usize, side: usize, o: usize) -> usize
     ensures { λ r. ⌜ End-place (now (base .entry)) d l (read-side side) o r ⌝ }
 {
     let n = base::used::end_count(base);
-    found::end_row(base, n, n, d, l, side, o)
+    lookup::end_row(base, n, n, d, l, side, o)
 }
 
 pub fn is_end(base: &[u8], d: usize, l: usize, side: usize, o: usize) -> bool

@@ -17,7 +17,8 @@ use Rattle.rules.specs.10-Changes.{with-presences, with-applications, with-ends
 use Rattle.rules.proofs.Bools.{and-of}
 use Rattle.rules.proofs.01-Lists.{any-at}
 use Rattle.rules.proofs.03-Names.{same-name-refl}
-use Rattle.rules.proofs.07-Picture.{read-presence, read-application, read-side, read-end, presence-back, application-back, end-back}
+use Rattle.rules.proofs.07-Picture.{presence-back, application-back, end-back}
+use Rattle.rules.specs.Read.{read-presence, read-application, read-side, read-end}
 use Rattle.rows.specs.Table.{Rises, Put-in, written, closed}
 use Rattle.rows.proofs.Written.{field-written}
 use Rattle.base.specs.Back.{schema-of}

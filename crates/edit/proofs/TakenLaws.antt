@@ -11,7 +11,8 @@ use Rattle.rules.specs.01-Lists.{_∈_, without}
 use Rattle.rules.specs.04-Schema.{Presence, Application, Side, End, system-presence, is-application, is-end, side-code}
 use Rattle.rules.specs.07-Picture.{end-row}
 use Rattle.rules.proofs.Bools.{and-both, and-of}
-use Rattle.rules.proofs.07-Picture.{read-side, read-end, end-back}
+use Rattle.rules.proofs.07-Picture.{end-back}
+use Rattle.rules.specs.Read.{read-side, read-end}
 use Rattle.base.specs.Rows.{application-at}
 use Rattle.base.specs.Back.{schema-of, presence-count, application-count, end-count, presence-shown, end-shown}
 use Rattle.base.specs.Stored.{Stored, less-row}

@@ -11,7 +11,8 @@ use Rattle.rules.specs.04-Schema.{Schema, Kind}
 use Rattle.rules.specs.04-Schema.Kind.{unused, object, attribute, designation, paired}
 use Rattle.rules.specs.07-Picture.{pad, type-row, sds-table, type-table, presence-table, application-table, end-table, picture}
 use Rattle.rules.specs.10-Changes.{with-types}
-use Rattle.rules.proofs.07-Picture.{read-kind, wide-type, kind-back}
+use Rattle.rules.proofs.07-Picture.{wide-type, kind-back}
+use Rattle.rules.specs.Read.{read-kind}
 use Rattle.rules.proofs.07-Picture.Fitting.{fits-unused, fits-object, fits-attribute, fits-designation, fits-paired}
 use Rattle.rows.specs.Table.{written}
 use Rattle.rows.proofs.Written.{field-written, written-past, written-before, table-set}

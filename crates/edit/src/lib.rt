@@ -11,7 +11,7 @@ ghost use Rattle.rules.specs.03-Names.{well-formed};
 ghost use Rattle.rules.specs.04-Schema.{bears, applied, has-end, presence-before, application-before, end-before, fresh};
 ghost use Rattle.rules.specs.07-Picture.{presence-row, sds-row, picture, base-length};
 ghost use Rattle.rules.specs.10-Changes.{with-presences, with-applications, with-ends};
-ghost use Rattle.rules.proofs.07-Picture.{read-side};
+ghost use Rattle.rules.specs.Read.{read-side};
 ghost use Rattle.base.specs.Back.{schema-of, presence-count, application-count, end-count};
 ghost use Rattle.base.specs.Stored.{Stored, Shows, less-row, Type-written, type-fields};
 ghost use Rattle.rows.specs.Table.{written};

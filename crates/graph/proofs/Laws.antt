@@ -21,7 +21,7 @@ use Rattle.rules.proofs.01-Lists.{Different}
 use Rattle.rules.proofs.05-Descent.{past, members-at-most, members-most}
 use Rattle.base.specs.Rows.{type-at}
 use Rattle.base.specs.Back.{schema-of}
-use Rattle.marks.proofs.Members.{members-le, members-same}
+use Rattle.type_set.proofs.Members.{members-le, members-same}
 use Rattle.graph.specs.Graph.{object-in, Parental, Grounded, Ready, Settled, Round}
 use Rattle.graph.specs.Graph.Grounded.{ground}
 use Rattle.graph.proofs.Rows.{object-below, parent-at, parent-place}

@@ -13,7 +13,8 @@ use Rattle.rules.specs.04-Schema.Kind.{unused, object, attribute, designation, 
 use Rattle.rules.specs.05-Descent.{Parent}
 use Rattle.rules.specs.07-Picture.{pad, type-row, Sound}
 use Rattle.rules.proofs.01-Lists.{at-place, place-in}
-use Rattle.rules.proofs.07-Picture.{read-kind, take-pad}
+use Rattle.rules.proofs.07-Picture.{take-pad}
+use Rattle.rules.specs.Read.{read-kind}
 use Rattle.rows.specs.Rows.{part}
 use Rattle.rows.proofs.Rows.{part-byte, part-part}
 use Rattle.base.specs.Rows.{type-at}

@@ -1,6 +1,6 @@
 // Whether no type is its own ancestor, from the rows of types alone.
 
-use marks::TypeSet;
+use type_set::TypeSet;
 use rules::Limits;
 ghost use mathlib.Core.Path.{_≡_};
 ghost use Prim.Native.Nat.{ℕ, _<_};
@@ -9,14 +9,14 @@ ghost use Rattle.rules.specs.05-Descent.{Descends, members};
 ghost use Rattle.rules.specs.07-Picture.{base-length};
 ghost use Rattle.rows.specs.Decides.{Decides};
 ghost use Rattle.base.specs.Back.{schema-of};
-ghost use Rattle.marks.specs.Set.{has};
+ghost use Rattle.type_set.specs.Set.{has};
 ghost use Rattle.graph.specs.Graph.{object-in, Parental, Ready, Round};
 
 fn is_object(base: &[u8], t: usize) -> bool
     requires { ⌜ length (now base) ≡ base-length ⌝ }
     ensures { λ r. ⌜ r ≡ object-in (now (base .entry)) t ⌝ }
 {
-    found::is_kind(base, t, 1)
+    lookup::is_kind(base, t, 1)
 }
 
 // How many object types there are.

@@ -21,12 +21,12 @@ use Rattle.rules.proofs.01-Lists.{any-at, any-where, numbers-none}
 use Rattle.rules.proofs.05-Descent.{members-in, members-of, child-object, past, descends-sound, descends-full}
 use Rattle.base.specs.Rows.{type-at}
 use Rattle.base.specs.Back.{schema-of}
-use Rattle.marks.specs.declared.TypeSet.{TypeSet}
-use Rattle.marks.specs.Set.{has}
-use Rattle.marks.specs.Round.{grow-to}
-use Rattle.marks.proofs.Set.{has-past}
-use Rattle.marks.proofs.Members.{members-same}
-use Rattle.marks.proofs.Round.{grow-cases, grow-taken}
+use Rattle.type_set.specs.declared.TypeSet.{TypeSet}
+use Rattle.type_set.specs.Set.{has}
+use Rattle.type_set.specs.Round.{grow-to}
+use Rattle.type_set.proofs.Set.{has-past}
+use Rattle.type_set.proofs.Members.{members-same}
+use Rattle.type_set.proofs.Round.{grow-cases, grow-taken}
 use Rattle.graph.specs.Graph.{Parental}
 use Rattle.kin.specs.Kin.{parents-of, children-of, ancestors-of, descendants-of, next-of, line-of}
 use Rattle.graph.proofs.Rows.{object-below, parent-below, parents-count, parents-place}

@@ -12,7 +12,7 @@ use lib.Seq.{drop-cons, getD-drop}
 use borrow.Author.Tests.{ltb-true, ltb-false, lt-ltb, le-ltb, eq-eqb, ne-eqb}
 use Rattle.rules.specs.01-Lists.{same-bytes, bytes-before}
 use Rattle.rules.proofs.01-Lists.{same-bytes-is, same-bytes-refl, before-transitive, before-first}
-use Rattle.fields.specs.Field.{blank-field}
+use Rattle.name_fields.specs.Field.{blank-field}
 use Rattle.rows.specs.Rows.{part, Rising, Filled, Counted, Level, Split, filled}
 use Rattle.rows.specs.Decides.{Decides}
 use Rattle.rows.proofs.Rows.{filled-is}

@@ -27,5 +27,5 @@ pub fn is_zero(base: &[u8], from: usize, to: usize) -> bool
     requires { ⌜ (from ≤ to) × (to ≤ length (now base)) ⌝ }
     ensures { λ r. ⌜ Decides (part (now (base .entry)) from (to - from) ≡ replicate (to - from) 0) r ⌝ }
 {
-    fields::is_blank_field(&base[from..to])
+    name_fields::is_blank_field(&base[from..to])
 }

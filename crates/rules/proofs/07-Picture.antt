@@ -19,6 +19,7 @@ use Rattle.rules.specs.04-Schema.Side.{origin, destination}
 use Rattle.rules.specs.06-Good.{Good}
 use Rattle.rules.specs.07-Picture.{pad, sds-width, sds-row, type-width, type-row, presence-width, presence-row, application-width}
 use Rattle.rules.specs.07-Picture.{application-row, end-width, end-row, table, sds-table, type-table, presence-table}
+use Rattle.rules.specs.Read.{strip, read-kind, read-presence, read-application, read-side, read-end}
 use Rattle.rules.specs.07-Picture.{application-table, end-table, picture, base-length, name-start}
 use Rattle.rules.proofs.01-Lists.{at-place, place-in}
 use Rattle.rules.proofs.03-Names.{formed-long, formed-no-zero}
@@ -36,12 +37,6 @@ length-pad w l = length-take w (l ++ replicate w 0) ∙ omega (arith, length-app
 pub take-pad : (w : ℕ) (l : List ℕ) → length l ≤ w → take (length l) (pad w l) ≡ l
 unfolding pad
 take-pad w l h = lib.Seq.take-take (length l) w (l ++ replicate w 0) h ∙ take-at l (replicate w 0) (length l) refl
-
--- what stands before the first zero
-unfoldable pub strip : List ℕ → List ℕ
-strip [] = []
-strip (zero ∷ l) = []
-strip (suc x ∷ l) = suc x ∷ strip l
 
 strip-zeros : (m j : ℕ) → strip (take m (replicate j 0)) ≡ []
 unfolding strip
@@ -90,27 +85,6 @@ wide-application x = refl
 pub wide-end : (e : End) → length (end-row e) ≡ end-width
 unfolding end-row
 wide-end e = refl
-
--- the kind that a row shows
-unfoldable pub read-kind : List ℕ → Kind
-read-kind r =
-    cond (eqb (getD r 0 0) 1) (object (take (getD r 3 0) (drop 4 r)))
-    (cond (eqb (getD r 0 0) 2) (attribute (getD r 1 0))
-    (cond (eqb (getD r 0 0) 3) (cond (eqb (getD r 1 0) 4) designation (paired (getD r 1 0) (getD r 2 0)))
-    unused))
-
-unfoldable pub read-presence : List ℕ → Presence
-read-presence r = record { sds = getD r 0 0; name = strip (take 16 (drop 1 r)); type = getD r 17 0 }
-
-unfoldable pub read-application : List ℕ → Application
-read-application r = record { sds = getD r 0 0; to = getD r 1 0; attribute = getD r 2 0 }
-
-unfoldable pub read-side : ℕ → Side
-read-side zero = origin
-read-side (suc n) = destination
-
-unfoldable pub read-end : List ℕ → End
-read-end r = record { sds = getD r 0 0; link = getD r 1 0; side = read-side (getD r 2 0); object = getD r 3 0 }
 
 -- a kind that a good schema has
 pub data Fitting : Kind → Type 0 where

@@ -14,3 +14,4 @@ pub mod 12-Contracts
 pub mod 13-History
 pub mod 14-Run
 pub mod 15-Cases
+pub mod Read

@@ -1,7 +1,7 @@
 // The run program: from a fresh base, a line printed for each line that is read. All but reading and writing is in `words` and `reply`.
 use base::Base;
-use words::Line;
-use words::input::Input;
+use run_words::Line;
+use run_words::input::Input;
 ghost use mathlib.Core.Path.{_≡_};
 ghost use lib.ListN.{length};
 ghost use Rattle.rules.specs.07-Picture.{base-length};
@@ -12,7 +12,7 @@ fn answer(base: &mut [u8], line: &[u8], out: &mut [u8])
     requires { ⌜ (length (now base) ≡ base-length) × (length (now out) ≡ 4096) ⌝ }
     ensures { λ _. ⌜ (length (now (base .exit)) ≡ base-length) × (length (now (out .exit)) ≡ 4096) ⌝ }
 {
-    let n = reply::reply(base, line, out);
+    let n = run_reply::reply(base, line, out);
     io::write_all(STDOUT, &out[..n]);
     io::write_all(STDOUT, b"\n");
 }
@@ -25,7 +25,7 @@ fn answer_all(base: &mut [u8], read: &mut [u8], line: &mut [u8], out: &mut [u8])
     let mut input = Input::start();
     let mut turns = u64::MAX;
     while 0 < turns {
-        input = words::input::next_line(read, line, input);
+        input = run_words::input::next_line(read, line, input);
         let n = input.kept;
         if input.over && n == 0 {
             return;
@@ -40,6 +40,6 @@ fn main() {
     let mut read = io::buffer();
     let mut line = [0u8; Line::KEPT];
     let mut out = io::buffer();
-    sdss::fresh(&mut base);
+    change_sdss::fresh(&mut base);
     answer_all(&mut base, &mut read, &mut line, &mut out);
 }

@@ -10,11 +10,11 @@ use Rattle.base.specs.Back.{schema-of, Canonical}
 use Rattle.base.proofs.Back.{sound-canonical, sound-good, is-sound}
 use Rattle.base.proofs.Shown.{presences-long, applications-long, ends-long, presence-read, end-read, sdss-long, types-long}
 use Rattle.base.proofs.Shown.{used-application, used-end}
-use Rattle.tables.specs.Parts.{Sdss, Presences, Rest}
-use Rattle.kinds.specs.Parts.{Kinds}
-use Rattle.ties.specs.Parts.{Parents, Reverses}
+use Rattle.check_rows.specs.Parts.{Sdss, Presences, Rest}
+use Rattle.check_types.specs.Parts.{Kinds}
+use Rattle.check_ties.specs.Parts.{Parents, Reverses}
 use Rattle.sound.specs.Parts.{Acyclic}
-use Rattle.closed.specs.Parts.{Closed}
+use Rattle.check_sdss.specs.Parts.{Closed}
 
 -- all the parts
 pub record Whole (b : List ℕ) : Type 0 where

@@ -10,26 +10,26 @@ pub fn is_sound(base: &[u8]) -> bool
     if base.len() != Base::LENGTH {
         return false;
     }
-    if !tables::named::sdss_fine(base) {
+    if !check_rows::named::sdss_fine(base) {
         return false;
     }
-    if !kinds::kinds_fine(base) {
+    if !check_types::kinds_fine(base) {
         return false;
     }
-    if !ties::parents_fine(base) {
+    if !check_ties::parents_fine(base) {
         return false;
     }
-    if !ties::reverses_fine(base) {
+    if !check_ties::reverses_fine(base) {
         return false;
     }
     if !graph::is_acyclic(base) {
         return false;
     }
-    if !tables::named::presences_fine(base) {
+    if !check_rows::named::presences_fine(base) {
         return false;
     }
-    if !tables::rest::rest_fine(base) {
+    if !check_rows::rest::rest_fine(base) {
         return false;
     }
-    closed::closed_fine(base)
+    check_sdss::closed_fine(base)
 }

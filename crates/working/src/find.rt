@@ -8,7 +8,7 @@ ghost use Rattle.rules.specs.01-Lists.{any};
 ghost use Rattle.rules.specs.04-Schema.{holds-name};
 ghost use Rattle.rules.specs.07-Picture.{Sound, base-length};
 ghost use Rattle.rules.specs.09-Refusals.{unknown-sds};
-ghost use Rattle.rules.proofs.07-Picture.{strip};
+ghost use Rattle.rules.specs.Read.{strip};
 ghost use Rattle.rows.specs.Rows.{part};
 ghost use Rattle.base.specs.Rows.{presence-at};
 ghost use Rattle.base.specs.Back.{schema-of, presence-count, presence-shown};
@@ -20,7 +20,7 @@ fn local_name(base: &[u8], i: usize) -> &[u8]
     ensures { λ r. ⌜ now r ≡ strip (part (now (base .entry)) (presence-at i + 1) 16) ⌝ }
 {
     let field = base::presence_field(base, i);
-    let n = fields::name_length(field);
+    let n = name_fields::name_length(field);
     &field[0..n]
 }
 

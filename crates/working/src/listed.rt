@@ -1,5 +1,5 @@
 // The SDSs that a list of their numbers stands for.
-use marks::TypeSet;
+use type_set::TypeSet;
 use rules::Limits;
 ghost use mathlib.Core.Path.{_≡_};
 ghost use mathlib.Core.Bool.{false};
@@ -10,7 +10,7 @@ ghost use Rattle.rules.specs.07-Picture.{base-length};
 ghost use Rattle.rules.specs.08-Working.{listed-sdss};
 ghost use Rattle.rules.specs.09-Refusals.{unknown-sds};
 ghost use Rattle.base.specs.Back.{schema-of};
-ghost use Rattle.marks.specs.Set.{has};
+ghost use Rattle.type_set.specs.Set.{has};
 ghost use Rattle.working.specs.Listed.{drawn-from};
 
 fn wide(x: u8) -> usize
@@ -28,7 +28,7 @@ pub fn has_unknown(base: &[u8], schema: &[u8]) -> bool
 {
     let mut i = 0;
     while i < schema.len() {
-        if !found::is_sds(base, wide(schema[i])) {
+        if !lookup::is_sds(base, wide(schema[i])) {
             return true;
         }
         i += 1;
@@ -88,7 +88,7 @@ pub fn listed(base: &[u8], schema: &[u8]) -> TypeSet
     let mut i = 0;
     while i < n {
         let d = sds_at(schema, i);
-        if found::is_sds(base, d) {
+        if lookup::is_sds(base, d) {
             s = s.add(d);
         }
         i += 1;

@@ -11,7 +11,7 @@ use Rattle.rules.specs.11-Asks.{find, find-refusals}
 use Rattle.rules.proofs.09-Refusals.{Left, passes, stops, ends}
 use Rattle.base.specs.Back.{schema-of}
 use Rattle.base.proofs.Kept.{sound-long, answered-spoiled, answered-as}
-use Rattle.scans.proofs.ViewLaws.{listed-small}
+use Rattle.ask_scans.proofs.ViewLaws.{listed-small}
 use Rattle.ask.proofs.FindLaws.{find-effect, find-left, well-named, ill-named, named, nameless}
 use Rattle.ask.proofs.find.Statement.{statement}
 use Rattle.ask.proofs.find.Tie as tie

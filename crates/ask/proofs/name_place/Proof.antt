@@ -10,7 +10,7 @@ use Rattle.rules.specs.09-Refusals.{success}
 use Rattle.rules.specs.11-Asks.{name, name-refusals}
 use Rattle.rules.proofs.09-Refusals.{Left, passes, stops, ends}
 use Rattle.base.specs.Back.{schema-of, presence-count}
-use Rattle.found.proofs.SdsShown.{known, unknown}
+use Rattle.lookup.proofs.SdsShown.{known, unknown}
 use Rattle.base.proofs.Kept.{sound-long, answered-spoiled, answered-as}
 use Rattle.ask.proofs.Laws.{name-effect, name-left, name-nowhere, name-there, start-is, length-is}
 use Rattle.ask.proofs.name_place.Statement.{statement}

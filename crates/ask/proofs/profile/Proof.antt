@@ -3,7 +3,7 @@ use native.Mathlib.Omega.{arith}
 use Rattle.rules.specs.12-Contracts.{room}
 use Rattle.base.specs.Back.{schema-of}
 use Rattle.base.proofs.TestedLaws.{listed-stops}
-use Rattle.scans.proofs.ViewLaws.{viewed-passes}
+use Rattle.ask_scans.proofs.ViewLaws.{viewed-passes}
 use Rattle.rules.specs.11-Asks.{profile-list}
 use Rattle.ask.proofs.CallLaws.{profile-left, room-test, object-list, listed-three}
 use Rattle.ask.proofs.profile.Statement.{statement}

@@ -2,7 +2,7 @@ use borrow.Author.Needs.{needs}
 use native.Mathlib.Omega.{arith}
 use mathlib.Core.Path.{_≡_, refl, _∙_}
 use lib.ListN.{length}
-use Rattle.words.specs.Input.{Within}
+use Rattle.run_words.specs.Input.{Within}
 use Rattle.cases.proofs.tell_all.Statement.{statement}
 use Rattle.cases.proofs.tell_all.Tie as tie
 

@@ -8,7 +8,7 @@ use lib.Dec.{eqb}
 use borrow.Author.Count.{below-none, below-more}
 use borrow.Author.Tests.{eq-eqb, ne-eqb}
 use Rattle.base.specs.Back.{presence-shown}
-use Rattle.found.proofs.Walked.{some-presence, no-presence}
+use Rattle.lookup.proofs.Walked.{some-presence, no-presence}
 use Rattle.conditions.proofs.is_elsewhere.Statement.{statement}
 use Rattle.conditions.proofs.is_elsewhere.Tie as tie
 

@@ -2,7 +2,7 @@
 use borrow.Author.Needs.{needs}
 use mathlib.Core.Path.{sym, _∙_}
 use Rattle.rules.specs.04-Schema.{End}
-use Rattle.rules.proofs.07-Picture.{read-side}
+use Rattle.rules.specs.Read.{read-side}
 use Rattle.base.proofs.Shown.{ends-long}
 use Rattle.base.proofs.StoredLaws.{stored-long}
 use Rattle.edit.proofs.EditLaws.{the-ends, ready, row-put, end-built, end-unlike}

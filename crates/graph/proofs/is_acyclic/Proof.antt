@@ -7,8 +7,8 @@ use Rattle.rules.specs.05-Descent.{members}
 use Rattle.rules.proofs.05-Descent.{members-most}
 use Rattle.rows.proofs.Decides.{decides-no, decides-yes}
 use Rattle.base.specs.Back.{schema-of}
-use Rattle.marks.specs.Set.{has}
-use Rattle.marks.proofs.Members.{members-le}
+use Rattle.type_set.specs.Set.{has}
+use Rattle.type_set.proofs.Members.{members-le}
 use Rattle.graph.specs.Graph.{Settled}
 use Rattle.graph.proofs.Laws.{settled-none, all-settled, none-added}
 use Rattle.graph.proofs.is_acyclic.Statement.{statement}

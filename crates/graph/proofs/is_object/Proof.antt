@@ -1,7 +1,7 @@
 -- `graph::is_object` meets its contract: 1 is the code of the object types. Assumes nothing.
 use native.Mathlib.Omega.{arith}
 use mathlib.Core.Path.{sym}
-use Rattle.found.proofs.KindBytes.{told-object}
+use Rattle.lookup.proofs.KindBytes.{told-object}
 use Rattle.graph.proofs.is_object.Statement.{statement}
 use Rattle.graph.proofs.is_object.Tie as tie
 

@@ -9,7 +9,7 @@ use borrow.Author.Count.{below-none, below-more}
 use borrow.Author.Tests.{not-true, not-false}
 use Rattle.rows.proofs.Decides.{decides-no, decides-yes}
 use Rattle.base.specs.Rows.{type-at}
-use Rattle.marks.specs.Set.{has}
+use Rattle.type_set.specs.Set.{has}
 use Rattle.graph.proofs.Rows.{count-few, parent-at, parent-below}
 use Rattle.graph.proofs.Laws.{lacks-parent, has-parents}
 use Rattle.graph.proofs.is_ready.Statement.{statement}

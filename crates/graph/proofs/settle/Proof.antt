@@ -5,8 +5,8 @@ use mathlib.Core.Path.{_≡_, ap, _∙_}
 use mathlib.Core.Logic.{⊎-elim}
 use native.Mathlib.Omega.{arith}
 use Rattle.base.specs.Back.{schema-of}
-use Rattle.marks.specs.declared.TypeSet.{TypeSet}
-use Rattle.marks.specs.Set.{has}
+use Rattle.type_set.specs.declared.TypeSet.{TypeSet}
+use Rattle.type_set.specs.Set.{has}
 use Rattle.graph.specs.Graph.{Round}
 use Rattle.graph.proofs.Laws.{round-none, round-more, round-skip}
 use Rattle.graph.proofs.settle.Statement.{statement}

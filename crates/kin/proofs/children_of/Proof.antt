@@ -7,10 +7,10 @@ use mathlib.Core.Logic.{⊎-elim}
 use native.Mathlib.Omega.{arith}
 use lib.Dec.{eqb}
 use Rattle.base.specs.Back.{schema-of}
-use Rattle.marks.specs.declared.TypeSet.{TypeSet}
-use Rattle.marks.specs.Set.{has}
-use Rattle.marks.specs.Round.{grow-to}
-use Rattle.marks.proofs.Round.{grow-none, grow-add, grow-skip}
+use Rattle.type_set.specs.declared.TypeSet.{TypeSet}
+use Rattle.type_set.specs.Set.{has}
+use Rattle.type_set.specs.Round.{grow-to}
+use Rattle.type_set.proofs.Round.{grow-none, grow-add, grow-skip}
 use Rattle.kin.specs.Kin.{children-of}
 use Rattle.kin.proofs.KinLaws.{children-all}
 use Rattle.kin.proofs.children_of.Statement.{statement}

@@ -3,7 +3,7 @@ use Prim.Native.Nat.{_-_, _≤_}
 use mathlib.Core.Path.{sym, ap, _∙_}
 use native.Mathlib.Omega.{arith}
 use Rattle.base.specs.Back.{schema-of}
-use Rattle.marks.specs.Set.{has}
+use Rattle.type_set.specs.Set.{has}
 use Rattle.graph.proofs.Rows.{count-few, parent-at, parent-below}
 use Rattle.kin.proofs.KinLaws.{Finds, finds-none, finds-here, finds-more, finds-all}
 use Rattle.kin.proofs.has_parent_in.Statement.{statement}

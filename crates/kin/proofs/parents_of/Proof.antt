@@ -5,8 +5,8 @@ use mathlib.Core.Path.{sym, ap, _∙_}
 use mathlib.Core.Logic.{⊎-elim}
 use native.Mathlib.Omega.{arith}
 use Rattle.base.specs.Back.{schema-of}
-use Rattle.marks.specs.declared.TypeSet.{TypeSet}
-use Rattle.marks.specs.Set.{has}
+use Rattle.type_set.specs.declared.TypeSet.{TypeSet}
+use Rattle.type_set.specs.Set.{has}
 use Rattle.kin.proofs.KinLaws.{Parents-past, parents-none, parents-more, parents-skip, parents-all}
 use Rattle.kin.proofs.parents_of.Statement.{statement}
 use Rattle.kin.proofs.parents_of.Tie as tie

@@ -3,7 +3,7 @@ use native.Mathlib.Omega.{arith}
 use mathlib.Core.Path.{_≡_}
 use lib.ListN.{length, length-take}
 use Rattle.rules.specs.07-Picture.{base-length}
-use Rattle.words.specs.Input.{Within}
+use Rattle.run_words.specs.Input.{Within}
 use Rattle.run.proofs.answer_all.Statement.{statement}
 use Rattle.run.proofs.answer_all.Tie as tie
 

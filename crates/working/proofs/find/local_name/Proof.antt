@@ -4,7 +4,7 @@ use Prim.Native.Nat.{ℕ, _-_}
 use native.Mathlib.Omega.{arith}
 use mathlib.Core.Path.{_≡_, ap, _∙_}
 use lib.ListN.{take}
-use Rattle.rules.proofs.07-Picture.{strip}
+use Rattle.rules.specs.Read.{strip}
 use Rattle.working.proofs.find.local_name.Statement.{statement}
 use Rattle.working.proofs.find.local_name.Tie as tie
 

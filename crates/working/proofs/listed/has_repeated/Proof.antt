@@ -6,7 +6,7 @@ use mathlib.Core.Path.{ap, sym, _∙_}
 use mathlib.Core.Bool.{_||_}
 use lib.Dec.{eqb}
 use lib.ListN.{length}
-use Rattle.marks.specs.Set.{has}
+use Rattle.type_set.specs.Set.{has}
 use Rattle.working.proofs.ListedLaws.{Met, met-none, met-twice, met-more, met-all}
 use Rattle.working.proofs.listed.has_repeated.Statement.{statement}
 use Rattle.working.proofs.listed.has_repeated.Tie as tie

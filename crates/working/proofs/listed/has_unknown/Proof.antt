@@ -10,7 +10,7 @@ use borrow.Author.Tests.{not-true, not-false}
 use Rattle.rules.specs.04-Schema.{used-sds}
 use Rattle.rules.specs.09-Refusals.{unknown-sds}
 use Rattle.base.specs.Back.{schema-of}
-use Rattle.found.proofs.SdsShown.{known, unknown}
+use Rattle.lookup.proofs.SdsShown.{known, unknown}
 use Rattle.working.proofs.ListedLaws.{any-there, any-nowhere}
 use Rattle.working.proofs.listed.has_unknown.Statement.{statement}
 use Rattle.working.proofs.listed.has_unknown.Tie as tie

@@ -10,9 +10,9 @@ use lib.Dec.{eqb}
 use lib.ListN.{length}
 use Rattle.rules.specs.01-Lists.{among}
 use Rattle.base.specs.Back.{schema-of}
-use Rattle.found.proofs.SdsShown.{used-below}
-use Rattle.marks.specs.declared.TypeSet.{TypeSet}
-use Rattle.marks.specs.Set.{has}
+use Rattle.lookup.proofs.SdsShown.{used-below}
+use Rattle.type_set.specs.declared.TypeSet.{TypeSet}
+use Rattle.type_set.specs.Set.{has}
 use Rattle.working.specs.Listed.{drawn-from}
 use Rattle.working.proofs.ListedLaws.{Gathered, gathered-none, gathered-skip, gathered-more, gathered-all, unused-sds, listed-is}
 use Rattle.working.proofs.listed.listed.Statement.{statement}

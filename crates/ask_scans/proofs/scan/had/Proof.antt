@@ -1,0 +1,46 @@
+use borrow.Author.Needs.{needs}
+use Prim.Native.Nat.{ℕ, _<_}
+use native.Mathlib.Omega.{arith}
+use mathlib.Core.Path.{_≡_, refl, sym, ap, _∙_}
+use mathlib.Core.Bool.{_||_, or-false}
+use lib.Dec.{eqb}
+use Rattle.graph.proofs.Rows.{good-parental}
+use Rattle.type_set.specs.Set.{has}
+use Rattle.type_set.proofs.Set.{has-past}
+use Rattle.ask_scans.proofs.ScanLaws.{attribute-scans, origin-scans, destination-scans}
+use Rattle.ask_scans.proofs.scan.had.Statement.{statement}
+use Rattle.ask_scans.proofs.scan.had.Tie as tie
+
+sources-requires : tie.Need-sources-requires
+sources-requires c κs = (c .before .pre .0, c .before .pre .1 .0)
+
+attributes-requires : tie.Need-attributes-requires
+attributes-requires c κs = c .before .before .before .pre .0
+
+returns : tie.Need-returns
+returns c = attribute-scans _ _ _ _ _ (c .before .before .sources .ensures) _ (c .before .before .before .before .pre .1 .1 .0) (c .before .if1 .taken) (c .attributes .ensures)
+
+links-requires : tie.Need-links-requires
+links-requires c κs = c .before .before .before .before .pre .0
+
+returns-2 : tie.Need-returns-2
+returns-2 c = origin-scans _ _ _ _ _ (c .before .before .before .sources .ensures) _ (omega (arith, c .before .before .if1 .left)) (c .before .if2 .taken) (c .links .ensures)
+
+links-requires-2 : tie.Need-links-requires-2
+links-requires-2 c κs = c .before .before .before .before .pre .0
+
+returns-3 : tie.Need-returns-3
+returns-3 c = destination-scans _ _ _ _ _ (c .before .before .before .sources .ensures) _ (omega (arith, c .before .if2 .left))
+    (c .before .before .before .before .before .pre .1 .1 .1) (c .links2 .ensures)
+
+pub had-spec : {M : Type 1} → statement M
+had-spec =
+    tie.close
+    (tie.spec
+    sources-requires
+    attributes-requires
+    returns
+    links-requires
+    returns-2
+    links-requires-2
+    returns-3)

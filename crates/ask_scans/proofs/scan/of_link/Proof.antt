@@ -1,0 +1,33 @@
+use borrow.Author.Needs.{needs}
+use Prim.Native.Nat.{ℕ, _<_}
+use native.Mathlib.Omega.{arith}
+use mathlib.Core.Path.{_≡_, refl, sym, ap, _∙_}
+use mathlib.Core.Bool.{_||_, or-false}
+use lib.Dec.{eqb}
+use Rattle.graph.proofs.Rows.{good-parental}
+use Rattle.type_set.specs.Set.{has}
+use Rattle.type_set.proofs.Set.{has-past}
+use Rattle.ask_scans.proofs.ScanLaws.{one-among, applied-scan}
+use Rattle.ask_scans.proofs.scan.of_link.Statement.{statement}
+use Rattle.ask_scans.proofs.scan.of_link.Tie as tie
+
+ends-requires : tie.Need-ends-requires
+ends-requires c κs = (c .before .before .pre .0, omega (arith, c .if1 .taken))
+
+returns : tie.Need-returns
+returns c = search needs
+
+one-requires : tie.Need-one-requires
+one-requires c κs = c .before .before .pre .1 .0
+
+attributes-requires : tie.Need-attributes-requires
+attributes-requires c κs = c .before .before .before .pre .0
+
+returns-2 : tie.Need-returns-2
+returns-2 c =
+    let last : c .before .before .before .before .args .code ≡ 4 = omega (arith, c .before .before .if1 .left, c .before .before .before .before .pre .1 .1) in
+    applied-scan _ _ _ _ last _ _ (one-among _ _ (c .before .before .before .before .pre .1 .0) (c .before .one .ensures)) (c .attributes .ensures)
+
+pub of-link-spec : {M : Type 1} → statement M
+of-link-spec =
+    tie.close (tie.spec ends-requires returns one-requires attributes-requires returns-2)

@@ -1,0 +1,26 @@
+use borrow.Author.Needs.{needs}
+use Prim.Native.Nat.{ℕ, _<_}
+use native.Mathlib.Omega.{arith}
+use mathlib.Core.Path.{_≡_, refl, sym, ap, _∙_}
+use mathlib.Core.Bool.{_||_, or-false}
+use lib.Dec.{eqb}
+use Rattle.graph.proofs.Rows.{good-parental}
+use Rattle.type_set.specs.Set.{has}
+use Rattle.type_set.proofs.Set.{has-past}
+use Rattle.ask_scans.proofs.scan.of_object.Statement.{statement}
+use Rattle.ask_scans.proofs.scan.of_object.Tie as tie
+
+kin-requires : tie.Need-kin-requires
+kin-requires c κs = search needs
+
+returns : tie.Need-returns
+returns c = record { is = λ w listed k. c .kin .ensures w k }
+
+had-requires : tie.Need-had-requires
+had-requires c κs = search needs
+
+returns-2 : tie.Need-returns-2
+returns-2 c = search needs
+
+pub of-object-spec : {M : Type 1} → statement M
+of-object-spec = tie.close (tie.spec kin-requires returns had-requires returns-2)

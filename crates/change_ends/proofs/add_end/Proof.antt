@@ -1,0 +1,211 @@
+use borrow.Author.Needs.{needs}
+use Prim.Native.Nat.{_<_}
+use native.Mathlib.Omega.{arith}
+use mathlib.Core.Path.{_≡_, sym, _∙_}
+use mathlib.Core.Bool.{false}
+use Rattle.rules.specs.04-Schema.{has-end}
+use Rattle.rules.specs.Read.{read-side}
+use Rattle.rules.proofs.09-Refusals.{passes, stops, ends}
+use Rattle.base.specs.Back.{schema-of}
+use Rattle.lookup.proofs.SdsShown.{used-below}
+use Rattle.base.proofs.Kept.{sound-long, kept-refused, kept-done}
+use Rattle.base.proofs.StoredLaws.{sound-stored, shows-stored}
+use Rattle.base.proofs.TestedLaws.{begun-stops}
+use Rattle.change_ends.specs.Ends.{Through}
+use Rattle.change_ends.proofs.EndLaws.{add-left, add-tests, full-is, room-first, room-second, second-free, added-one, added-both}
+use Rattle.change_ends.proofs.add_end.Statement.{statement}
+use Rattle.change_ends.proofs.add_end.Tie as tie
+
+through-1 : (c : tie.Else1) → let x = c .before .before .before .before .before .before .before .args in Through (x .base .now) (x .sds)
+    (x .link .now) (x .object .now) (c .before .before .aimed-at .result)
+through-1 c = c .before .before .aimed-at .ensures .through (c .if1 .left)
+
+sds-1 : (c : tie.Else1) → c .before .before .before .before .before .before .before .args .sds < 16
+sds-1 c = used-below _ (sound-long (through-1 c .sound)) _ (through-1 c .used)
+
+free-2 : (c : tie.Else2) → let x = c .before .before .before .before .before .before .before .before .before .before .args in has-end
+    (schema-of (x .base .now)) (x .sds) (c .before .before .before .before .before .aimed-at .result .link) (read-side (x .side))
+    (c .before .before .before .before .before .aimed-at .result .object) ≡ false
+free-2 c = sym (c .before .is-end .ensures) ∙ c .if2 .left
+
+aimed-at-requires : tie.Need-aimed-at-requires
+aimed-at-requires c κs = search needs
+
+refused-requires : tie.Need-refused-requires
+refused-requires c κs = search needs
+
+same-length : tie.Need-same-length
+same-length c = search needs
+
+returns : tie.Need-returns
+returns c = begun-stops _ (c .before .before .before .aimed-at .ensures .told) (c .before .if1 .taken) (add-left _ _ _ _ _) (c .refused .ensures)
+
+is-end-requires : tie.Need-is-end-requires
+is-end-requires c κs =
+    let th = through-1 (c .before) in (
+      th .sound,
+      (
+        omega (arith, sds-1 (c .before)),
+        (
+          omega (arith, th .link-below),
+          (c .before .before .before .before .before .before .before .before .pre, omega (arith, th .object-below)),
+        ),
+      ),
+    )
+
+refused-requires-2 : tie.Need-refused-requires-2
+refused-requires-2 c κs = search needs
+
+same-length-2 : tie.Need-same-length-2
+same-length-2 c = search needs
+
+returns-2 : tie.Need-returns-2
+returns-2 c = kept-refused (through-1 (c .before .before .before .before) .sound)
+    (stops (add-tests (c .before .before .before .before .before .before .aimed-at .ensures) (c .before .before .before .before .if1 .left) _)
+    (sym (c .before .before .is-end .ensures) ∙ c .before .if2 .taken)) (c .refused2 .ensures)
+
+reverse-of-requires : tie.Need-reverse-of-requires
+reverse-of-requires c κs = let th = through-1 (c .before .before .before .before) in (th .sound, th .link-below)
+
+is-full-requires : tie.Need-is-full-requires
+is-full-requires c κs = sound-long (through-1 (c .before .before .before .before .before .before) .sound)
+
+refused-requires-3 : tie.Need-refused-requires-3
+refused-requires-3 c κs = search needs
+
+same-length-3 : tie.Need-same-length-3
+same-length-3 c = search needs
+
+returns-3 : tie.Need-returns-3
+returns-3 c =
+    kept-refused (through-1 (c .before .before .before .before .before .before .before .before .before) .sound)
+    (stops (passes (add-tests (c .before .before .before .before .before .before .before .before .before .before .before .aimed-at .ensures)
+    (c .before .before .before .before .before .before .before .before .before .if1 .left) _)
+    (free-2 (c .before .before .before .before .before .before)))
+    (sym (full-is (c .before .before .before .before .reverse-of .ensures)) ∙ sym (c .before .before .is-full .ensures) ∙ c .before .if3 .taken)) (c .refused3 .ensures)
+
+put-end-requires : tie.Need-put-end-requires
+put-end-requires c κs =
+    let th = through-1 (c .before .before .before .before .before .before .before .before .before) in (
+      sound-stored (th .sound),
+      (
+        (
+          th .outside,
+          (
+            omega (arith, sds-1 (c .before .before .before .before .before .before .before .before .before)),
+            (
+              omega (arith, th .link-below),
+              (
+                c .before .before .before .before .before .before .before .before .before .before .before .before .before .before .before .before .pre,
+                omega (arith, th .object-below),
+              ),
+            ),
+          ),
+        ),
+        (
+          room-first _ (c .before .before .before .before .reverse-of .ensures) (sym (c .before .before .is-full .ensures) ∙ c .before .if3 .left),
+          free-2 (c .before .before .before .before .before .before),
+        ),
+      ),
+    )
+
+done-requires : tie.Need-done-requires
+done-requires c κs = search needs
+
+same-length-4 : tie.Need-same-length-4
+same-length-4 c = search needs
+
+returns-4 : tie.Need-returns-4
+returns-4 c =
+    let rev = c .before .before .before .before .before .before .before .before .before .reverse-of .ensures in
+    let room = sym (c .before .before .before .before .before .before .before .is-full .ensures) ∙ c .before .before .before .before .before .before .if3 .left in
+    kept-done (through-1 (c .before .before .before .before .before .before .before .before .before .before .before .before .before .before) .sound)
+    (ends (passes (passes
+    (add-tests (c .before .before .before .before .before .before .before .before .before .before .before .before .before .before .before .before
+    .aimed-at .ensures) (c .before .before .before .before .before .before .before .before .before .before .before .before .before .before
+    .if1 .left) _) (free-2 (c .before .before .before .before .before .before .before .before .before .before .before))) (sym (full-is rev) ∙
+    room)))
+    (c .done .ensures) (added-one _ rev room _ _ _ (c .before .before .before .before .put-end .ensures) (c .before .if4 .taken))
+
+sub-put-end : tie.Need-sub-put-end
+sub-put-end c = search needs
+
+put-end-requires-2 : tie.Need-put-end-requires-2
+put-end-requires-2 c κs =
+    let th = through-1 (c .before .before .before .before .before .before .before .before .before .before .before .before .before .before) in
+    let rev = c .before .before .before .before .before .before .before .before .before .reverse-of .ensures in
+    let room = sym (c .before .before .before .before .before .before .before .is-full .ensures) ∙ c .before .before .before .before .before .before .if3 .left in
+    let out = c .before .before .before .before .put-end .ensures in
+    let below : c .before .before .before .before .before .before .before .before .before .reverse-of .result < 128 = omega (arith, rev .fits, c .before .if4 .left) in (
+      shows-stored out,
+      (
+        (
+          th .outside,
+          (
+            omega (
+              arith,
+              sds-1
+                  (c .before .before .before .before .before .before .before .before .before .before .before .before .before .before),
+            ),
+            (omega (arith, below), (omega arith, omega (arith, th .object-below))),
+          ),
+        ),
+        (
+          room-second _ rev room _ _ _ out below,
+          second-free _ rev room _ _ _
+              (c .before .before .before .before .before .before .before .before .before .before .before .before .before .before .before .before
+              .before .before .before .before .before .pre) out below (th .sound) (free-2 (c .before .before .before .before .before .before
+              .before .before .before .before .before)),
+        ),
+      ),
+    )
+
+done-requires-2 : tie.Need-done-requires-2
+done-requires-2 c κs = search needs
+
+same-length-5 : tie.Need-same-length-5
+same-length-5 c = search needs
+
+returns-5 : tie.Need-returns-5
+returns-5 c =
+    let rev = c .before .before .before .before .before .before .before .before .before .before .before .before .before .reverse-of .ensures in
+    let room = sym (c .before .before .before .before .before .before .before .before .before .before .before .is-full .ensures) ∙
+    c .before .before .before .before .before .before .before .before .before .before .if3 .left in
+    kept-done (through-1 (c .before .before .before .before .before .before .before .before .before .before .before .before .before .before .before
+    .before .before .before) .sound) (ends (passes (passes (add-tests (c .before .before .before .before .before .before .before .before .before
+    .before .before .before .before .before .before .before .before .before .before .before .aimed-at .ensures) (c .before .before .before
+    .before .before .before .before .before .before .before .before .before .before .before .before .before .before .before .if1 .left) _)
+    (free-2 (c .before .before .before .before .before .before .before .before .before .before .before .before .before .before .before))) (sym
+    (full-is rev) ∙ room)))
+    (c .done2 .ensures) (added-both _ rev room _ _ _
+    (c .before .before .before .before .before .before .before .before .before .before .before .before .before .before .before .before .before
+    .before .before .before .before .before .before .before .before .pre) (c .before .before .before .before .before .before .before .before
+    .put-end .ensures) (omega (arith, rev .fits, c .before .before .before .before .before .if4 .left)) (c .before .before .before .put-end2
+    .ensures))
+
+pub add-end-spec : {M : Type 1} → statement M
+add-end-spec =
+    tie.close
+    (tie.spec
+    aimed-at-requires
+    refused-requires
+    same-length
+    returns
+    is-end-requires
+    refused-requires-2
+    same-length-2
+    returns-2
+    reverse-of-requires
+    is-full-requires
+    refused-requires-3
+    same-length-3
+    returns-3
+    put-end-requires
+    done-requires
+    same-length-4
+    returns-4
+    sub-put-end
+    put-end-requires-2
+    done-requires-2
+    same-length-5
+    returns-5)

@@ -1,0 +1,17 @@
+use borrow.Author.Needs.{needs}
+use Rattle.rules.specs.Read.{read-side}
+use Rattle.change_ends.proofs.apply_link.Statement.{statement}
+use Rattle.change_ends.proofs.apply_link.Tie as tie
+
+add-end-requires : tie.Need-add-end-requires
+add-end-requires c κs = search needs
+
+same-length : tie.Need-same-length
+same-length c = search needs
+
+returns : tie.Need-returns
+unfolding read-side
+returns c = c .before .before .add-end .ensures
+
+pub apply-link-spec : {M : Type 1} → statement M
+apply-link-spec = tie.close (tie.spec add-end-requires same-length returns)

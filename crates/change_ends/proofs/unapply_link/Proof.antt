@@ -1,0 +1,17 @@
+use borrow.Author.Needs.{needs}
+use Rattle.rules.specs.Read.{read-side}
+use Rattle.change_ends.proofs.unapply_link.Statement.{statement}
+use Rattle.change_ends.proofs.unapply_link.Tie as tie
+
+remove-end-requires : tie.Need-remove-end-requires
+remove-end-requires c κs = search needs
+
+same-length : tie.Need-same-length
+same-length c = search needs
+
+returns : tie.Need-returns
+unfolding read-side
+returns c = c .before .before .remove-end .ensures
+
+pub unapply-link-spec : {M : Type 1} → statement M
+unapply-link-spec = tie.close (tie.spec remove-end-requires same-length returns)

@@ -1,0 +1,255 @@
+-- Import: its refusals test by test, the names that it fills in, and the presences that come into the target. Assumes nothing.
+use Prim.Native.Nat.{ℕ, _+_, _-_, _≤_, _<_}
+use native.Mathlib.Omega.{arith}
+use mathlib.Core.Path.{_≡_, refl, sym, ap, _∙_}
+use mathlib.Core.List.{List, [], _∷_, map, append-nil}
+use mathlib.Core.Bool.{Bool, true, false, not, cond, _&&_, _||_, true≢false}
+use lib.Dec.{leb, ltb, eqb}
+use lib.ListN.{length, getD, take, replicate}
+use borrow.Author.Tests.{eq-eqb, ne-eqb, ltb-true, ltb-false, lt-ltb, le-ltb, le-leb, lt-leb, leb-false}
+use Rattle.rules.specs.declared.Answer.{Answer}
+use Rattle.rules.specs.01-Lists.{all, first, put}
+use Rattle.rules.specs.03-Names.{Name, well-formed, blank, same-name}
+use Rattle.rules.specs.04-Schema.{Schema, Presence, used-sds, reverse, holds-type, holds-name, present, bears, type-named, local-name}
+use Rattle.rules.specs.04-Schema.{presence-before}
+use Rattle.rules.specs.06-Good.{Good}
+use Rattle.rules.specs.07-Picture.{Sound, pad, picture, base-length}
+use Rattle.rules.specs.09-Refusals.{Outcome, verdict, unknown-sds, malformed, malformed-new, idle-reverse-name, names-taken, presences-full}
+use Rattle.rules.specs.09-Refusals.Outcome.{done}
+use Rattle.rules.specs.10-Changes.{with-presences, put-all, filled, imported, import}
+use Rattle.rules.specs.12-Contracts.{Kept}
+use Rattle.rules.proofs.Bools.{and-rest, or-neither}
+use Rattle.rules.proofs.Edits.{put-long, put-none, first-in}
+use Rattle.rules.proofs.03-Names.{formed-long}
+use Rattle.rules.proofs.07-Picture.{strip-pad}
+use Rattle.rules.specs.Read.{strip}
+use Rattle.rules.proofs.09-Refusals.{Left}
+use Rattle.rows.specs.Rows.{part}
+use Rattle.rows.specs.Table.{written}
+use Rattle.rows.proofs.Scan.{length-part}
+use Rattle.rows.proofs.Written.{written-over, field-written}
+use Rattle.base.specs.Rows.{presence-at}
+use Rattle.base.specs.Back.{schema-of, presence-count}
+use Rattle.lookup.specs.Found.{Presence-row}
+use Rattle.base.specs.Stored.{Shows}
+use Rattle.base.proofs.Back.{sound-good}
+use Rattle.base.proofs.Kept.{sound-long, kept-like}
+use Rattle.lookup.proofs.SdsShown.{known, unknown}
+use Rattle.base.proofs.Shown.{presences-long}
+use Rattle.base.proofs.StoredLaws.{shows-schema, shows-next}
+use Rattle.lookup.proofs.Walked.{row-below, row-name}
+use Rattle.name_fields.specs.Field.{Stripped}
+use Rattle.conditions.specs.Reverse.{one-or-none, Reverse-of}
+use Rattle.base.specs.Tested.{Tested}
+use Rattle.conditions.proofs.ReverseLaws.{one-is, none-is}
+use Rattle.base.proofs.TestedLaws.{tested-passes}
+use Rattle.change_imports.specs.declared.Named.{Named}
+use Rattle.change_imports.specs.Import.{first-refusals, Chosen, presence-of, enter-refusals, enter}
+
+-- ---- the tests of the SDSs, of the names and of the reverse
+
+pub unknown-is : (b : List ℕ) → length b ≡ base-length → (d : ℕ) {r : Bool} → r ≡ used-sds (schema-of b) d → not r ≡ unknown-sds (schema-of b) d
+unknown-is b l d {r} e = go r e
+  where
+    go : (x : Bool) → x ≡ used-sds (schema-of b) d → not x ≡ unknown-sds (schema-of b) d
+    go true e = sym (known b l d (sym e))
+    go false e = sym (unknown b l d (sym e))
+
+pub first-below : (s : Schema) (d e : ℕ) → unknown-sds s d || unknown-sds s e ≡ false → d < 16
+unfolding unknown-sds
+first-below s d e h = leb-false 16 d (or-neither (leb 16 d) (not (used-sds s d)) (or-neither (unknown-sds s d) (unknown-sds s e) h .0) .0)
+
+pub malformed-is : {r : Bool} (n : Name) → r ≡ well-formed n → not r ≡ malformed n
+unfolding malformed
+malformed-is n e = ap not e
+
+pub blank-fine : (n : Name) → length n ≡ 0 → false ≡ malformed-new n
+unfolding malformed-new
+blank-fine n e = rw (eq-eqb (length n) 0 e)
+
+pub given-tested : {r : Bool} (n : Name) → (length n ≡ 0 → ⊥) → r ≡ well-formed n → not r ≡ malformed-new n
+unfolding malformed-new
+given-tested n h e = rw (ne-eqb (length n) 0 h) (malformed-is n e)
+
+pub blank-idle : (n : Name) (x : Bool) → length n ≡ 0 → false ≡ not (blank n) && x
+blank-idle n x e = rw (eq-eqb (length n) 0 e)
+
+pub given-idle : (n : Name) (r : ℕ) → (length n ≡ 0 → ⊥) → leb 128 r ≡ not (blank n) && eqb (length (one-or-none r)) 0
+given-idle n r h = rw (ne-eqb (length n) 0 h) (go (ltb r 128) refl)
+  where
+    go : (x : Bool) → ltb r 128 ≡ x → leb 128 r ≡ eqb (length (cond x (r ∷ []) [])) 0
+    go true e = lt-leb 128 r (ltb-true r 128 e)
+    go false e = le-leb 128 r (ltb-false r 128 e)
+
+pub idle-is : {s : Schema} {t t′ r : ℕ} {x : Bool} (n : Name) → t ≡ t′ → Reverse-of s t r → x ≡ not (blank n) && eqb (length (one-or-none r)) 0
+    → idle-reverse-name s t′ n ≡ x
+unfolding idle-reverse-name
+idle-is {s} n e rev q = ap (λ (l : List ℕ). not (blank n) && eqb (length l) 0) (ap (reverse s) (sym e) ∙ rev .is) ∙ sym q
+
+-- ---- what is tested before the names are filled in
+
+-- what was tested of the type that was found
+pub of-named : {t t′ : ℕ} {x : Bool} (p : ℕ → Bool) → t ≡ t′ → x ≡ p t → p t′ ≡ x
+of-named p e q = ap p (sym e) ∙ sym q
+
+module _ {b : List ℕ} {target source : ℕ} {n new new-reverse : Name} {v : Named} where
+  pub not-chosen : Tested b (first-refusals target source n new new-reverse (schema-of b)) (v .no) → (v .no ≡ 0 → ⊥)
+      → Chosen b target source n new new-reverse v
+  not-chosen r z = record { told = r; ready = λ e. absurd (z e) }
+
+pub new-formed : (n new new-reverse : Name) → malformed n || (malformed-new new || malformed-new new-reverse) ≡ false
+    → (malformed-new new ≡ false) × (malformed-new new-reverse ≡ false)
+new-formed n new new-reverse e =
+    or-neither (malformed-new new) (malformed-new new-reverse) (or-neither (malformed n) (malformed-new new || malformed-new new-reverse) e .1)
+
+-- ---- the names filled in
+
+given-formed : (n : Name) → malformed-new n ≡ false → (length n ≡ 0 → ⊥) → well-formed n ≡ true
+unfolding malformed-new malformed
+given-formed n e h = go (well-formed n) (and-rest (not (blank n)) (not (well-formed n)) (ap not (ne-eqb (length n) 0 h)) e)
+  where
+    go : (x : Bool) → not x ≡ false → x ≡ true
+    go true q = refl
+    go false q = sym q
+
+pub given-long : (n : Name) → malformed-new n ≡ false → (length n ≡ 0 → ⊥) → length n ≤ 16
+given-long n e h = formed-long n (given-formed n e h) .1
+
+local-formed : {s : Schema} → Good s → (d t : ℕ) → present s d t ≡ true → well-formed (local-name s d t) ≡ true
+unfolding present local-name
+local-formed {s} good d t e =
+    let (i, h) = first-in (holds-type d t) (record { sds = 0; name = []; type = 0 }) (s .presences) e in
+    good .presence-named (first (holds-type d t) (record { sds = 0; name = []; type = 0 }) (s .presences)) i
+
+pub filled-formed : {s : Schema} → Good s → (d t : ℕ) (new : Name) → present s d t ≡ true → malformed-new new ≡ false
+    → well-formed (filled s d t new) ≡ true
+filled-formed {s} good d t new e f = go (blank new) refl
+  where
+    go : (x : Bool) → blank new ≡ x → well-formed (cond x (local-name s d t) new) ≡ true
+    go true q = local-formed good d t e
+    go false q = given-formed new f (λ z. true≢false (sym (eq-eqb (length new) 0 z) ∙ q))
+
+-- a name written into a field of zeros is the name in it
+pub given-filled : (s : Schema) (d t : ℕ) (n field : Name) → malformed-new n ≡ false → (length n ≡ 0 → ⊥)
+    → field ≡ written (replicate 16 0) 0 n → strip field ≡ filled s d t n
+given-filled s d t n field e h w =
+    ap strip (w ∙ field-written [] [] n 16 0 refl (given-long n e h) ∙ append-nil (pad 16 n))
+    ∙ strip-pad n (given-formed n e h) ∙ rw (ne-eqb (length n) 0 h)
+
+module _ {b : List ℕ} {d t r : ℕ} (found : Presence-row b (presence-count b) d t r) (s : Sound b) (e : present (schema-of b) d t ≡ true) where
+  pub row-room : r < 512
+  row-room = omega (arith, row-below b d t found e, sound-good s .presence-room, presences-long b)
+
+  pub own-long : {own : Name} → own ≡ part b (presence-at r + 1) 16 → length own ≡ 16
+  own-long o = ap length o ∙ length-part b (presence-at r + 1) 16 (omega (arith, sound-long s, row-room))
+
+  -- the whole field of its name in the source is
+  pub own-filled : (n : Name) {own field : Name} → length n ≡ 0 → own ≡ part b (presence-at r + 1) 16 → field ≡ written (replicate 16 0) 0 own
+      → strip field ≡ filled (schema-of b) d t n
+  own-filled n {own} z o w =
+      ap strip (w ∙ written-over (replicate 16 0) [] own (sym (own-long o)) ∙ append-nil own ∙ o) ∙ row-name b d t found e ∙ rw (eq-eqb (length n) 0 z)
+
+-- ---- the room for presences
+
+module _ (b : List ℕ) (more : ℕ) where
+  pub no-room : 512 < presence-count b + more → presences-full (schema-of b) more ≡ true
+  unfolding presences-full
+  no-room h = lt-ltb 512 (length ((schema-of b) .presences) + more) (omega (arith, presences-long b))
+
+  pub some-room : presence-count b + more ≤ 512 → presences-full (schema-of b) more ≡ false
+  unfolding presences-full
+  some-room h = le-ltb 512 (length ((schema-of b) .presences) + more) (omega (arith, presences-long b))
+
+-- ---- presences put in
+
+pub enter-left : (d : ℕ) (ps : List Presence) (t r : ℕ) (s : Schema)
+    → Left (enter d ps t r s) (enter-refusals d ps s) (done t r 0 (with-presences s (put-all presence-before ps (s .presences))))
+unfolding enter
+enter-left d ps t r s = record { is = refl }
+
+module _ (b : List ℕ) (d : ℕ) (n : Name) (t : ℕ) {b₁ : List ℕ}
+    (out : Shows b₁ (with-presences (schema-of b) (put presence-before (presence-of d n t) ((schema-of b) .presences)))) where
+  pub entered-one : b₁ ≡ picture (with-presences (schema-of b) (put-all presence-before (presence-of d n t ∷ []) ((schema-of b) .presences)))
+  unfolding put-all
+  entered-one = out .shown
+
+  -- there is room for a second, and its name is still free
+  pub room-second : presence-count b + 2 ≤ 512 → length ((schema-of b₁) .presences) < 512
+  room-second h =
+      omega (
+        arith,
+        ap (λ (s : Schema). length (s .presences)) (shows-schema out),
+        put-long presence-before (presence-of d n t) ((schema-of b) .presences),
+        presences-long b,
+      )
+
+  pub free-second : (m : Name) → same-name n m ≡ false → bears (schema-of b) d m ≡ false → bears (schema-of b₁) d m ≡ false
+  unfolding bears
+  free-second m e f =
+      ap (λ (s : Schema). bears s d m) (shows-schema out)
+      ∙ put-none presence-before (holds-name d m) (presence-of d n t) ((schema-of b) .presences) (rw (eq-eqb d d refl) e) f
+
+  pub entered-both : (m : Name) (r : ℕ) {b₂ : List ℕ}
+      → Shows b₂ (with-presences (schema-of b₁) (put presence-before (presence-of d m r) ((schema-of b₁) .presences)))
+      → b₂ ≡ picture (with-presences (schema-of b) (put-all presence-before (presence-of d n t ∷ presence-of d m r ∷ []) ((schema-of b) .presences)))
+  unfolding put-all
+  entered-both m r out₂ = shows-next (λ s. with-presences s (put presence-before (presence-of d m r) (s .presences))) out out₂ .shown
+
+-- ---- the rule
+
+-- what follows the first refusals; rs is the reverse of t, if it has one
+abbrev rest-of : ℕ → ℕ → Name → Name → Schema → ℕ → List ℕ → Outcome Schema
+rest-of target source new new-reverse s t rs =
+    let ps : List Presence = presence-of target (filled s source t new) t ∷ map (λ r. presence-of target (filled s source r new-reverse) r) rs in
+    verdict ((11, names-taken s target (map (λ p. p .name) ps)) ∷ (14, presences-full s (length (t ∷ rs))) ∷ [])
+    (done t (getD rs 0 0) 0 (with-presences s (put-all presence-before ps (s .presences))))
+
+pub import-left : (target source : ℕ) (n new new-reverse : Name) (s : Schema) → Left (import target source n new new-reverse s)
+    (first-refusals target source n new new-reverse s)
+    (rest-of target source new new-reverse s (type-named s source n) (reverse s (type-named s source n)))
+unfolding import imported verdict
+import-left target source n new new-reverse s = record { is = refl }
+
+module _ {b : List ℕ} {target source : ℕ} {n new new-reverse : Name} {v : Named} (chosen : Chosen b target source n new new-reverse v) (z : v .no ≡ 0) where
+  left : import target source n new new-reverse (schema-of b) ≡ rest-of target source new new-reverse (schema-of b) (v .t) (one-or-none (v .reverse))
+  unfolding all
+  left =
+      let s = schema-of b in
+      let i = chosen .ready z in
+      tested-passes (chosen .told) z refl (import-left target source n new new-reverse s)
+      ∙ (λ j. rest-of target source new new-reverse s (sym (i .named) j) (reverse s (sym (i .named) j)))
+      ∙ ap (rest-of target source new new-reverse s (v .t)) (i .reversed .is)
+
+  -- it has no reverse
+  pub import-one : v .reverse ≡ 128 → {name after : List ℕ} {a : Answer} → name ≡ filled (schema-of b) source (v .t) new
+      → Kept b (enter target (presence-of target name (v .t) ∷ []) (v .t) 0) a after → Kept b (import target source n new new-reverse) a after
+  unfolding enter
+  import-one e {name} q k =
+      let s = schema-of b in
+      kept-like (left ∙ ap (rest-of target source new new-reverse s (v .t)) (none-is {r = v .reverse} (omega arith))
+      ∙ ap (λ (x : Name). enter target (presence-of target x (v .t) ∷ []) (v .t) 0 s) (sym q)) k
+
+  module _ (e : v .reverse ≡ 128 → ⊥) where
+    pub reverse-below : v .reverse < 128
+    reverse-below = omega (arith, chosen .ready z .reversed .fits, e)
+
+    pub reverse-there : present (schema-of b) source (v .reverse) ≡ true
+    reverse-there =
+        let i = chosen .ready z in
+        let (c, pair) = i .reversed .pair reverse-below in
+        sound-good (i .sound) .reverse-present source (v .t) c (v .reverse) (i .there) pair
+
+    -- its reverse comes with it
+    pub import-both : {name other after : List ℕ} {a : Answer} → name ≡ filled (schema-of b) source (v .t) new
+        → other ≡ filled (schema-of b) source (v .reverse) new-reverse
+        → Kept b (enter target (presence-of target name (v .t) ∷ presence-of target other (v .reverse) ∷ []) (v .t) (v .reverse)) a after
+        → Kept b (import target source n new new-reverse) a after
+    unfolding enter
+    import-both {name} {other} q w k =
+        let s = schema-of b in
+        kept-like (left ∙ ap (rest-of target source new new-reverse s (v .t)) (one-is reverse-below)
+        ∙ (λ j. enter target (presence-of target (sym q j) (v .t) ∷ presence-of target (sym w j) (v .reverse) ∷ []) (v .t) (v .reverse) s)) k
+
+-- the part of a field before its first zero
+pub cut-is : {field : List ℕ} {k : ℕ} → Stripped field k → take (k - 0) field ≡ strip field
+cut-is {field} {k} s = let whole : k - 0 ≡ k = omega arith in ap (λ (i : ℕ). take i field) whole ∙ s .name

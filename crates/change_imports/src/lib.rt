@@ -1,0 +1,216 @@
+// A type of one SDS gets a presence in another, and its reverse with it.
+use rules::Answer;
+use rules::Limits;
+ghost use mathlib.Core.Path.{_≡_};
+ghost use mathlib.Core.List.{[], _∷_};
+ghost use mathlib.Core.Bool.{true, false, not, _&&_, _||_};
+ghost use Prim.Native.Nat.{_<_};
+ghost use lib.Dec.{eqb};
+ghost use lib.ListN.{length};
+ghost use Rattle.rules.specs.03-Names.{well-formed, blank};
+ghost use Rattle.rules.specs.04-Schema.{present};
+ghost use Rattle.rules.specs.07-Picture.{Sound, base-length};
+ghost use Rattle.rules.specs.09-Refusals.{unknown-sds, malformed, malformed-new};
+ghost use Rattle.rules.specs.10-Changes.{filled, import};
+ghost use Rattle.rules.specs.12-Contracts.{Kept};
+ghost use Rattle.rules.specs.Read.{strip};
+ghost use Rattle.base.specs.Back.{schema-of};
+ghost use Rattle.conditions.specs.Reverse.{one-or-none};
+ghost use Rattle.change_imports.specs.Import.{Chosen, presence-of, enter};
+
+// ---- what is tested before the names are filled in
+
+// The number of the refusal, 0 where there is none; then the type that is named and its reverse, as many as there are types
+// where it has none.
+pub struct Named {
+    pub no: usize,
+    pub t: usize,
+    pub reverse: usize,
+}
+
+fn refused(no: usize) -> Named
+    ensures { λ r. ⌜ r .no ≡ no ⌝ }
+{
+    Named {
+        no,
+        t: 0,
+        reverse: 0,
+    }
+}
+
+fn is_one_unknown(base: &[u8], target: usize, source: usize) -> bool
+    requires { ⌜ length (now base) ≡ base-length ⌝ }
+    ensures { λ r. ⌜ r ≡ unknown-sds (schema-of (now (base .entry))) target || unknown-sds (schema-of (now (base .entry))) source ⌝ }
+{
+    if !lookup::is_sds(base, target) {
+        return true;
+    }
+    !lookup::is_sds(base, source)
+}
+
+// A new name may be blank.
+fn is_malformed_new(name: &[u8]) -> bool
+    ensures { λ r. ⌜ r ≡ malformed-new (now (name .entry)) ⌝ }
+{
+    if name.len() == 0 {
+        return false;
+    }
+    !names::is_well_formed(name)
+}
+
+fn is_one_malformed(name: &[u8], new: &[u8], new_reverse: &[u8]) -> bool
+    ensures { λ r. ⌜ r ≡ malformed (now (name .entry)) || (malformed-new (now (new .entry)) || malformed-new (now («new_reverse» .entry))) ⌝ }
+{
+    if !names::is_well_formed(name) {
+        return true;
+    }
+    if is_malformed_new(new) {
+        return true;
+    }
+    is_malformed_new(new_reverse)
+}
+
+// Whether a name is given for a reverse that there is not.
+fn is_idle(reverse: usize, name: &[u8]) -> bool
+    ensures { λ r. ⌜ r ≡ not (blank (now (name .entry))) && eqb (length (one-or-none reverse)) 0 ⌝ }
+{
+    if name.len() == 0 {
+        return false;
+    }
+    Limits::TYPES <= reverse
+}
+
+fn named_by(
+    base: &[u8],
+    target: usize,
+    source: usize,
+    name: &[u8],
+    new: &[u8],
+    new_reverse: &[u8],
+) -> Named
+    ensures { λ r. ⌜ Chosen (now (base .entry)) target source (now (name .entry)) (now (new .entry)) (now («new_reverse» .entry)) r ⌝ }
+{
+    if !sound::is_sound(base) {
+        return refused(1);
+    }
+    if is_one_unknown(base, target, source) {
+        return refused(2);
+    }
+    if target == 0 {
+        return refused(3);
+    }
+    if is_one_malformed(name, new, new_reverse) {
+        return refused(4);
+    }
+    let t = working::find::type_in(base, source, name);
+    if t == Limits::TYPES {
+        return refused(6);
+    }
+    let reverse = conditions::reverse_of(base, t);
+    if is_idle(reverse, new_reverse) {
+        return refused(7);
+    }
+    if conditions::is_present(base, target, t) {
+        return refused(9);
+    }
+    if conditions::is_parent_missing(base, target, t) {
+        return refused(10);
+    }
+    Named { no: 0, t, reverse }
+}
+
+// ---- the names
+
+// A field with the new name, or where that is blank with the name of type t in the source.
+fn filled(base: &[u8], source: usize, t: usize, new: &[u8]) -> [u8; Limits::NAME]
+    requires { ⌜ Sound (now base) ⌝ }
+    requires { ⌜ present (schema-of (now base)) source t ≡ true ⌝ }
+    requires { ⌜ malformed-new (now new) ≡ false ⌝ }
+    ensures { λ r. ⌜ strip r ≡ filled (schema-of (now (base .entry))) source t (now (new .entry)) ⌝ }
+{
+    let mut field: [u8; Limits::NAME] = [0; Limits::NAME];
+    if new.len() == 0 {
+        let row = lookup::presence_row(base, source, t);
+        rows::table::write(&mut field, 0, base::presence_field(base, row));
+        return field;
+    }
+    rows::table::write(&mut field, 0, new);
+    field
+}
+
+// ---- the presences
+
+// Type t comes into SDS d.
+fn enter_one(base: &mut [u8], d: usize, name: &[u8], t: usize) -> Answer
+    requires { ⌜ Sound (now base) ⌝ }
+    requires { ⌜ (d < 16) × (t < 128) ⌝ }
+    requires { ⌜ well-formed (now name) ≡ true ⌝ }
+    ensures { λ a. ⌜ Kept (now (base .entry)) (enter d (presence-of d (now (name .entry)) t ∷ []) t 0) a (now (base .exit)) ⌝ }
+{
+    if working::find::type_in(base, d, name) != Limits::TYPES {
+        return Answer::refused(11);
+    }
+    if Limits::PRESENCES <= base::used::presence_count(base) {
+        return Answer::refused(14);
+    }
+    edit::put_presence(base, d, name, t);
+    Answer::done(t, 0, 0)
+}
+
+// Type t comes into SDS d, and with it its reverse r, under the other name.
+fn enter_both(base: &mut [u8], d: usize, name: &[u8], t: usize, other: &[u8], r: usize) -> Answer
+    requires { ⌜ Sound (now base) ⌝ }
+    requires { ⌜ (d < 16) × ((t < 128) × (r < 128)) ⌝ }
+    requires { ⌜ well-formed (now name) ≡ true ⌝ }
+    requires { ⌜ well-formed (now other) ≡ true ⌝ }
+    ensures { λ a. ⌜ Kept (now (base .entry))
+        (enter d (presence-of d (now (name .entry)) t ∷ presence-of d (now (other .entry)) r ∷ []) t r) a (now (base .exit)) ⌝ }
+{
+    if working::find::type_in(base, d, name) != Limits::TYPES {
+        return Answer::refused(11);
+    }
+    if working::find::type_in(base, d, other) != Limits::TYPES {
+        return Answer::refused(11);
+    }
+    if names::is_same(name, other) {
+        return Answer::refused(11);
+    }
+    if Limits::PRESENCES < base::used::presence_count(base) + 2 {
+        return Answer::refused(14);
+    }
+    edit::put_presence(base, d, name, t);
+    edit::put_presence(base, d, other, r);
+    Answer::done(t, r, 0)
+}
+
+// A blank new name stands for the name in the source.
+pub fn import(
+    base: &mut [u8],
+    target: usize,
+    source: usize,
+    name: &[u8],
+    new: &[u8],
+    new_reverse: &[u8],
+) -> Answer
+    ensures { λ r. ⌜ Kept (now (base .entry)) (import target source (now (name .entry)) (now (new .entry)) (now («new_reverse» .entry))) r (now (base .exit)) ⌝ }
+{
+    let named = named_by(base, target, source, name, new, new_reverse);
+    if named.no != 0 {
+        return Answer::refused(named.no);
+    }
+    let first = filled(base, source, named.t, new);
+    let n = name_fields::name_length(&first);
+    if named.reverse == Limits::TYPES {
+        return enter_one(base, target, &first[0..n], named.t);
+    }
+    let second = filled(base, source, named.reverse, new_reverse);
+    let m = name_fields::name_length(&second);
+    enter_both(
+        base,
+        target,
+        &first[0..n],
+        named.t,
+        &second[0..m],
+        named.reverse,
+    )
+}

@@ -1,0 +1,167 @@
+-- The call that makes a pair: its tests, and the rows and the presences of the two types. Assumes nothing.
+use Prim.Native.Nat.{ℕ, _≤_, _<_}
+use native.Mathlib.Omega.{arith}
+use mathlib.Core.Path.{_≡_, refl, sym, _∙_}
+use mathlib.Core.List.{List, [], _∷_}
+use mathlib.Core.Bool.{Bool, true, false, _&&_, _||_, or-false}
+use lib.Dec.{ltb, eqb}
+use lib.ListN.{length}
+use borrow.Author.Tests.{ltb-false, lt-ltb, le-ltb, eq-eqb, ne-eqb}
+use Rattle.rules.specs.declared.Answer.{Answer}
+use Rattle.rules.specs.01-Lists.{any, put}
+use Rattle.rules.specs.03-Names.{Name, well-formed, same-name}
+use Rattle.rules.specs.04-Schema.{Schema, bears, holds-name, presence-before}
+use Rattle.rules.specs.04-Schema.Kind.{paired}
+use Rattle.rules.specs.07-Picture.{picture}
+use Rattle.rules.specs.09-Refusals.{Outcome, success, no-pair, names-taken}
+use Rattle.rules.specs.09-Refusals.Outcome.{done}
+use Rattle.rules.specs.10-Changes.{with-presences, with-type, with-pair, new-type, second-new-type, new-pair, new-pair-refusals}
+use Rattle.rules.specs.12-Contracts.{Kept}
+use Rattle.rules.proofs.Bools.{or-left, or-right, or-neither}
+use Rattle.rules.proofs.Edits.{put-long, put-none}
+use Rattle.rules.proofs.09-Refusals.{Left}
+use Rattle.base.specs.Back.{schema-of}
+use Rattle.base.specs.Stored.{Shows, Stored, Becomes}
+use Rattle.base.proofs.Kept.{kept-done}
+use Rattle.base.proofs.StoredLaws.{shows-has, shows-stored, shows-next}
+use Rattle.base.specs.Tested.{Tested}
+use Rattle.change_types.specs.Create.{Ready}
+use Rattle.change_pairs.specs.Pair.{Two-free, Two-names, Pair-room, Pair-ready, Pair-placed, room-refusals}
+use Rattle.change_types.proofs.CreateLaws.{room-typed, free-typed, type-put}
+
+-- ---- the categories
+
+module _ (c c′ : ℕ) where
+  pub forward-unfit : 3 < c → true ≡ no-pair c c′
+  unfolding no-pair
+  forward-unfit h = sym (or-left (ltb 3 c) (ltb 3 c′ || (eqb c 3 && eqb c′ 3)) (lt-ltb 3 c h))
+
+  pub reverse-unfit : 3 < c′ → true ≡ no-pair c c′
+  unfolding no-pair
+  reverse-unfit h =
+      sym (or-right (ltb 3 c) (ltb 3 c′ || (eqb c 3 && eqb c′ 3)) (or-left (ltb 3 c′) (eqb c 3 && eqb c′ 3) (lt-ltb 3 c′ h)))
+
+  module _ (h : c ≤ 3) (k : c′ ≤ 3) where
+    pub forward-not-implicit : (c ≡ 3 → ⊥) → false ≡ no-pair c c′
+    unfolding no-pair
+    forward-not-implicit n = rw (le-ltb 3 c h, le-ltb 3 c′ k, ne-eqb c 3 n)
+
+    pub forward-implicit : c ≡ 3 → eqb c′ 3 ≡ no-pair c c′
+    unfolding no-pair
+    forward-implicit e = rw (le-ltb 3 c h, le-ltb 3 c′ k, eq-eqb c 3 e)
+
+  pub categories-fit : no-pair c c′ ≡ false → (c ≤ 3) × (c′ ≤ 3)
+  unfolding no-pair
+  categories-fit e =
+      let (f, g) = or-neither (ltb 3 c) (ltb 3 c′ || (eqb c 3 && eqb c′ 3)) e in
+      (ltb-false 3 c f, ltb-false 3 c′ (or-neither (ltb 3 c′) (eqb c 3 && eqb c′ 3) g .0))
+
+-- ---- the names
+
+module _ (s : Schema) (d : ℕ) (n m : Name) where
+  pub forward-borne : bears s d n ≡ true → true ≡ names-taken s d (n ∷ m ∷ [])
+  unfolding names-taken any
+  forward-borne e = rw e
+
+  pub reverse-borne : bears s d n ≡ false → bears s d m ≡ true → true ≡ names-taken s d (n ∷ m ∷ [])
+  unfolding names-taken any
+  reverse-borne e f = rw (e, f)
+
+  pub neither-borne : bears s d n ≡ false → bears s d m ≡ false → same-name n m ≡ names-taken s d (n ∷ m ∷ [])
+  unfolding names-taken any
+  neither-borne e f = rw (e, f) (sym (or-false (same-name n m || false) ∙ or-false (same-name n m)))
+
+-- what it says that they are not
+none-of : (x y z : Bool) → (x || (y || false)) || ((z || false) || false) ≡ false → (x ≡ false) × ((y ≡ false) × (z ≡ false))
+none-of x y z e =
+    let (f, g) = or-neither (x || (y || false)) ((z || false) || false) e in
+    let (h, k) = or-neither x (y || false) f in
+    (h, (or-neither y false k .0, or-neither z false (or-neither (z || false) false g .0) .0))
+
+pub two-names : {b : List ℕ} (d : ℕ) (n m : Name) → names-taken (schema-of b) d (n ∷ m ∷ []) ≡ false → Two-names b d n m
+unfolding names-taken any
+two-names {b} d n m e =
+    let (f, (g, h)) = none-of (bears (schema-of b) d n) (bears (schema-of b) d m) (same-name n m) e in
+    record { free = f; reverse-free = g; apart = h }
+
+-- ---- what the tests say
+
+pub no-two : {b : List ℕ} {no t r : ℕ} → Tested b (room-refusals b) no → (no ≡ 0 → ⊥) → Pair-room b no t r
+no-two e z = record { told = e; two = λ q. absurd (z q) }
+
+module _ {b : List ℕ} {d : ℕ} {n m : Name} {c c′ no t r : ℕ} where
+  pub not-placed : Tested b (new-pair-refusals d n m c c′ (schema-of b)) no → (no ≡ 0 → ⊥) → Pair-placed b d n m c c′ no t r
+  not-placed e z = record { told = e; ready = λ q. absurd (z q); two = λ q. absurd (z q) }
+
+-- ---- the rule
+
+abbrev pub pair-made : ℕ → Name → Name → ℕ → ℕ → Schema → Outcome Schema
+pair-made d n m c c′ s = done (new-type s) (second-new-type s) 0 (with-pair (new-type s) (second-new-type s) d n m c c′ s)
+
+pub new-pair-left : (d : ℕ) (n m : Name) (c c′ : ℕ) (s : Schema)
+    → Left (new-pair d n m c c′ s) (new-pair-refusals d n m c c′ s) (pair-made d n m c c′ s)
+unfolding new-pair
+new-pair-left d n m c c′ s = record { is = refl }
+
+-- ---- the forward type gets its row and its presence, and then the reverse
+
+module _ {b : List ℕ} {d : ℕ} {n m : Name} {c c′ t r : ℕ} (x : Pair-ready b d n m c c′) (f : Two-free b t r) where
+  pub forward-ready : Ready b d n t
+  forward-ready = record {
+    sound = x .sound;
+    small = x .small;
+    formed = x .formed .0;
+    free = x .names .free;
+    room = omega (arith, f .room);
+    below = f .below;
+    new = f .new;
+  }
+
+  module _ {b₁ b₂ : List ℕ} (w : Becomes b t (paired c r) b₁)
+      (p : Shows b₂ (with-presences (schema-of b₁) (put presence-before (record { sds = d; name = n; type = t }) ((schema-of b₁) .presences)))) where
+    forward : Shows b₂ (with-type t (paired c r) d n (schema-of b))
+    forward = type-put b t (paired c r) w d n p
+
+    -- what the row of the reverse needs
+    pub row-ready : Stored b₂ × ((r < 128) × (((3 < 256) × ((c′ < 256) × (t < 256))) × (length {A = ℕ} [] ≤ 4)))
+    row-ready =
+        let fields : (3 < 256) × ((c′ < 256) × (t < 256)) = (omega arith, (omega (arith, x .categories .1), omega (arith, f .below))) in
+        (shows-stored forward, (f .reverse-below, (fields, omega arith)))
+
+    room-left : length ((schema-of b₂) .presences) < 512
+    room-left =
+        shows-has (λ s. length (s .presences) < 512) forward
+        (omega (arith, f .room, put-long presence-before (record { sds = d; name = n; type = t }) ((schema-of b) .presences)))
+
+    reverse-free : bears (schema-of b₂) d m ≡ false
+    unfolding bears
+    reverse-free =
+        shows-has (λ s. bears s d m ≡ false) forward
+        (put-none presence-before (holds-name d m) (record { sds = d; name = n; type = t }) ((schema-of b) .presences)
+        (rw (eq-eqb d d refl) (x .names .apart)) (x .names .reverse-free))
+
+    module _ {b₃ : List ℕ} (v : Becomes b₂ r (paired c′ t) b₃) where
+      -- what its presence needs
+      pub reverse-ready : Stored b₃ × (((d < 256) × (r < 256))
+          × ((well-formed m ≡ true) × ((length ((schema-of b₃) .presences) < 512) × (bears (schema-of b₃) d m ≡ false))))
+      reverse-ready =
+          let small : (d < 256) × (r < 256) = (omega (arith, x .small), omega (arith, f .reverse-below)) in (
+            shows-stored v,
+            (
+              small,
+              (
+                x .formed .1,
+                (room-typed b₂ r (paired c′ t) v d m room-left, free-typed b₂ r (paired c′ t) v d m reverse-free),
+              ),
+            ),
+          )
+
+      pub pair-kept : {rule : Schema → Outcome Schema} {a : Answer} {b₄ : List ℕ} → rule (schema-of b) ≡ pair-made d n m c c′ (schema-of b)
+          → a ≡ success t r 0
+          → Shows b₄ (with-presences (schema-of b₃) (put presence-before (record { sds = d; name = m; type = r }) ((schema-of b₃) .presences)))
+          → Kept b rule a b₄
+      pair-kept {b₄ = b₄} o e q =
+          let made : Shows b₄ (with-pair t r d n m c c′ (schema-of b)) =
+          shows-next (with-type r (paired c′ t) d m) forward (type-put b₂ r (paired c′ t) v d m q) in
+          kept-done (x .sound) o (e ∙ (λ i. success (f .new i) (f .second i) 0))
+          (made .shown ∙ (λ i. picture (with-pair (f .new i) (f .second i) d n m c c′ (schema-of b))))

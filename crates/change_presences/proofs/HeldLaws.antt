@@ -1,0 +1,67 @@
+-- A type that is in an SDS by one presence, and the row of that presence. Assumes nothing.
+use Prim.Native.Nat.{ℕ, _<_}
+use mathlib.Core.Path.{_≡_, refl, sym, _∙_, subst}
+use mathlib.Core.List.{List, []}
+use mathlib.Core.Bool.{true}
+use lib.Dec.{eqb}
+use borrow.Author.Tests.{eqb-true, eq-eqb, ltb-true}
+use Rattle.rules.specs.01-Lists.{_∈_, first}
+use Rattle.rules.specs.03-Names.{Name, same-name}
+use Rattle.rules.specs.04-Schema.{Schema, Presence, holds-type, holds-name, present, bears, type-named}
+use Rattle.rules.specs.06-Good.{Good}
+use Rattle.rules.specs.10-Changes.{with-presences}
+use Rattle.rules.proofs.Bools.{and-both, and-of}
+use Rattle.rules.proofs.01-Lists.{any-at}
+use Rattle.rules.proofs.Edits.{first-in}
+use Rattle.base.specs.Back.{schema-of, presence-count, presence-shown}
+use Rattle.lookup.specs.Found.{Presence-row}
+use Rattle.base.specs.Stored.{less-row, Shows, Stored}
+use Rattle.base.proofs.Shown.{presence-there}
+use Rattle.edit.proofs.TakenLaws.{presence-without}
+use Rattle.lookup.proofs.Walked.{some-presence, first-presence, presence-first}
+use Rattle.change_presences.specs.Remove.{Held-once, less-presence}
+
+-- the type that bears a name is there under it
+pub bearer : (s : Schema) (d : ℕ) (n : Name) → bears s d n ≡ true
+    → (p : Presence) × (p ∈ s .presences) × (p .sds ≡ d) × (same-name (p .name) n ≡ true) × (p .type ≡ type-named s d n)
+unfolding bears type-named
+bearer s d n e =
+    let p = first (holds-name d n) (record { sds = 0; name = []; type = 0 }) (s .presences) in
+    let (i, h) = first-in (holds-name d n) (record { sds = 0; name = []; type = 0 }) (s .presences) e in
+    let (x, y) = and-both (eqb (p .sds) d) (same-name (p .name) n) h in
+    (p, i, eqb-true (p .sds) d x, y, refl)
+
+-- in a good schema a type that is there is there once
+module _ {s : Schema} (good : Good s) where
+  pub held : (d t : ℕ) → present s d t ≡ true → Held-once s d t
+  held d t e = record {
+    there = e;
+    once = λ p q i j f g.
+        let (x, y) = and-both (eqb (p .sds) d) (eqb (p .type) t) f in
+        let (z, w) = and-both (eqb (q .sds) d) (eqb (q .type) t) g in
+        good .one-presence p q i j (eqb-true (p .sds) d x ∙ sym (eqb-true (q .sds) d z)) (eqb-true (p .type) t y ∙ sym (eqb-true (q .type) t w));
+  }
+
+  pub held-named : {d t : ℕ} (n : Name) → bears s d n ≡ true → t ≡ type-named s d n → Held-once s d t
+  unfolding present
+  held-named {d} {t} n e q =
+      let (p, i, at, same, type) = bearer s d n e in
+      held d t (any-at (holds-type d t) i (and-of (eqb (p .sds) d) (eqb (p .type) t) (eq-eqb (p .sds) d at) (eq-eqb (p .type) t (type ∙ sym q))))
+
+pub held-row : {b : List ℕ} → Good (schema-of b) → {d t r : ℕ} → Presence-row b (presence-count b) d t r → r < presence-count b
+    → Held-once (schema-of b) d t
+unfolding present
+held-row {b} good {d} {t} {r} found h = held good d t (sym (some-presence b (holds-type d t) r h (presence-first b d t found .found h)))
+
+-- its row is found, and taken out
+module _ {b : List ℕ} {d t r : ℕ} (once : Held-once (schema-of b) d t) (found : Presence-row b (presence-count b) d t r) where
+  pub row-below : r < presence-count b
+  unfolding present
+  row-below = ltb-true r (presence-count b) (first-presence b (holds-type d t) (presence-first b d t found) ∙ once .there)
+
+  pub row-taken : Stored b → {b₁ : List ℕ} → Shows b₁ (with-presences (schema-of b) (less-row r ((schema-of b) .presences)))
+      → Shows b₁ (less-presence d t (schema-of b))
+  row-taken x {b₁} out =
+      let is = presence-first b d t found .found row-below in
+      subst (λ (ps : List Presence). Shows b₁ (with-presences (schema-of b) ps))
+      (sym (presence-without x r row-below (holds-type d t) is (λ p m e. once .once p (presence-shown b r) m (presence-there b r row-below) e is))) out

@@ -1,0 +1,162 @@
+-- A type removed from an SDS, and its reverse with it. Assumes nothing.
+use Prim.Native.Nat.{ℕ, _<_}
+use native.Mathlib.Omega.{arith}
+use mathlib.Core.Path.{_≡_, refl, sym, ap, _∙_}
+use mathlib.Core.List.{List, [], _∷_}
+use mathlib.Core.Bool.{Bool, true, false, _&&_, _||_, or-false}
+use lib.Dec.{eqb}
+use borrow.Author.Tests.{eqb-true}
+use Rattle.rules.specs.01-Lists.{_∈_, any, among, without}
+use Rattle.rules.specs.03-Names.{Name}
+use Rattle.rules.specs.04-Schema.{Schema, Presence, with-reverse, holds-type, present, bears, type-named}
+use Rattle.rules.specs.04-Schema.Kind.{unused}
+use Rattle.rules.specs.06-Good.{Good}
+use Rattle.rules.specs.07-Picture.{Sound, picture}
+use Rattle.rules.specs.09-Refusals.{Outcome, still-used}
+use Rattle.rules.specs.09-Refusals.Outcome.{done}
+use Rattle.rules.specs.10-Changes.{with-presences, less-gone, remove-type, remove-type-refusals}
+use Rattle.rules.proofs.Bools.{and-both}
+use Rattle.rules.proofs.01-Lists.{any-at, any-where}
+use Rattle.rules.proofs.Edits.{without-in, without-keeps, without-same, without-twice}
+use Rattle.rules.proofs.09-Refusals.{Left}
+use Rattle.base.specs.Back.{schema-of}
+use Rattle.base.specs.Stored.{Shows, Stored, Becomes}
+use Rattle.base.proofs.Back.{sound-good}
+use Rattle.base.proofs.StoredLaws.{shows-next, shows-has}
+use Rattle.conditions.specs.Reverse.{one-or-none, Reverse-of}
+use Rattle.conditions.proofs.ConditionLaws.{or-first, or-next}
+use Rattle.conditions.proofs.ReverseLaws.{one-is, none-is}
+use Rattle.change_presences.specs.Remove.{Held-once, less-presence}
+use Rattle.change_presences.proofs.HeldLaws.{held, held-named}
+
+-- ---- a test of a type and of its reverse, if it has one
+
+module _ (p : ℕ → Bool) (t r : ℕ) {x : Bool} (e : x ≡ p t) where
+  pub either-first : x ≡ true → true ≡ any p (t ∷ one-or-none r)
+  unfolding any
+  either-first f = or-first (any p (one-or-none r)) e f
+
+  pub either-alone : x ≡ false → r ≡ 128 → false ≡ any p (t ∷ one-or-none r)
+  unfolding any
+  either-alone f h = or-next e f (sym (ap (any p) (none-is {r = r} (omega arith))))
+
+  pub either-last : x ≡ false → r < 128 → {y : Bool} → y ≡ p r → y ≡ any p (t ∷ one-or-none r)
+  unfolding any
+  either-last f h {y} g = or-next e f (g ∙ sym (or-false (p r)) ∙ sym (ap (any p) (one-is h)))
+
+-- ---- the reverse
+
+module _ {s : Schema} (good : Good s) where
+  -- its reverse is there too, and still is when it is gone itself
+  held-reverse : {d t r : ℕ} → Held-once s d t → Reverse-of s t r → r < 128 → Held-once (less-presence d t s) d r
+  unfolding present
+  held-reverse {d} {t} {r} once rev h = record { there = still; once = λ p q i j. both .once p q (was i) (was j) }
+    where
+      both : Held-once s d r
+      both = let (c, pair) = rev .pair h in held good d r (good .reverse-present d t c r (once .there) pair)
+
+      was : {p : Presence} → p ∈ without (holds-type d t) (s .presences) → p ∈ s .presences
+      was i = without-in (holds-type d t) (s .presences) i .0
+
+      other : (p : Presence) → holds-type d r p ≡ true → (x : Bool) → holds-type d t p ≡ x → x ≡ false
+      other p e false q = refl
+      other p e true q =
+          let (c, pair) = rev .pair h in
+          let (x, y) = and-both (eqb (p .sds) d) (eqb (p .type) r) e in
+          let (z, w) = and-both (eqb (p .sds) d) (eqb (p .type) t) q in
+          absurd (good .reverse-different t c r pair (sym (eqb-true (p .type) r y) ∙ eqb-true (p .type) t w))
+
+      still : any (holds-type d r) (without (holds-type d t) (s .presences)) ≡ true
+      still =
+          let (p, i, e) = any-where (holds-type d r) (s .presences) (both .there) in
+          any-at (holds-type d r) (without-keeps (holds-type d t) (s .presences) i (other p e (holds-type d t p) refl)) e
+
+-- ---- a type that is in no SDS any more
+
+module _ (b : List ℕ) (t : ℕ) where
+  pub stays : Stored b → any (λ p. eqb (p .type) t) ((schema-of b) .presences) ≡ true → Shows b (less-gone (t ∷ []) (schema-of b))
+  unfolding less-gone
+  stays x e = rw e (record { rows = x .rows; shown = x .shown })
+
+  pub gone : {b₁ : List ℕ} → any (λ p. eqb (p .type) t) ((schema-of b) .presences) ≡ false → Becomes b t unused b₁
+      → Shows b₁ (less-gone (t ∷ []) (schema-of b))
+  unfolding less-gone
+  gone e out = rw e out
+
+-- ---- the rule
+
+-- the types ts gone from SDS d
+abbrev cleared : ℕ → List ℕ → Schema → Schema
+cleared d ts s = less-gone ts (with-presences s (without (λ p. eqb (p .sds) d && among ts (p .type)) (s .presences)))
+
+abbrev pub removed : ℕ → ℕ → Schema → Schema
+removed d t s = cleared d (with-reverse s t) s
+
+abbrev pub remove-effect : ℕ → Name → Schema → Outcome Schema
+remove-effect d n s = done (type-named s d n) 0 0 (removed d (type-named s d n) s)
+
+pub remove-left : (d : ℕ) (n : Name) (s : Schema) → Left (remove-type d n s) (remove-type-refusals d n s) (remove-effect d n s)
+unfolding remove-type
+remove-left d n s = record { is = refl }
+
+-- the test of both types is the rule's, where t is the type named and r its reverse
+pub used-is : (s : Schema) (d : ℕ) (n : Name) {t r : ℕ} → t ≡ type-named s d n → Reverse-of s t r → {x : Bool}
+    → x ≡ any (still-used s d) (t ∷ one-or-none r) → any (still-used s d) (with-reverse s (type-named s d n)) ≡ x
+used-is s d n {t} e rev f =
+    ap (λ (y : ℕ). any (still-used s d) (with-reverse s y)) (sym e) ∙ ap (λ (ts : List ℕ). any (still-used s d) (t ∷ ts)) (rev .is) ∙ sym f
+
+-- what the call goes on with where nothing refuses
+pub record Through (b : List ℕ) (d : ℕ) (n : Name) (t r : ℕ) : Type 0 where
+  pub sound : Sound b
+  pub below : t < 128
+  pub once : Held-once (schema-of b) d t
+  pub pair : Reverse-of (schema-of b) t r
+  pub rule : remove-type d n (schema-of b) ≡ done t 0 0 (removed d t (schema-of b))
+
+pub goes-through : {b : List ℕ} {d : ℕ} {n : Name} {t r : ℕ} → Sound b → bears (schema-of b) d n ≡ true → (t < 128) × (t ≡ type-named (schema-of b) d n)
+    → Reverse-of (schema-of b) t r → remove-type d n (schema-of b) ≡ remove-effect d n (schema-of b) → Through b d n t r
+goes-through {b} {d} {n} s e (h, q) rev o = record {
+  sound = s;
+  below = h;
+  once = held-named (sound-good s) n e q;
+  pair = rev;
+  rule = o ∙ ap (λ (y : ℕ). done y 0 0 (removed d y (schema-of b))) (sym q);
+}
+
+one-out : (d t : ℕ) (ps : List Presence) → without (holds-type d t) ps ≡ without (λ p. eqb (p .sds) d && among (t ∷ []) (p .type)) ps
+unfolding any
+one-out d t ps =
+    without-same (holds-type d t) (λ p. eqb (p .sds) d && among (t ∷ []) (p .type)) ps
+    (λ p i. ap (λ (x : Bool). eqb (p .sds) d && x) (sym (or-false (eqb (p .type) t))))
+
+two-out : (d t r : ℕ) (ps : List Presence)
+    → without (holds-type d r) (without (holds-type d t) ps) ≡ without (λ p. eqb (p .sds) d && among (t ∷ r ∷ []) (p .type)) ps
+unfolding any
+two-out d t r ps =
+    without-twice (holds-type d t) (holds-type d r) ps
+    ∙ without-same (λ p. holds-type d t p || holds-type d r p) (λ p. eqb (p .sds) d && among (t ∷ r ∷ []) (p .type)) ps
+    (λ p i. either (eqb (p .sds) d) (eqb (p .type) t) (eqb (p .type) r))
+  where
+    either : (a x y : Bool) → (a && x) || (a && y) ≡ a && (x || (y || false))
+    either true x y = ap (λ (z : Bool). x || z) (sym (or-false y))
+    either false x y = refl
+
+-- ---- the bytes
+
+module _ (b : List ℕ) (d : ℕ) {b₁ : List ℕ} {t r : ℕ} (rev : Reverse-of (schema-of b) t r) (out : Shows b₁ (less-presence d t (schema-of b))) where
+  pub reverse-held : Sound b → Held-once (schema-of b) d t → r < 128 → Held-once (schema-of b₁) d r
+  reverse-held s once h = shows-has (λ x. Held-once x d r) out (held-reverse (sound-good s) once rev h)
+
+  pub removed-one : r ≡ 128 → {b₂ : List ℕ} → Shows b₂ (less-gone (t ∷ []) (schema-of b₁)) → b₂ ≡ picture (removed d t (schema-of b))
+  removed-one e out₂ =
+      shows-next (less-gone (t ∷ [])) out out₂ .shown
+      ∙ ap (λ (ps : List Presence). picture (less-gone (t ∷ []) (with-presences (schema-of b) ps))) (one-out d t ((schema-of b) .presences))
+      ∙ ap (λ (ts : List ℕ). picture (cleared d (t ∷ ts) (schema-of b))) (sym (rev .is ∙ none-is {r = r} (omega arith)))
+
+  pub removed-two : r < 128 → {b₂ b₃ b₄ : List ℕ} → Shows b₂ (less-presence d r (schema-of b₁)) → Shows b₃ (less-gone (t ∷ []) (schema-of b₂))
+      → Shows b₄ (less-gone (r ∷ []) (schema-of b₃)) → b₄ ≡ picture (removed d t (schema-of b))
+  unfolding less-gone
+  removed-two h out₂ out₃ out₄ =
+      shows-next (less-gone (r ∷ [])) (shows-next (less-gone (t ∷ [])) (shows-next (less-presence d r) out out₂) out₃) out₄ .shown
+      ∙ ap (λ (ps : List Presence). picture (less-gone (t ∷ r ∷ []) (with-presences (schema-of b) ps))) (two-out d t r ((schema-of b) .presences))
+      ∙ ap (λ (ts : List ℕ). picture (cleared d (t ∷ ts) (schema-of b))) (sym (rev .is ∙ one-is h))

@@ -1,0 +1,85 @@
+// A type removed from an SDS, with its reverse.
+use rules::Answer;
+use rules::Limits;
+ghost use mathlib.Core.Path.{_≡_};
+ghost use mathlib.Core.List.{[], _∷_};
+ghost use Prim.Native.Nat.{_≤_, _<_};
+ghost use Rattle.rules.specs.01-Lists.{any};
+ghost use Rattle.rules.specs.07-Picture.{Sound};
+ghost use Rattle.rules.specs.09-Refusals.{still-used};
+ghost use Rattle.rules.specs.10-Changes.{less-gone, remove-type};
+ghost use Rattle.rules.specs.12-Contracts.{Kept};
+ghost use Rattle.base.specs.Back.{schema-of};
+ghost use Rattle.base.specs.Stored.{Stored, Shows};
+ghost use Rattle.conditions.specs.Reverse.{one-or-none};
+ghost use Rattle.change_presences.specs.Remove.{Held-once, less-presence};
+
+// Whether type t, or its reverse r if it has one, is still used in SDS d.
+fn is_either_used(base: &[u8], d: usize, t: usize, r: usize) -> bool
+    requires { ⌜ Sound (now base) × (r ≤ 128) ⌝ }
+    ensures { λ x. ⌜ x ≡ any (still-used (schema-of (now (base .entry))) d) (t ∷ one-or-none r) ⌝ }
+{
+    if in_use::is_still_used(base, d, t) {
+        return true;
+    }
+    if r == Limits::TYPES {
+        return false;
+    }
+    in_use::is_still_used(base, d, r)
+}
+
+// The presence of type t in SDS d goes.
+fn take_out(base: &mut [u8], d: usize, t: usize)
+    requires { ⌜ Stored (now base) ⌝ }
+    requires { ⌜ Held-once (schema-of (now base)) d t ⌝ }
+    ensures { λ _. ⌜ Shows (now (base .exit)) (less-presence d t (schema-of (now (base .entry)))) ⌝ }
+{
+    let row = lookup::presence_row(base, d, t);
+    edit::take_presence(base, row);
+}
+
+// Type t goes where it is in no SDS any more.
+fn drop_if_gone(base: &mut [u8], t: usize)
+    requires { ⌜ Stored (now base) ⌝ }
+    requires { ⌜ t < 128 ⌝ }
+    ensures { λ _. ⌜ Shows (now (base .exit)) (less-gone (t ∷ []) (schema-of (now (base .entry)))) ⌝ }
+{
+    if !conditions::is_elsewhere(base, t) {
+        edit::write_type(base, t, 0, 0, 0, b"");
+    }
+}
+
+// A type goes from an SDS, and its reverse with it.
+pub fn remove_type(base: &mut [u8], sds: usize, name: &[u8]) -> Answer
+    ensures { λ r. ⌜ Kept (now (base .entry)) (remove-type sds (now (name .entry))) r (now (base .exit)) ⌝ }
+{
+    if !sound::is_sound(base) {
+        return Answer::refused(1);
+    }
+    if !lookup::is_sds(base, sds) {
+        return Answer::refused(2);
+    }
+    if sds == 0 {
+        return Answer::refused(3);
+    }
+    if !names::is_well_formed(name) {
+        return Answer::refused(4);
+    }
+    let t = working::find::type_in(base, sds, name);
+    if t == Limits::TYPES {
+        return Answer::refused(6);
+    }
+    let reverse = conditions::reverse_of(base, t);
+    if is_either_used(base, sds, t, reverse) {
+        return Answer::refused(12);
+    }
+    take_out(base, sds, t);
+    if reverse == Limits::TYPES {
+        drop_if_gone(base, t);
+        return Answer::done(t, 0, 0);
+    }
+    take_out(base, sds, reverse);
+    drop_if_gone(base, t);
+    drop_if_gone(base, reverse);
+    Answer::done(t, 0, 0)
+}

@@ -1,0 +1,149 @@
+-- The calls that make types: their refusals test by test, and the row and the presence of the new type. Assumes nothing.
+use Prim.Native.Nat.{ℕ, _+_, _≤_, _<_}
+use native.Mathlib.Omega.{arith}
+use mathlib.Core.Path.{_≡_, refl, ap, _∙_, subst}
+use mathlib.Core.List.{List, _∷_, _++_}
+use mathlib.Core.Bool.{Bool, true, false}
+use lib.Dec.{ltb}
+use lib.ListN.{length, set}
+use borrow.Author.Tests.{lt-ltb, le-ltb}
+use Rattle.rules.specs.declared.Answer.{Answer}
+use Rattle.rules.specs.01-Lists.{all, put}
+use Rattle.rules.specs.03-Names.{Name, well-formed}
+use Rattle.rules.specs.04-Schema.{Schema, Kind, bears, presence-before}
+use Rattle.rules.specs.04-Schema.Kind.{attribute, designation}
+use Rattle.rules.specs.07-Picture.{picture}
+use Rattle.rules.specs.09-Refusals.{Outcome, Refusals, verdict, success, unknown-value-kind, presences-full, types-full, free-types}
+use Rattle.rules.specs.09-Refusals.Outcome.{done}
+use Rattle.rules.specs.10-Changes.{with-types, with-presences, with-type, new-type, new-attribute, new-designation}
+use Rattle.rules.specs.12-Contracts.{Kept}
+use Rattle.rules.proofs.Bools.{or-left, or-right}
+use Rattle.rules.proofs.09-Refusals.{Left, told}
+use Rattle.base.specs.Back.{schema-of, presence-count}
+use Rattle.base.specs.Stored.{Shows, Stored, Becomes}
+use Rattle.base.proofs.Kept.{kept-done}
+use Rattle.base.proofs.Shown.{presences-long}
+use Rattle.base.proofs.StoredLaws.{shows-schema, shows-stored}
+use Rattle.base.specs.Tested.{Tested}
+use Rattle.base.proofs.TestedLaws.{Come, come-first, come-next, come-stops, come-rest, come-past, tested-first, tested-sound}
+use Rattle.change_types.specs.Create.{aim-refusals, room-refusals, one-refusals, Ready, Aimed, Room, Placed}
+
+-- ---- what the tests of a call that makes one type say
+
+module _ {b : List ℕ} {d : ℕ} {n : Name} {no : ℕ} where
+  pub not-aimed : Tested b (aim-refusals (schema-of b) d n) no → (no ≡ 0 → ⊥) → Aimed b d n no
+  not-aimed r z = record { told = r; small = λ e. absurd (z e); formed = λ e. absurd (z e) }
+
+  module _ {t : ℕ} where
+    pub no-room : Tested b (room-refusals (schema-of b) d n) no → (no ≡ 0 → ⊥) → Room b d n no t
+    no-room r z = record {
+      told = r;
+      free = λ e. absurd (z e);
+      room = λ e. absurd (z e);
+      below = λ e. absurd (z e);
+      new = λ e. absurd (z e);
+    }
+
+    pub not-placed : {unknown : Bool} → Tested b (one-refusals (schema-of b) d n unknown) no → (no ≡ 0 → ⊥) → Placed b d n unknown no t
+    not-placed r z = record { told = r; value-known = λ e. absurd (z e); ready = λ e. absurd (z e) }
+
+module _ {b : List ℕ} {d : ℕ} {n : Name} {no : ℕ} (a : Aimed b d n no) {no′ t : ℕ} {unknown : Bool} where
+  pub aimed-stops : (no ≡ 0 → ⊥) → no′ ≡ no → Placed b d n unknown no′ t
+  aimed-stops z e = rw e (not-placed (tested-first ((5, unknown) ∷ room-refusals (schema-of b) d n) (a .told) z) z)
+
+-- of refusals that begin with those of the aim, the others are left
+pub come-aimed : {b : List ℕ} {d : ℕ} {n : Name} {no : ℕ} → Aimed b d n no → no ≡ 0 → (rest : Refusals)
+    → Come b (aim-refusals (schema-of b) d n ++ rest) rest
+unfolding all
+come-aimed {b} {d} {n} a z rest = come-past (aim-refusals (schema-of b) d n) rest (come-first (tested-sound (a .told) z)) refl (a .told) z
+
+module _ {b : List ℕ} {d : ℕ} {n : Name} {no : ℕ} (a : Aimed b d n no) (z : no ≡ 0) {no′ t : ℕ} where
+  pub both-ready : Room b d n no′ t → no′ ≡ 0 → Ready b d n t
+  both-ready r y = record {
+    sound = tested-sound (a .told) z;
+    small = a .small z;
+    formed = a .formed z;
+    free = r .free y;
+    room = r .room y;
+    below = r .below y;
+    new = r .new y;
+  }
+
+  -- what stands between is a value kind
+  module _ {unknown : Bool} where
+    pub aimed-unknown : unknown ≡ true → no′ ≡ 5 → Placed b d n unknown no′ t
+    aimed-unknown e h = not-placed (come-stops (come-aimed a z ((5, unknown) ∷ room-refusals (schema-of b) d n)) e h) (λ w. omega arith)
+
+    pub aimed-placed : unknown ≡ false → Room b d n no′ t → Placed b d n unknown no′ t
+    aimed-placed e r = record {
+      told = come-rest (come-next (come-aimed a z ((5, unknown) ∷ room-refusals (schema-of b) d n)) e) (r .told);
+      value-known = λ _. e;
+      ready = both-ready r;
+    }
+
+-- the room for new types is room for their numbers and for their presences
+module _ (b : List ℕ) (more : ℕ) where
+  pub numbers-short : ltb (length (free-types (schema-of b))) more ≡ true → types-full (schema-of b) more ≡ true
+  unfolding types-full
+  numbers-short e = or-left _ (presences-full (schema-of b) more) e
+
+  pub presences-short : 512 < presence-count b + more → types-full (schema-of b) more ≡ true
+  unfolding types-full presences-full
+  presences-short h =
+      or-right (ltb (length (free-types (schema-of b))) more) _
+      (lt-ltb 512 (length ((schema-of b) .presences) + more) (omega (arith, presences-long b)))
+
+  pub both-fit : ltb (length (free-types (schema-of b))) more ≡ false → presence-count b + more ≤ 512 → types-full (schema-of b) more ≡ false
+  unfolding types-full presences-full
+  both-fit e h = rw (e, le-ltb 512 (length ((schema-of b) .presences) + more) (omega (arith, presences-long b)))
+
+-- ---- a type gets its row, and then its presence
+
+module _ (b : List ℕ) (t : ℕ) (k : Kind) {b₁ : List ℕ} (w : Becomes b t k b₁) (d : ℕ) (n : Name) where
+  typed : schema-of b₁ ≡ with-types (schema-of b) (set ((schema-of b) .types) t k)
+  typed = shows-schema w
+
+  pub room-typed : length ((schema-of b) .presences) < 512 → length ((schema-of b₁) .presences) < 512
+  room-typed h = omega (arith, ap (λ (x : Schema). length (x .presences)) typed)
+
+  pub free-typed : bears (schema-of b) d n ≡ false → bears (schema-of b₁) d n ≡ false
+  unfolding bears
+  free-typed e = ap (λ (x : Schema). bears x d n) typed ∙ e
+
+  pub type-put : {b₂ : List ℕ}
+      → Shows b₂ (with-presences (schema-of b₁) (put presence-before (record { sds = d; name = n; type = t }) ((schema-of b₁) .presences)))
+      → Shows b₂ (with-type t k d n (schema-of b))
+  type-put {b₂} p =
+      subst (λ (x : Schema). Shows b₂ (with-presences x (put presence-before (record { sds = d; name = n; type = t }) (x .presences)))) typed p
+
+-- ---- the rules
+
+-- one new type of kind k
+abbrev pub made : ℕ → Name → Kind → Schema → Outcome Schema
+made d n k s = done (new-type s) 0 0 (with-type (new-type s) k d n s)
+
+module _ (d : ℕ) (n : Name) where
+  pub new-attribute-left : (v : ℕ) (s : Schema) → Left (new-attribute d n v s) (one-refusals s d n (ltb 5 v)) (made d n (attribute v) s)
+  unfolding new-attribute unknown-value-kind
+  new-attribute-left v s = record { is = refl }
+
+  pub new-designation-left : (s : Schema) → Left (new-designation d n s) (one-refusals s d n false) (made d n designation s)
+  unfolding new-designation verdict
+  new-designation-left s = record { is = refl }
+
+-- ---- the effect of a call that makes one type
+
+module _ {b : List ℕ} {d : ℕ} {n : Name} {t : ℕ} (r : Ready b d n t) (k : Kind) {b₁ : List ℕ} (w : Becomes b t k b₁) where
+  -- what its presence needs once it has its row
+  pub presence-ready : Stored b₁ × (((d < 256) × (t < 256))
+      × ((well-formed n ≡ true) × ((length ((schema-of b₁) .presences) < 512) × (bears (schema-of b₁) d n ≡ false))))
+  presence-ready =
+      let small : (d < 256) × (t < 256) = (omega (arith, r .small), omega (arith, r .below)) in
+      (shows-stored w, (small, (r .formed, (room-typed b t k w d n (r .room), free-typed b t k w d n (r .free)))))
+
+  pub made-kept : {rule : Schema → Outcome Schema} {a : Answer} {b₂ : List ℕ} → rule (schema-of b) ≡ made d n k (schema-of b) → a ≡ success t 0 0
+      → Shows b₂ (with-presences (schema-of b₁) (put presence-before (record { sds = d; name = n; type = t }) ((schema-of b₁) .presences)))
+      → Kept b rule a b₂
+  made-kept o e p =
+      kept-done (r .sound) o (e ∙ ap (λ (x : ℕ). success x 0 0) (r .new))
+      (type-put b t k w d n p .shown ∙ ap (λ (x : ℕ). picture (with-type x k d n (schema-of b))) (r .new))

@@ -1,0 +1,31 @@
+-- A name in a field: its bytes, and zeros behind them.
+use Prim.Native.Nat.{ℕ, _≤_}
+use mathlib.Core.Path.{_≡_}
+use mathlib.Core.List.{List}
+use mathlib.Core.Bool.{Bool, not, _&&_, _||_}
+use lib.Dec.{eqb}
+use lib.ListN.{length, take, replicate}
+use Rattle.rules.specs.01-Lists.{same-bytes}
+use Rattle.rules.specs.02-Limits.{limits}
+use Rattle.rules.specs.03-Names.{letter, letter-or-digit, well-formed}
+use Rattle.rules.specs.07-Picture.{pad}
+use Rattle.rules.specs.Read.{strip}
+
+-- the field holds a well-formed name
+unfoldable pub name-field : List ℕ → Bool
+name-field f = well-formed (strip f) && same-bytes (pad (limits .name) (strip f)) f
+
+-- the field holds nothing
+unfoldable pub blank-field : List ℕ → Bool
+blank-field f = same-bytes (replicate (length f) 0) f
+
+-- byte c may stand behind byte `last`, which is 32 before the first: a letter first, and behind a zero only zeros
+unfoldable pub may-follow : ℕ → ℕ → Bool
+may-follow last c =
+    (letter-or-digit c && (not (eqb last 0) && (not (eqb last 32) || letter c))) || (eqb c 0 && not (eqb last 32))
+
+-- r bytes of the field are its name
+pub record Stripped (field : List ℕ) (r : ℕ) : Type 0 where
+  pub fits : r ≤ length field
+  pub name : take r field ≡ strip field
+  pub long : r ≡ length (strip field)

@@ -1,0 +1,58 @@
+use borrow.Author.Needs.{needs}
+use Prim.Native.Nat.{ℕ, _+_, _-_, _≤_}
+use native.Mathlib.Omega.{arith}
+use mathlib.Core.Path.{_≡_, sym, ap, _∙_}
+use mathlib.Core.Logic.{⊎-elim}
+use mathlib.Core.Bool.{_&&_}
+use lib.Dec.{eqb}
+use lib.ListN.{getD}
+use Rattle.rules.specs.04-Schema.{side-code}
+use Rattle.base.specs.Rows.{presence-at, application-at, end-at}
+use Rattle.base.specs.Back.{application-shown, end-shown}
+use Rattle.base.proofs.Kept.{sound-long}
+use Rattle.type_set.specs.declared.TypeSet.{TypeSet}
+use Rattle.type_set.specs.Set.{has}
+use Rattle.visible.proofs.ShownLaws.{few-applications, application-small, fails-first, passes-first}
+use Rattle.visible.proofs.is_applied.Statement.{statement}
+use Rattle.visible.proofs.is_applied.Tie as tie
+
+application-sds-requires : tie.Need-application-sds-requires
+application-sds-requires c κs = (sound-long (c .before .pre .0), omega (arith, few-applications (c .before .args .base .now), c .before .pre .1))
+
+test-requires : tie.Need-test-requires
+test-requires c κs = omega (arith, c .application-sds .ensures .is, application-small (c .before .before .pre .0) _ (c .before .before .pre .1) .0)
+
+returns : tie.Need-returns
+returns c = fails-first _ (c .before .test .ensures ∙ ap (has (c .before .before .before .before .args .sdss)) (c .before .before .application-sds .ensures .is)) (c .if1 .taken)
+
+application-to-requires : tie.Need-application-to-requires
+application-to-requires c κs = (
+  sound-long (c .before .before .before .before .pre .0),
+  omega
+      (arith, few-applications (c .before .before .before .before .args .base .now), c .before .before .before .before .pre .1),
+)
+
+test-requires-2 : tie.Need-test-requires-2
+test-requires-2 c κs = omega (
+  arith,
+  c .application-to .ensures .is,
+  application-small (c .before .before .before .before .before .pre .0) _
+      (c .before .before .before .before .before .pre .1) .1 .0,
+)
+
+returns-2 : tie.Need-returns-2
+returns-2 c =
+    passes-first (c .before .before .before .test .ensures ∙ ap (has (c .before .before .before .before .before .before .args .sdss))
+    (c .before .before .before .before .application-sds .ensures .is)) (c .before .before .if1 .left)
+    (c .test2 .ensures ∙ ap (has (c .before .before .before .before .before .before .args .types)) (c .before .application-to .ensures .is))
+
+pub is-applied-spec : {M : Type 1} → statement M
+is-applied-spec =
+    tie.close
+    (tie.spec
+    application-sds-requires
+    test-requires
+    returns
+    application-to-requires
+    test-requires-2
+    returns-2)

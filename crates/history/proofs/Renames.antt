@@ -107,7 +107,7 @@ rename-keeps d n new s g =
     (done 0 0 0
     (with-presences s (put presence-before (record { sds = d; name = new; type = type-named s d n })
     (without (holds-type d (type-named s d n)) (s .presences)))))
-    (λ _. g)
+    (λ _ _. g)
     (λ passed.
-    renamed s g d new (type-named s d n) (passed .0) (passed .1 .0) (or-neither (malformed n) (malformed new) (passed .1 .1 .0) .1)
-    (named-present s d n (passed .1 .1 .1 .0)) (passed .1 .1 .1 .1 .0))
+    renamed s g d new (type-named s d n) (passed .fails 2) (passed .fails 3) (or-neither (malformed n) (malformed new) (passed .fails 4) .1)
+    (named-present s d n (passed .fails 6)) (passed .fails 11))

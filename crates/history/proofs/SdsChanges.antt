@@ -98,8 +98,8 @@ pub remove-sds-keeps : (d : ℕ) (s : Schema) → Good s → Good (next s (remov
 unfolding remove-sds unknown-sds holds-presence
 remove-sds-keeps d s g =
     verdict-keeps (λ o. Good (next s o)) (remove-sds-refusals d s) (done 0 0 0 (with-sdss s (set (s .sdss) d [])))
-    (λ _. g)
-    (λ passed. with-sdss-good g (less-sds (parts-of g .sdss) d (inside (passed .0)) (aimed d (passed .1 .0))) (still (passed .1 .1 .0)))
+    (λ _ _. g)
+    (λ passed. with-sdss-good g (less-sds (parts-of g .sdss) d (inside (passed .fails 2)) (aimed d (passed .fails 3))) (still (passed .fails 12)))
   where
     inside : unknown-sds s d ≡ false → d < length (s .sdss)
     inside e = omega (arith, leb-false (limits .sdss) d (or-neither (leb (limits .sdss) d) (not (used-sds s d)) e .0), g .sds-room)
@@ -114,10 +114,10 @@ pub new-sds-keeps : (n : Name) (s : Schema) → Good s → Good (next s (new-sds
 unfolding new-sds sds-name-taken no-free-sds free-sdss used-sds
 new-sds-keeps n s g =
     verdict-keeps (λ o. Good (next s o)) (new-sds-refusals n s) (done (new-sds-number s) 0 0 (with-sdss s (set (s .sdss) (new-sds-number s) n)))
-    (λ _. g)
+    (λ _ _. g)
     (λ passed.
-    let (inside, free) = lowest (passed .1 .1 .0) in
-    with-sdss-good g (more-sds (parts-of g .sdss) (new-sds-number s) inside n free (formed n (passed .0)) (passed .1 .0)) (still inside free))
+    let (inside, free) = lowest (passed .fails 14) in
+    with-sdss-good g (more-sds (parts-of g .sdss) (new-sds-number s) inside n free (formed n (passed .fails 4)) (passed .fails 11)) (still inside free))
   where
     lowest : no-free-sds s ≡ false → (new-sds-number s < length (s .sdss)) × (used-sds (of-sdss (s .sdss)) (new-sds-number s) ≡ false)
     lowest e =

@@ -3,12 +3,12 @@ use Prim.Native.Nat.{ℕ, _≤_, _<_}
 use native.Mathlib.Omega.{arith}
 use mathlib.Core.Path.{_≡_, refl, sym, _∙_}
 use mathlib.Core.List.{List, [], _∷_}
-use mathlib.Core.Bool.{Bool, true, false, _&&_, _||_, or-false}
+use mathlib.Core.Bool.{Bool, true, false, _&&_, _||_}
 use lib.Dec.{ltb, eqb}
 use lib.ListN.{length}
 use borrow.Author.Tests.{ltb-false, lt-ltb, le-ltb, eq-eqb, ne-eqb}
 use Rattle.rules.specs.declared.Answer.{Answer}
-use Rattle.rules.specs.01-Lists.{any, put}
+use Rattle.rules.specs.01-Lists.{any, all, put}
 use Rattle.rules.specs.03-Names.{Name, well-formed, same-name}
 use Rattle.rules.specs.04-Schema.{Schema, bears, holds-name, presence-before}
 use Rattle.rules.specs.04-Schema.Kind.{paired}
@@ -25,8 +25,9 @@ use Rattle.base.specs.Stored.{Shows, Stored, Becomes}
 use Rattle.base.proofs.Kept.{kept-done}
 use Rattle.base.proofs.StoredLaws.{shows-has, shows-stored, shows-next}
 use Rattle.base.specs.Tested.{Tested}
+use Rattle.conditions.proofs.AimedLaws.{all-passed, aimed-well, both-formed}
 use Rattle.change_types.specs.Create.{Ready}
-use Rattle.change_pairs.specs.Pair.{Two-free, Two-names, Pair-room, Pair-ready, Pair-placed, room-refusals}
+use Rattle.change_pairs.specs.Pair.{Two-free, Two-names, Pair-ready}
 use Rattle.change_types.proofs.CreateLaws.{room-typed, free-typed, type-put}
 
 -- ---- the categories
@@ -58,20 +59,7 @@ module _ (c c′ : ℕ) where
 
 -- ---- the names
 
-module _ (s : Schema) (d : ℕ) (n m : Name) where
-  pub forward-borne : bears s d n ≡ true → true ≡ names-taken s d (n ∷ m ∷ [])
-  unfolding names-taken any
-  forward-borne e = rw e
-
-  pub reverse-borne : bears s d n ≡ false → bears s d m ≡ true → true ≡ names-taken s d (n ∷ m ∷ [])
-  unfolding names-taken any
-  reverse-borne e f = rw (e, f)
-
-  pub neither-borne : bears s d n ≡ false → bears s d m ≡ false → same-name n m ≡ names-taken s d (n ∷ m ∷ [])
-  unfolding names-taken any
-  neither-borne e f = rw (e, f) (sym (or-false (same-name n m || false) ∙ or-false (same-name n m)))
-
--- what it says that they are not
+-- what it says that they are not taken
 none-of : (x y z : Bool) → (x || (y || false)) || ((z || false) || false) ≡ false → (x ≡ false) × ((y ≡ false) × (z ≡ false))
 none-of x y z e =
     let (f, g) = or-neither (x || (y || false)) ((z || false) || false) e in
@@ -86,12 +74,17 @@ two-names {b} d n m e =
 
 -- ---- what the tests say
 
-pub no-two : {b : List ℕ} {no t r : ℕ} → Tested b (room-refusals b) no 0 → (no ≡ 0 → ⊥) → Pair-room b no t r
-no-two e z = record { told = e; two = λ q. absurd (z q) }
-
-module _ {b : List ℕ} {d : ℕ} {n m : Name} {c c′ no t r : ℕ} where
-  pub not-placed : Tested b (new-pair-refusals d n m c c′ (schema-of b)) no 0 → (no ≡ 0 → ⊥) → Pair-placed b d n m c c′ no t r
-  not-placed e z = record { told = e; ready = λ q. absurd (z q); two = λ q. absurd (z q) }
+pub pair-ready : {b : List ℕ} (d : ℕ) (n m : Name) (c c′ : ℕ) {no : ℕ} → Tested b (new-pair-refusals d n m c c′ (schema-of b)) no 0 → no ≡ 0
+    → Pair-ready b d n m c c′
+unfolding all
+pair-ready d n m c c′ t z =
+    let p = all-passed t z refl in
+    record {
+      aim = aimed-well _ t z;
+      formed = both-formed n m (p .fails 4);
+      categories = categories-fit c c′ (p .fails 5);
+      names = two-names d n m (p .fails 11);
+    }
 
 -- ---- the rule
 
@@ -108,13 +101,9 @@ new-pair-left d n m c c′ s = record { is = refl }
 module _ {b : List ℕ} {d : ℕ} {n m : Name} {c c′ t r : ℕ} (x : Pair-ready b d n m c c′) (f : Two-free b t r) where
   pub forward-ready : Ready b d n t
   forward-ready = record {
-    sound = x .sound;
-    small = x .small;
+    aim = x .aim;
     formed = x .formed .0;
-    free = x .names .free;
-    room = omega (arith, f .room);
-    below = f .below;
-    new = f .new;
+    room = record { free = x .names .free; room = omega (arith, f .room); below = f .below; new = f .new };
   }
 
   module _ {b₁ b₂ : List ℕ} (w : Becomes b t (paired c r) b₁)
@@ -145,7 +134,7 @@ module _ {b : List ℕ} {d : ℕ} {n m : Name} {c c′ t r : ℕ} (x : Pair-read
       pub reverse-ready : Stored b₃ × (((d < 256) × (r < 256))
           × ((well-formed m ≡ true) × ((length ((schema-of b₃) .presences) < 512) × (bears (schema-of b₃) d m ≡ false))))
       reverse-ready =
-          let small : (d < 256) × (r < 256) = (omega (arith, x .small), omega (arith, f .reverse-below)) in (
+          let small : (d < 256) × (r < 256) = (omega (arith, x .aim .below), omega (arith, f .reverse-below)) in (
             shows-stored v,
             (
               small,
@@ -163,5 +152,5 @@ module _ {b : List ℕ} {d : ℕ} {n m : Name} {c c′ t r : ℕ} (x : Pair-read
       pair-kept {b₄ = b₄} o e q =
           let made : Shows b₄ (with-pair t r d n m c c′ (schema-of b)) =
           shows-next (with-type r (paired c′ t) d m) forward (type-put b₂ r (paired c′ t) v d m q) in
-          kept-done (x .sound) o (e ∙ (λ i. success (f .new i) (f .second i) 0))
+          kept-done (x .aim .sound) o (e ∙ (λ i. success (f .new i) (f .second i) 0))
           (made .shown ∙ (λ i. picture (with-pair (f .new i) (f .second i) d n m c c′ (schema-of b))))

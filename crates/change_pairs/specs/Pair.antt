@@ -6,11 +6,10 @@ use mathlib.Core.Bool.{true, false}
 use lib.ListN.{length}
 use Rattle.rules.specs.03-Names.{Name, well-formed, same-name}
 use Rattle.rules.specs.04-Schema.{bears}
-use Rattle.rules.specs.07-Picture.{Sound}
 use Rattle.rules.specs.09-Refusals.{_when_, Refusals, types-full}
-use Rattle.rules.specs.10-Changes.{new-type, second-new-type, new-pair-refusals}
+use Rattle.rules.specs.10-Changes.{new-type, second-new-type}
 use Rattle.base.specs.Back.{schema-of}
-use Rattle.base.specs.Tested.{Tested}
+use Rattle.conditions.specs.Aimed.{Aimed}
 
 -- t and r are the numbers that the forward type and its reverse take, and there is room for their presences
 pub record Two-free (b : List ℕ) (t r : ℕ) : Type 0 where
@@ -24,10 +23,6 @@ pub record Two-free (b : List ℕ) (t r : ℕ) : Type 0 where
 abbrev pub room-refusals : List ℕ → Refusals
 room-refusals b = (14 when types-full (schema-of b) 2) ∷ []
 
-pub record Pair-room (b : List ℕ) (no t r : ℕ) : Type 0 where
-  pub told : Tested b (room-refusals b) no 0
-  pub two : no ≡ 0 → Two-free b t r
-
 -- neither name is borne, and they are two
 pub record Two-names (b : List ℕ) (d : ℕ) (n m : Name) : Type 0 where
   pub free : bears (schema-of b) d n ≡ false
@@ -36,13 +31,7 @@ pub record Two-names (b : List ℕ) (d : ℕ) (n m : Name) : Type 0 where
 
 -- what is so of the inputs where none of the refusals before that holds
 pub record Pair-ready (b : List ℕ) (d : ℕ) (n m : Name) (c c′ : ℕ) : Type 0 where
-  pub sound : Sound b
-  pub small : d < 16
+  pub aim : Aimed b d
   pub formed : (well-formed n ≡ true) × (well-formed m ≡ true)
   pub categories : (c ≤ 3) × (c′ ≤ 3)
   pub names : Two-names b d n m
-
-pub record Pair-placed (b : List ℕ) (d : ℕ) (n m : Name) (c c′ no t r : ℕ) : Type 0 where
-  pub told : Tested b (new-pair-refusals d n m c c′ (schema-of b)) no 0
-  pub ready : no ≡ 0 → Pair-ready b d n m c c′
-  pub two : no ≡ 0 → Two-free b t r

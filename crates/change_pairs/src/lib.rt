@@ -1,27 +1,15 @@
 // A pair of link types, each the reverse of the other.
+use conditions::aimed::Told;
 use rules::Answer;
 use rules::Limits;
 ghost use mathlib.Core.Path.{_≡_};
-ghost use mathlib.Core.List.{[], _∷_};
 ghost use Rattle.rules.specs.07-Picture.{Sound};
-ghost use Rattle.rules.specs.09-Refusals.{no-pair, names-taken};
-ghost use Rattle.rules.specs.10-Changes.{new-pair};
+ghost use Rattle.rules.specs.09-Refusals.{no-pair};
+ghost use Rattle.rules.specs.10-Changes.{new-pair, new-pair-refusals};
 ghost use Rattle.rules.specs.12-Contracts.{Kept};
 ghost use Rattle.base.specs.Back.{schema-of};
-ghost use Rattle.change_pairs.specs.Pair.{Pair-room, Pair-placed};
-
-// The number of the refusal, 0 where there is none; then the numbers that the forward type and its reverse take.
-struct Places {
-    no: usize,
-    t: usize,
-    r: usize,
-}
-
-fn refused(no: usize) -> Places
-    ensures { λ r. ⌜ r .no ≡ no ⌝ }
-{
-    Places { no, t: 0, r: 0 }
-}
+ghost use Rattle.conditions.specs.Aimed.{Refused-or};
+ghost use Rattle.change_pairs.specs.Pair.{room-refusals, Two-free};
 
 // Whether link types of these two categories make no pair.
 fn is_no_pair(category: usize, back: usize) -> bool
@@ -39,37 +27,27 @@ fn is_no_pair(category: usize, back: usize) -> bool
     back == 3
 }
 
-// Whether SDS d has a type of either name, or the two are one.
-fn are_taken(base: &[u8], d: usize, name: &[u8], reverse: &[u8]) -> bool
+// Room for two types more, each with a presence; then the numbers that the forward type and its reverse take.
+fn room_for_two(base: &[u8]) -> Told
     requires { ⌜ Sound (now base) ⌝ }
-    ensures { λ r. ⌜ r ≡ names-taken (schema-of (now (base .entry))) d (now (name .entry) ∷ now (reverse .entry) ∷ []) ⌝ }
-{
-    if working::find::type_in(base, d, name) != Limits::TYPES {
-        return true;
-    }
-    if working::find::type_in(base, d, reverse) != Limits::TYPES {
-        return true;
-    }
-    names::is_same(name, reverse)
-}
-
-// Room for two types more, each with a presence.
-fn room_for_two(base: &[u8]) -> Places
-    requires { ⌜ Sound (now base) ⌝ }
-    ensures { λ r. ⌜ Pair-room (now (base .entry)) (r .no) (r .t) (r .r) ⌝ }
+    ensures { λ r. ⌜ Refused-or (now (base .entry)) (room-refusals (now (base .entry))) (r .no) (Two-free (now (base .entry)) (r .one) (r .two)) ⌝ }
 {
     let t = conditions::free_type(base, 0);
     if Limits::TYPES <= t {
-        return refused(14);
+        return Told::refused(14);
     }
     let r = conditions::free_type(base, t + 1);
     if Limits::TYPES <= r {
-        return refused(14);
+        return Told::refused(14);
     }
     if Limits::PRESENCES < base::used::presence_count(base) + 2 {
-        return refused(14);
+        return Told::refused(14);
     }
-    Places { no: 0, t, r }
+    Told {
+        no: 0,
+        one: t,
+        two: r,
+    }
 }
 
 fn places_for(
@@ -79,29 +57,20 @@ fn places_for(
     reverse: &[u8],
     category: usize,
     back: usize,
-) -> Places
-    ensures { λ r. ⌜ Pair-placed (now (base .entry)) sds (now (name .entry)) (now (reverse .entry)) category back (r .no) (r .t) (r .r) ⌝ }
+) -> Told
+    ensures { λ r. ⌜ Refused-or (now (base .entry))
+        (new-pair-refusals sds (now (name .entry)) (now (reverse .entry)) category back (schema-of (now (base .entry)))) (r .no)
+        (Two-free (now (base .entry)) (r .one) (r .two)) ⌝ }
 {
-    if !sound::is_sound(base) {
-        return refused(1);
-    }
-    if !lookup::is_sds(base, sds) {
-        return refused(2);
-    }
-    if sds == 0 {
-        return refused(3);
-    }
-    if !names::is_well_formed(name) {
-        return refused(4);
-    }
-    if !names::is_well_formed(reverse) {
-        return refused(4);
+    let no = conditions::aimed::aimed_two(base, sds, name, reverse);
+    if no != 0 {
+        return Told::refused(no);
     }
     if is_no_pair(category, back) {
-        return refused(5);
+        return Told::refused(5);
     }
-    if are_taken(base, sds, name, reverse) {
-        return refused(11);
+    if conditions::aimed::are_taken(base, sds, name, reverse) {
+        return Told::refused(11);
     }
     room_for_two(base)
 }
@@ -120,9 +89,9 @@ pub fn new_pair(
     if places.no != 0 {
         return Answer::refused(places.no);
     }
-    edit::write_type(base, places.t, 3, category, places.r, b"");
-    edit::put_presence(base, sds, name, places.t);
-    edit::write_type(base, places.r, 3, back, places.t, b"");
-    edit::put_presence(base, sds, reverse, places.r);
-    Answer::done(places.t, places.r, 0)
+    edit::write_type(base, places.one, 3, category, places.two, b"");
+    edit::put_presence(base, sds, name, places.one);
+    edit::write_type(base, places.two, 3, back, places.one, b"");
+    edit::put_presence(base, sds, reverse, places.two);
+    Answer::done(places.one, places.two, 0)
 }

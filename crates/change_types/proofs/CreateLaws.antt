@@ -2,18 +2,18 @@
 use Prim.Native.Nat.{ℕ, _+_, _≤_, _<_}
 use native.Mathlib.Omega.{arith}
 use mathlib.Core.Path.{_≡_, refl, ap, _∙_, subst}
-use mathlib.Core.List.{List, _∷_, _++_}
+use mathlib.Core.List.{List, []}
 use mathlib.Core.Bool.{Bool, true, false}
 use lib.Dec.{ltb}
 use lib.ListN.{length, set}
 use borrow.Author.Tests.{lt-ltb, le-ltb}
 use Rattle.rules.specs.declared.Answer.{Answer}
-use Rattle.rules.specs.01-Lists.{all, put}
+use Rattle.rules.specs.01-Lists.{put}
 use Rattle.rules.specs.03-Names.{Name, well-formed}
 use Rattle.rules.specs.04-Schema.{Schema, Kind, bears, presence-before}
 use Rattle.rules.specs.04-Schema.Kind.{attribute, designation}
 use Rattle.rules.specs.07-Picture.{picture}
-use Rattle.rules.specs.09-Refusals.{_when_, Outcome, Refusals, verdict, success, unknown-value-kind, presences-full, types-full, free-types}
+use Rattle.rules.specs.09-Refusals.{Outcome, verdict, success, malformed, unknown-value-kind, presences-full, types-full, free-types}
 use Rattle.rules.specs.09-Refusals.Outcome.{done}
 use Rattle.rules.specs.10-Changes.{with-types, with-presences, with-type, new-type, new-attribute, new-designation}
 use Rattle.rules.specs.12-Contracts.{Kept}
@@ -25,61 +25,21 @@ use Rattle.base.proofs.Kept.{kept-done}
 use Rattle.base.proofs.Shown.{presences-long}
 use Rattle.base.proofs.StoredLaws.{shows-schema, shows-stored}
 use Rattle.base.specs.Tested.{Tested}
-use Rattle.base.proofs.TestedLaws.{Come, come-first, come-next, come-stops, come-rest, come-past, tested-first, tested-sound}
-use Rattle.change_types.specs.Create.{aim-refusals, room-refusals, one-refusals, Ready, Aimed, Room, Placed}
+use Rattle.base.proofs.TestedLaws.{come-next, come-rest}
+use Rattle.conditions.specs.Aimed.{aim-refusals, Refused-or}
+use Rattle.conditions.proofs.AimedLaws.{aimed-well, names-fit, formed, come-aimed}
+use Rattle.change_types.specs.Create.{room-refusals, one-refusals, Room, Ready}
 
 -- ---- what the tests of a call that makes one type say
 
-module _ {b : List ℕ} {d : ℕ} {n : Name} {no : ℕ} where
-  pub not-aimed : Tested b (aim-refusals (schema-of b) d n) no 0 → (no ≡ 0 → ⊥) → Aimed b d n no
-  not-aimed r z = record { told = r; small = λ e. absurd (z e); formed = λ e. absurd (z e) }
-
-  module _ {t : ℕ} where
-    pub no-room : Tested b (room-refusals (schema-of b) d n) no 0 → (no ≡ 0 → ⊥) → Room b d n no t
-    no-room r z = record {
-      told = r;
-      free = λ e. absurd (z e);
-      room = λ e. absurd (z e);
-      below = λ e. absurd (z e);
-      new = λ e. absurd (z e);
-    }
-
-    pub not-placed : {unknown : Bool} → Tested b (one-refusals (schema-of b) d n unknown) no 0 → (no ≡ 0 → ⊥) → Placed b d n unknown no t
-    not-placed r z = record { told = r; value-known = λ e. absurd (z e); ready = λ e. absurd (z e) }
-
-module _ {b : List ℕ} {d : ℕ} {n : Name} {no : ℕ} (a : Aimed b d n no) {no′ t : ℕ} {unknown : Bool} where
-  pub aimed-stops : (no ≡ 0 → ⊥) → no′ ≡ no → Placed b d n unknown no′ t
-  aimed-stops z e = rw e (not-placed (tested-first ((5 when unknown) ∷ room-refusals (schema-of b) d n) (a .told) z) z)
-
--- of refusals that begin with those of the aim, the others are left
-pub come-aimed : {b : List ℕ} {d : ℕ} {n : Name} {no : ℕ} → Aimed b d n no → no ≡ 0 → (rest : Refusals)
-    → Come b (aim-refusals (schema-of b) d n ++ rest) rest
-unfolding all
-come-aimed {b} {d} {n} a z rest = come-past (aim-refusals (schema-of b) d n) rest (come-first (tested-sound (a .told) z)) refl (a .told) z
-
-module _ {b : List ℕ} {d : ℕ} {n : Name} {no : ℕ} (a : Aimed b d n no) (z : no ≡ 0) {no′ t : ℕ} where
-  pub both-ready : Room b d n no′ t → no′ ≡ 0 → Ready b d n t
-  both-ready r y = record {
-    sound = tested-sound (a .told) z;
-    small = a .small z;
-    formed = a .formed z;
-    free = r .free y;
-    room = r .room y;
-    below = r .below y;
-    new = r .new y;
-  }
+module _ {b : List ℕ} {d : ℕ} {n : Name} {no : ℕ} (aimed : Tested b (aim-refusals (schema-of b) d (malformed n)) no 0) (z : no ≡ 0) {t : ℕ} where
+  pub room-ready : Room b d n t → Ready b d n t
+  room-ready r = record { aim = aimed-well _ aimed z; formed = formed n (names-fit d [] aimed z); room = r }
 
   -- what stands between is a value kind
-  module _ {unknown : Bool} where
-    pub aimed-unknown : unknown ≡ true → no′ ≡ 5 → Placed b d n unknown no′ t
-    aimed-unknown e h = not-placed (come-stops (come-aimed a z ((5 when unknown) ∷ room-refusals (schema-of b) d n)) e h) (λ w. omega arith)
-
-    pub aimed-placed : unknown ≡ false → Room b d n no′ t → Placed b d n unknown no′ t
-    aimed-placed e r = record {
-      told = come-rest (come-next (come-aimed a z ((5 when unknown) ∷ room-refusals (schema-of b) d n)) e) (r .told);
-      value-known = λ _. e;
-      ready = both-ready r;
-    }
+  pub room-placed : {unknown : Bool} → unknown ≡ false → {no′ : ℕ} → Refused-or b (room-refusals (schema-of b) d n) no′ (Room b d n t)
+      → Refused-or b (one-refusals (schema-of b) d n unknown) no′ (Ready b d n t)
+  room-placed e r = record { told = come-rest (come-next (come-aimed d aimed z _) e) (r .told); so = λ y. room-ready (r .so y) }
 
 -- the room for new types is room for their numbers and for their presences
 module _ (b : List ℕ) (more : ℕ) where
@@ -138,12 +98,12 @@ module _ {b : List ℕ} {d : ℕ} {n : Name} {t : ℕ} (r : Ready b d n t) (k : 
   pub presence-ready : Stored b₁ × (((d < 256) × (t < 256))
       × ((well-formed n ≡ true) × ((length ((schema-of b₁) .presences) < 512) × (bears (schema-of b₁) d n ≡ false))))
   presence-ready =
-      let small : (d < 256) × (t < 256) = (omega (arith, r .small), omega (arith, r .below)) in
-      (shows-stored w, (small, (r .formed, (room-typed b t k w d n (r .room), free-typed b t k w d n (r .free)))))
+      let small : (d < 256) × (t < 256) = (omega (arith, r .aim .below), omega (arith, r .room .below)) in
+      (shows-stored w, (small, (r .formed, (room-typed b t k w d n (r .room .room), free-typed b t k w d n (r .room .free)))))
 
   pub made-kept : {rule : Schema → Outcome Schema} {a : Answer} {b₂ : List ℕ} → rule (schema-of b) ≡ made d n k (schema-of b) → a ≡ success t 0 0
       → Shows b₂ (with-presences (schema-of b₁) (put presence-before (record { sds = d; name = n; type = t }) ((schema-of b₁) .presences)))
       → Kept b rule a b₂
   made-kept o e p =
-      kept-done (r .sound) o (e ∙ ap (λ (x : ℕ). success x 0 0) (r .new))
-      (type-put b t k w d n p .shown ∙ ap (λ (x : ℕ). picture (with-type x k d n (schema-of b))) (r .new))
+      kept-done (r .aim .sound) o (e ∙ ap (λ (x : ℕ). success x 0 0) (r .room .new))
+      (type-put b t k w d n p .shown ∙ ap (λ (x : ℕ). picture (with-type x k d n (schema-of b))) (r .room .new))

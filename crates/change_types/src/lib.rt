@@ -1,71 +1,48 @@
 // The calls that make types. What they test of their inputs they test once, in the order of their refusals.
+use conditions::aimed::Told;
 use rules::Answer;
 use rules::Limits;
-ghost use mathlib.Core.Path.{_≡_};
 ghost use Rattle.rules.specs.07-Picture.{Sound};
 ghost use Rattle.rules.specs.10-Changes.{new-attribute, new-designation};
 ghost use Rattle.rules.specs.12-Contracts.{Kept};
-ghost use Rattle.change_types.specs.Create.{Aimed, Room, Placed};
+ghost use Rattle.base.specs.Back.{schema-of};
+ghost use Rattle.conditions.specs.Aimed.{Refused-or};
+ghost use Rattle.change_types.specs.Create.{room-refusals, one-refusals, Room, Ready};
 
-// The number of the refusal, 0 where there is none; then the number that the new type takes.
-pub struct Place {
-    pub no: usize,
-    pub t: usize,
-}
-
-fn refused(no: usize) -> Place
-    ensures { λ r. ⌜ r .no ≡ no ⌝ }
-{
-    Place { no, t: 0 }
-}
-
-// What a call that makes types tests first, of its SDS and of a name: the number of the refusal, 0 where there is none.
-pub fn aimed(base: &[u8], sds: usize, name: &[u8]) -> usize
-    ensures { λ r. ⌜ Aimed (now (base .entry)) sds (now (name .entry)) r ⌝ }
-{
-    if !sound::is_sound(base) {
-        return 1;
-    }
-    if !lookup::is_sds(base, sds) {
-        return 2;
-    }
-    if sds == 0 {
-        return 3;
-    }
-    if !names::is_well_formed(name) {
-        return 4;
-    }
-    0
-}
-
-// What a call that makes one type tests last: that its name is free, and that there is room.
-pub fn room_for(base: &[u8], sds: usize, name: &[u8]) -> Place
+// What a call that makes one type tests last: that its name is free, and that there is room; then the number that the type takes.
+pub fn room_for(base: &[u8], sds: usize, name: &[u8]) -> Told
     requires { ⌜ Sound (now base) ⌝ }
-    ensures { λ r. ⌜ Room (now (base .entry)) sds (now (name .entry)) (r .no) (r .t) ⌝ }
+    ensures { λ r. ⌜ Refused-or (now (base .entry)) (room-refusals (schema-of (now (base .entry))) sds (now (name .entry))) (r .no)
+        (Room (now (base .entry)) sds (now (name .entry)) (r .one)) ⌝ }
 {
     if working::find::type_in(base, sds, name) != Limits::TYPES {
-        return refused(11);
+        return Told::refused(11);
     }
     let t = conditions::free_type(base, 0);
     if Limits::TYPES <= t {
-        return refused(14);
+        return Told::refused(14);
     }
     if Limits::PRESENCES <= base::used::presence_count(base) {
-        return refused(14);
+        return Told::refused(14);
     }
-    Place { no: 0, t }
+    Told {
+        no: 0,
+        one: t,
+        two: 0,
+    }
 }
 
 // `unknown` is whether the call was given a value kind, and does not know it.
-fn place_for(base: &[u8], sds: usize, name: &[u8], unknown: bool) -> Place
-    ensures { λ r. ⌜ Placed (now (base .entry)) sds (now (name .entry)) unknown (r .no) (r .t) ⌝ }
+fn place_for(base: &[u8], sds: usize, name: &[u8], unknown: bool) -> Told
+    ensures { λ r. ⌜ Refused-or (now (base .entry)) (one-refusals (schema-of (now (base .entry))) sds (now (name .entry)) unknown) (r .no)
+        (Ready (now (base .entry)) sds (now (name .entry)) (r .one)) ⌝ }
 {
-    let no = aimed(base, sds, name);
+    let no = conditions::aimed::aimed(base, sds, name);
     if no != 0 {
-        return refused(no);
+        return Told::refused(no);
     }
     if unknown {
-        return refused(5);
+        return Told::refused(5);
     }
     room_for(base, sds, name)
 }
@@ -77,9 +54,9 @@ pub fn new_attribute(base: &mut [u8], sds: usize, name: &[u8], value: usize) -> 
     if place.no != 0 {
         return Answer::refused(place.no);
     }
-    edit::write_type(base, place.t, 2, value, 0, b"");
-    edit::put_presence(base, sds, name, place.t);
-    Answer::done(place.t, 0, 0)
+    edit::write_type(base, place.one, 2, value, 0, b"");
+    edit::put_presence(base, sds, name, place.one);
+    Answer::done(place.one, 0, 0)
 }
 
 pub fn new_designation(base: &mut [u8], sds: usize, name: &[u8]) -> Answer
@@ -89,7 +66,7 @@ pub fn new_designation(base: &mut [u8], sds: usize, name: &[u8]) -> Answer
     if place.no != 0 {
         return Answer::refused(place.no);
     }
-    edit::write_type(base, place.t, 3, 4, 0, b"");
-    edit::put_presence(base, sds, name, place.t);
-    Answer::done(place.t, 0, 0)
+    edit::write_type(base, place.one, 3, 4, 0, b"");
+    edit::put_presence(base, sds, name, place.one);
+    Answer::done(place.one, 0, 0)
 }

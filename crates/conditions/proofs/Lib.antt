@@ -1,3 +1,4 @@
 pub mod NameLaws
 pub mod ReverseLaws
 pub mod ConditionLaws
+pub mod AimedLaws

@@ -1,9 +1,9 @@
 -- The tests of an SDS and of names, one after the other. Assumes nothing.
 use Prim.Native.Nat.{ℕ}
 use native.Mathlib.Omega.{arith}
-use mathlib.Core.Path.{_≡_, refl, ap}
+use mathlib.Core.Path.{_≡_, refl, sym, ap, _∙_}
 use mathlib.Core.List.{[], _∷_}
-use mathlib.Core.Bool.{Bool, true, false, not, _||_}
+use mathlib.Core.Bool.{Bool, true, false, not, _||_, or-false}
 use borrow.Author.Tests.{eq-eqb, ne-eqb}
 use Rattle.rules.specs.01-Lists.{any}
 use Rattle.rules.specs.03-Names.{Name, well-formed, same-name}
@@ -91,6 +91,10 @@ module _ (s : Schema) (d : ℕ) (n : Name) where
     pub second-taken : bears s d n ≡ false → bears s d m ≡ true → names-taken s d (n ∷ m ∷ []) ≡ true
     unfolding names-taken any
     second-taken e f = rw (e, f)
+
+    pub two-as-told : bears s d n ≡ false → bears s d m ≡ false → same-name n m ≡ names-taken s d (n ∷ m ∷ [])
+    unfolding names-taken any
+    two-as-told e f = rw (e, f) (sym (or-false (same-name n m || false) ∙ or-false (same-name n m)))
 
     pub two-alike : bears s d n ≡ false → bears s d m ≡ false → same-name n m ≡ true → names-taken s d (n ∷ m ∷ []) ≡ true
     unfolding names-taken any

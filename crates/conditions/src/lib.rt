@@ -1,4 +1,5 @@
 // The conditions under which the changing calls refuse, each decided; and the rows and numbers that they then write to.
+pub mod aimed;
 use rules::Limits;
 ghost use mathlib.Core.Path.{_≡_};
 ghost use Prim.Native.Nat.{_<_};

@@ -1,3 +1,4 @@
+-- Whether two categories make no pair: each of 0 to 3, and not both implicit. Assumes nothing.
 use Rattle.change_pairs.proofs.PairLaws.{forward-unfit, reverse-unfit, forward-not-implicit, forward-implicit}
 use Rattle.change_pairs.proofs.is_no_pair.Statement.{statement}
 use Rattle.change_pairs.proofs.is_no_pair.Tie as tie

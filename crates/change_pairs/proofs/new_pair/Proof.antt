@@ -1,3 +1,4 @@
+-- A new pair: what its places tell are its refusals; then each type's row and presence. Assumes nothing.
 use borrow.Author.Needs.{needs}
 use native.Mathlib.Omega.{arith}
 use mathlib.Core.Path.{refl}
@@ -6,7 +7,7 @@ use Rattle.base.proofs.StoredLaws.{sound-stored}
 use Rattle.edit.proofs.TypeWritten.{paired-written}
 use Rattle.base.proofs.TestedLaws.{tested-stops, tested-passes}
 use Rattle.change_types.proofs.CreateLaws.{presence-ready}
-use Rattle.change_pairs.proofs.PairLaws.{new-pair-left, forward-ready, row-ready, reverse-ready, pair-kept}
+use Rattle.change_pairs.proofs.PairLaws.{pair-ready, new-pair-left, forward-ready, row-ready, reverse-ready, pair-kept}
 use Rattle.change_pairs.proofs.new_pair.Statement.{statement}
 use Rattle.change_pairs.proofs.new_pair.Tie as tie
 
@@ -29,16 +30,16 @@ write-type-requires : tie.Need-write-type-requires
 write-type-requires c κs =
     let p = c .before .before .before .before .places-for .ensures in
     let z = c .before .before .if1 .left in
-    let x = p .ready z in
-    let f = p .two z in
-    (sound-stored (x .sound), (f .below, ((omega arith, (omega (arith, x .categories .0), omega (arith, f .reverse-below))), omega arith)))
+    let x = pair-ready _ _ _ _ _ (p .told) z in
+    let f = p .so z in
+    (sound-stored (x .aim .sound), (f .below, ((omega arith, (omega (arith, x .categories .0), omega (arith, f .reverse-below))), omega arith)))
 
 put-presence-requires : tie.Need-put-presence-requires
 put-presence-requires c κs =
     let p = c .before .before .before .before .before .before .before .before .places-for .ensures in
     let z = c .before .before .before .before .before .before .if1 .left in
-    let x = p .ready z in
-    presence-ready (forward-ready x (p .two z)) _ (paired-written (x .categories .0) (c .before .before .before .write-type .ensures))
+    let x = pair-ready _ _ _ _ _ (p .told) z in
+    presence-ready (forward-ready x (p .so z)) _ (paired-written (x .categories .0) (c .before .before .before .write-type .ensures))
 
 slice-aggregate-write-type-2 : tie.Need-slice-aggregate-write-type-2
 slice-aggregate-write-type-2 c = search needs
@@ -47,8 +48,8 @@ write-type-requires-2 : tie.Need-write-type-requires-2
 write-type-requires-2 c κs =
     let p = c .before .before .before .before .before .before .before .before .before .before .before .before .before .places-for .ensures in
     let z = c .before .before .before .before .before .before .before .before .before .before .before .if1 .left in
-    let x = p .ready z in
-    row-ready x (p .two z) (paired-written (x .categories .0) (c .before .before .before .before .before .before .before .before .write-type .ensures))
+    let x = pair-ready _ _ _ _ _ (p .told) z in
+    row-ready x (p .so z) (paired-written (x .categories .0) (c .before .before .before .before .before .before .before .before .write-type .ensures))
     (c .before .before .before .before .put-presence .ensures)
 
 put-presence-requires-2 : tie.Need-put-presence-requires-2
@@ -56,8 +57,8 @@ put-presence-requires-2 c κs =
     let p = c .before .before .before .before .before .before .before .before .before .before .before .before .before .before .before .before .before .places-for
     .ensures in
     let z = c .before .before .before .before .before .before .before .before .before .before .before .before .before .before .before .if1 .left in
-    let x = p .ready z in
-    reverse-ready x (p .two z)
+    let x = pair-ready _ _ _ _ _ (p .told) z in
+    reverse-ready x (p .so z)
     (paired-written (x .categories .0) (c .before .before .before .before .before .before .before .before .before .before .before .before .write-type .ensures))
     (c .before .before .before .before .before .before .before .before .put-presence .ensures)
     (paired-written (x .categories .1) (c .before .before .before .write-type2 .ensures))
@@ -75,8 +76,8 @@ returns-2 c =
     .before .before .before .places-for .ensures in
     let z = c .before .before .before .before .before .before .before .before .before .before .before .before .before .before .before .before .before .before
     .before .if1 .left in
-    let x = p .ready z in
-    pair-kept x (p .two z)
+    let x = pair-ready _ _ _ _ _ (p .told) z in
+    pair-kept x (p .so z)
     (paired-written (x .categories .0) (c .before .before .before .before .before .before .before .before .before .before .before .before .before .before .before .before .write-type .ensures))
     (c .before .before .before .before .before .before .before .before .before .before .before .before .put-presence .ensures)
     (paired-written (x .categories .1) (c .before .before .before .before .before .before .before .write-type2 .ensures))

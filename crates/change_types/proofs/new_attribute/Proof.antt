@@ -1,3 +1,4 @@
+-- A new attribute type: what its place tells are its refusals, then its row and its presence. Assumes nothing.
 use borrow.Author.Needs.{needs}
 use native.Mathlib.Omega.{arith}
 use mathlib.Core.Path.{refl}
@@ -5,6 +6,7 @@ use borrow.Author.Tests.{ltb-false}
 use Rattle.rules.specs.01-Lists.{all}
 use Rattle.base.proofs.StoredLaws.{sound-stored}
 use Rattle.base.proofs.TestedLaws.{tested-stops, tested-passes}
+use Rattle.conditions.proofs.AimedLaws.{all-passed}
 use Rattle.edit.proofs.TypeWritten.{attribute-written}
 use Rattle.change_types.proofs.CreateLaws.{presence-ready, made-kept, new-attribute-left}
 use Rattle.change_types.proofs.new_attribute.Statement.{statement}
@@ -26,12 +28,13 @@ slice-aggregate-write-type : tie.Need-slice-aggregate-write-type
 slice-aggregate-write-type c = search needs
 
 write-type-requires : tie.Need-write-type-requires
+unfolding all
 write-type-requires c κs =
     let p = c .before .before .before .before .place-for .ensures in
-    let r = p .ready (c .before .before .if1 .left) in (
-      sound-stored (r .sound),
+    let r = p .so (c .before .before .if1 .left) in (
+      sound-stored (r .aim .sound),
       (
-        r .below,
+        r .room .below,
         (
           (
             omega arith,
@@ -39,7 +42,7 @@ write-type-requires c κs =
               omega (
                 arith,
                 ltb-false 5 (c .before .before .before .before .before .before .before .before .args .value)
-                    (p .value-known (c .before .before .if1 .left)),
+                    (all-passed (p .told) (c .before .before .if1 .left) refl .fails 5),
               ),
               omega arith,
             ),
@@ -50,7 +53,7 @@ write-type-requires c κs =
     )
 
 put-presence-requires : tie.Need-put-presence-requires
-put-presence-requires c κs = presence-ready (c .before .before .before .before .before .before .before .before .place-for .ensures .ready
+put-presence-requires c κs = presence-ready (c .before .before .before .before .before .before .before .before .place-for .ensures .so
     (c .before .before .before .before .before .before .if1 .left)) _ (attribute-written (c .before .before .before .write-type .ensures))
 
 done-requires : tie.Need-done-requires
@@ -64,7 +67,7 @@ unfolding all
 returns-2 c =
     let p = c .before .before .before .before .before .before .before .before .before .before .before .before .place-for .ensures in
     let z = c .before .before .before .before .before .before .before .before .before .before .if1 .left in
-    made-kept (p .ready z) _ (attribute-written (c .before .before .before .before .before .before .before .write-type .ensures))
+    made-kept (p .so z) _ (attribute-written (c .before .before .before .before .before .before .before .write-type .ensures))
     (tested-passes (p .told) z refl (new-attribute-left _ _ _ _)) (c .done .ensures) (c .before .before .before .put-presence .ensures)
 
 pub new-attribute-spec : {M : Type 1} → statement M

@@ -1,3 +1,4 @@
+-- A new designation link type: what its place tells are its refusals, then its row and its presence. Assumes nothing.
 use borrow.Author.Needs.{needs}
 use native.Mathlib.Omega.{arith}
 use mathlib.Core.Path.{refl}
@@ -27,11 +28,11 @@ slice-aggregate-write-type c = search needs
 write-type-requires : tie.Need-write-type-requires
 write-type-requires c κs =
     let p = c .before .before .before .before .place-for .ensures in
-    let r = p .ready (c .before .before .if1 .left) in
-    (sound-stored (r .sound), (r .below, ((omega arith, (omega arith, omega arith)), omega arith)))
+    let r = p .so (c .before .before .if1 .left) in
+    (sound-stored (r .aim .sound), (r .room .below, ((omega arith, (omega arith, omega arith)), omega arith)))
 
 put-presence-requires : tie.Need-put-presence-requires
-put-presence-requires c κs = presence-ready (c .before .before .before .before .before .before .before .before .place-for .ensures .ready
+put-presence-requires c κs = presence-ready (c .before .before .before .before .before .before .before .before .place-for .ensures .so
     (c .before .before .before .before .before .before .if1 .left)) _ (designation-written (c .before .before .before .write-type .ensures))
 
 done-requires : tie.Need-done-requires
@@ -45,7 +46,7 @@ unfolding all
 returns-2 c =
     let p = c .before .before .before .before .before .before .before .before .before .before .before .before .place-for .ensures in
     let z = c .before .before .before .before .before .before .before .before .before .before .if1 .left in
-    made-kept (p .ready z) _ (designation-written (c .before .before .before .before .before .before .before .write-type .ensures))
+    made-kept (p .so z) _ (designation-written (c .before .before .before .before .before .before .before .write-type .ensures))
     (tested-passes (p .told) z refl (new-designation-left _ _ _)) (c .done .ensures) (c .before .before .before .put-presence .ensures)
 
 pub new-designation-spec : {M : Type 1} → statement M

@@ -8,12 +8,12 @@ use lib.Dec.{ltb, eqb}
 use lib.ListN.{length}
 use borrow.Author.Tests.{ltb-false, lt-ltb, le-ltb, eq-eqb, ne-eqb}
 use Rattle.rules.specs.declared.Answer.{Answer}
-use Rattle.rules.specs.01-Lists.{any, all, put}
-use Rattle.rules.specs.03-Names.{Name, well-formed, same-name}
+use Rattle.rules.specs.01-Lists.{all, put}
+use Rattle.rules.specs.03-Names.{Name, well-formed}
 use Rattle.rules.specs.04-Schema.{Schema, bears, holds-name, presence-before}
 use Rattle.rules.specs.04-Schema.Kind.{paired}
 use Rattle.rules.specs.07-Picture.{picture}
-use Rattle.rules.specs.09-Refusals.{Outcome, success, no-pair, names-taken}
+use Rattle.rules.specs.09-Refusals.{Outcome, success, no-pair}
 use Rattle.rules.specs.09-Refusals.Outcome.{done}
 use Rattle.rules.specs.10-Changes.{with-presences, with-type, with-pair, new-type, second-new-type, new-pair, new-pair-refusals}
 use Rattle.rules.specs.12-Contracts.{Kept}
@@ -25,9 +25,11 @@ use Rattle.base.specs.Stored.{Shows, Stored, Becomes}
 use Rattle.base.proofs.Kept.{kept-done}
 use Rattle.base.proofs.StoredLaws.{shows-has, shows-stored, shows-next}
 use Rattle.base.specs.Tested.{Tested}
+use Rattle.conditions.specs.Aimed.{Aimed}
+use Rattle.conditions.proofs.NameLaws.{Two-names, two-names}
 use Rattle.conditions.proofs.AimedLaws.{all-passed, aimed-well, both-formed}
 use Rattle.change_types.specs.Create.{Ready}
-use Rattle.change_pairs.specs.Pair.{Two-free, Two-names, Pair-ready}
+use Rattle.change_pairs.specs.Pair.{Two-free}
 use Rattle.change_types.proofs.CreateLaws.{room-typed, free-typed, type-put}
 
 -- ---- the categories
@@ -57,22 +59,14 @@ module _ (c c′ : ℕ) where
       let (f, g) = or-neither (ltb 3 c) (ltb 3 c′ || (eqb c 3 && eqb c′ 3)) e in
       (ltb-false 3 c f, ltb-false 3 c′ (or-neither (ltb 3 c′) (eqb c 3 && eqb c′ 3) g .0))
 
--- ---- the names
-
--- what it says that they are not taken
-none-of : (x y z : Bool) → (x || (y || false)) || ((z || false) || false) ≡ false → (x ≡ false) × ((y ≡ false) × (z ≡ false))
-none-of x y z e =
-    let (f, g) = or-neither (x || (y || false)) ((z || false) || false) e in
-    let (h, k) = or-neither x (y || false) f in
-    (h, (or-neither y false k .0, or-neither z false (or-neither (z || false) false g .0) .0))
-
-pub two-names : {b : List ℕ} (d : ℕ) (n m : Name) → names-taken (schema-of b) d (n ∷ m ∷ []) ≡ false → Two-names b d n m
-unfolding names-taken any
-two-names {b} d n m e =
-    let (f, (g, h)) = none-of (bears (schema-of b) d n) (bears (schema-of b) d m) (same-name n m) e in
-    record { free = f; reverse-free = g; apart = h }
-
 -- ---- what the tests say
+
+-- what is so of the inputs where none of the refusals holds
+pub record Pair-ready (b : List ℕ) (d : ℕ) (n m : Name) (c c′ : ℕ) : Type 0 where
+  pub aim : Aimed b d
+  pub formed : (well-formed n ≡ true) × (well-formed m ≡ true)
+  pub categories : (c ≤ 3) × (c′ ≤ 3)
+  pub names : Two-names (schema-of b) d n m
 
 pub pair-ready : {b : List ℕ} (d : ℕ) (n m : Name) (c c′ : ℕ) {no : ℕ} → Tested b (new-pair-refusals d n m c c′ (schema-of b)) no 0 → no ≡ 0
     → Pair-ready b d n m c c′
@@ -83,7 +77,7 @@ pair-ready d n m c c′ t z =
       aim = aimed-well _ t z;
       formed = both-formed n m (p .fails 4);
       categories = categories-fit c c′ (p .fails 5);
-      names = two-names d n m (p .fails 11);
+      names = two-names _ d n m (p .fails 11);
     }
 
 -- ---- the rule
@@ -127,7 +121,7 @@ module _ {b : List ℕ} {d : ℕ} {n m : Name} {c c′ t r : ℕ} (x : Pair-read
     reverse-free =
         shows-has (λ s. bears s d m ≡ false) forward
         (put-none presence-before (holds-name d m) (record { sds = d; name = n; type = t }) ((schema-of b) .presences)
-        (rw (eq-eqb d d refl) (x .names .apart)) (x .names .reverse-free))
+        (rw (eq-eqb d d refl) (x .names .apart)) (x .names .other-free))
 
     module _ {b₃ : List ℕ} (v : Becomes b₂ r (paired c′ t) b₃) where
       -- what its presence needs

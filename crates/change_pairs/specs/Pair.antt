@@ -2,14 +2,10 @@
 use Prim.Native.Nat.{ℕ, _+_, _≤_, _<_}
 use mathlib.Core.Path.{_≡_}
 use mathlib.Core.List.{List, [], _∷_}
-use mathlib.Core.Bool.{true, false}
 use lib.ListN.{length}
-use Rattle.rules.specs.03-Names.{Name, well-formed, same-name}
-use Rattle.rules.specs.04-Schema.{bears}
 use Rattle.rules.specs.09-Refusals.{_when_, Refusals, types-full}
 use Rattle.rules.specs.10-Changes.{new-type, second-new-type}
 use Rattle.base.specs.Back.{schema-of}
-use Rattle.conditions.specs.Aimed.{Aimed}
 
 -- t and r are the numbers that the forward type and its reverse take, and there is room for their presences
 pub record Two-free (b : List ℕ) (t r : ℕ) : Type 0 where
@@ -22,16 +18,3 @@ pub record Two-free (b : List ℕ) (t r : ℕ) : Type 0 where
 -- its last refusal
 abbrev pub room-refusals : List ℕ → Refusals
 room-refusals b = (14 when types-full (schema-of b) 2) ∷ []
-
--- neither name is borne, and they are two
-pub record Two-names (b : List ℕ) (d : ℕ) (n m : Name) : Type 0 where
-  pub free : bears (schema-of b) d n ≡ false
-  pub reverse-free : bears (schema-of b) d m ≡ false
-  pub apart : same-name n m ≡ false
-
--- what is so of the inputs where none of the refusals before that holds
-pub record Pair-ready (b : List ℕ) (d : ℕ) (n m : Name) (c c′ : ℕ) : Type 0 where
-  pub aim : Aimed b d
-  pub formed : (well-formed n ≡ true) × (well-formed m ≡ true)
-  pub categories : (c ≤ 3) × (c′ ≤ 3)
-  pub names : Two-names b d n m

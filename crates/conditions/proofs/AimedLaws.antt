@@ -49,7 +49,7 @@ unknown-not : (s : Schema) (d : ℕ) → unknown-sds s d ≡ false → (d < limi
 unfolding unknown-sds
 unknown-not s d e = let (f, g) = or-neither (leb (limits .sdss) d) (not (used-sds s d)) e in (leb-false (limits .sdss) d f, not-false _ g)
 
-system-not : (d : ℕ) → system-sds d ≡ false → d ≡ 0 → ⊥
+pub system-not : (d : ℕ) → system-sds d ≡ false → d ≡ 0 → ⊥
 unfolding system-sds
 system-not d e = eqb-false d 0 e
 
@@ -99,6 +99,10 @@ module _ {b : List ℕ} {rs : Refusals} {no : ℕ} {So : Type 0} where
   pub passed-by : Tested b rs no 0 → So → Refused-or b rs no So
   passed-by t x = record { told = t; so = λ _. x }
 
+  -- told by a number that was tested before
+  pub passed-as : no ≡ 0 → Tested b rs 0 0 → So → Refused-or b rs no So
+  passed-as z t x = passed-by (tested-as z t) x
+
 -- by a function that was called first
 pub refused-first : {b : List ℕ} {rs : Refusals} (rest : Refusals) {no no′ : ℕ} {So : Type 0} → Tested b rs no 0 → (no ≡ 0 → ⊥) → no′ ≡ no
     → Refused-or b (rs ++ rest) no′ So
@@ -115,7 +119,7 @@ pub name-borne : (s : Schema) (d : ℕ) (n : Name) → no-such-name s d n ≡ fa
 unfolding no-such-name
 name-borne s d n e = not-false _ e
 
-pub type-found : {s : Schema} {d : ℕ} {n : Name} {t : ℕ} → Named-in s d n t → (t ≡ 128 → ⊥) → Type-of s d n t
+pub type-found : {b : List ℕ} {d : ℕ} {n : Name} {t : ℕ} → Named-in (schema-of b) d n t → (t ≡ 128 → ⊥) → Type-of b d n t
 type-found found h = let (below, is) = found .found (borne found h) in record { below = below; named = is }
 
 module _ {s : Schema} {d : ℕ} {n : Name} {t : ℕ} (found : Named-in s d n t) where

@@ -9,7 +9,7 @@ use Rattle.rules.specs.01-Lists.{any}
 use Rattle.rules.specs.03-Names.{Name, well-formed, same-name}
 use Rattle.rules.specs.04-Schema.{Schema, bears}
 use Rattle.rules.specs.09-Refusals.{system-sds, malformed, no-such-name, names-taken}
-use Rattle.rules.proofs.Bools.{or-left, or-right}
+use Rattle.rules.proofs.Bools.{or-neither}
 use Rattle.working.specs.Listed.{Named-in}
 
 pub system-stops : (d : ℕ) → d ≡ 0 → system-sds d ≡ true
@@ -44,15 +44,6 @@ module _ {s : Schema} {d : ℕ} {n : Name} {r : ℕ} (found : Named-in s d n r) 
       go true e = absurd (let (u, q) = found .found e in omega arith)
       go false e = refl
 
-pub one-malformed : (n m : Name) → malformed n ≡ true → malformed n || malformed m ≡ true
-one-malformed n m e = or-left (malformed n) (malformed m) e
-
-pub other-malformed : (n m : Name) → malformed m ≡ true → malformed n || malformed m ≡ true
-other-malformed n m e = or-right (malformed n) (malformed m) e
-
-pub none-malformed : (n m : Name) → malformed n ≡ false → malformed m ≡ false → malformed n || malformed m ≡ false
-none-malformed n m e f = rw (e, f)
-
 pub name-there : (s : Schema) (d : ℕ) (n : Name) → bears s d n ≡ true → no-such-name s d n ≡ false
 unfolding no-such-name
 name-there s d n e = ap not e
@@ -60,17 +51,6 @@ name-there s d n e = ap not e
 pub name-missing : (s : Schema) (d : ℕ) (n : Name) → bears s d n ≡ false → no-such-name s d n ≡ true
 unfolding no-such-name
 name-missing s d n e = ap not e
-
--- of the two that a call names
-module _ (s : Schema) (d : ℕ) (n m : Name) where
-  pub both-there : bears s d n ≡ true → bears s d m ≡ true → no-such-name s d n || no-such-name s d m ≡ false
-  both-there e f = rw (name-there s d n e, name-there s d m f)
-
-  pub one-missing : bears s d n ≡ false → no-such-name s d n || no-such-name s d m ≡ true
-  one-missing e = or-left (no-such-name s d n) (no-such-name s d m) (name-missing s d n e)
-
-  pub other-missing : bears s d m ≡ false → no-such-name s d n || no-such-name s d m ≡ true
-  other-missing e = or-right (no-such-name s d n) (no-such-name s d m) (name-missing s d m e)
 
 -- ---- new names: one, or the two of a call
 
@@ -96,10 +76,20 @@ module _ (s : Schema) (d : ℕ) (n : Name) where
     unfolding names-taken any
     two-as-told e f = rw (e, f) (sym (or-false (same-name n m || false) ∙ or-false (same-name n m)))
 
-    pub two-alike : bears s d n ≡ false → bears s d m ≡ false → same-name n m ≡ true → names-taken s d (n ∷ m ∷ []) ≡ true
-    unfolding names-taken any
-    two-alike e f g = rw (e, f, g)
+-- what it says that two are not taken
+pub record Two-names (s : Schema) (d : ℕ) (n m : Name) : Type 0 where
+  pub free : bears s d n ≡ false
+  pub other-free : bears s d m ≡ false
+  pub apart : same-name n m ≡ false
 
-    pub both-free : bears s d n ≡ false → bears s d m ≡ false → same-name n m ≡ false → names-taken s d (n ∷ m ∷ []) ≡ false
-    unfolding names-taken any
-    both-free e f g = rw (e, f, g)
+none-of : (x y z : Bool) → (x || (y || false)) || ((z || false) || false) ≡ false → (x ≡ false) × ((y ≡ false) × (z ≡ false))
+none-of x y z e =
+    let (f, g) = or-neither (x || (y || false)) ((z || false) || false) e in
+    let (h, k) = or-neither x (y || false) f in
+    (h, (or-neither y false k .0, or-neither z false (or-neither (z || false) false g .0) .0))
+
+pub two-names : (s : Schema) (d : ℕ) (n m : Name) → names-taken s d (n ∷ m ∷ []) ≡ false → Two-names s d n m
+unfolding names-taken any
+two-names s d n m e =
+    let (f, (g, h)) = none-of (bears s d n) (bears s d m) (same-name n m) e in
+    record { free = f; other-free = g; apart = h }

@@ -10,6 +10,7 @@ use Rattle.rules.specs.07-Picture.{Sound}
 use Rattle.rules.specs.09-Refusals.{Refusals, _when_, unknown-sds, system-sds, malformed, no-such-name}
 use Rattle.base.specs.Back.{schema-of}
 use Rattle.base.specs.Tested.{Tested}
+use Rattle.conditions.specs.Reverse.{Reverse-of}
 
 -- the refusals that come first in every call that is aimed at an SDS
 abbrev pub sds-refusals : Schema → ℕ → Refusals
@@ -35,13 +36,18 @@ pub record Aimed (b : List ℕ) (d : ℕ) : Type 0 where
   pub below : d < limits .sdss
 
 -- t is the type of that name in SDS d
-pub record Type-of (s : Schema) (d : ℕ) (n : Name) (t : ℕ) : Type 0 where
+pub record Type-of (b : List ℕ) (d : ℕ) (n : Name) (t : ℕ) : Type 0 where
   pub below : t < limits .types
-  pub named : t ≡ type-named s d n
+  pub named : t ≡ type-named (schema-of b) d n
 
-pub record Both (s : Schema) (d : ℕ) (n m : Name) (t u : ℕ) : Type 0 where
-  pub one : Type-of s d n t
-  pub two : Type-of s d m u
+pub record Both (b : List ℕ) (d : ℕ) (n m : Name) (t u : ℕ) : Type 0 where
+  pub one : Type-of b d n t
+  pub two : Type-of b d m u
+
+-- and r is its reverse, 128 where it has none
+pub record With-reverse (b : List ℕ) (d : ℕ) (n : Name) (t r : ℕ) : Type 0 where
+  pub type : Type-of b d n t
+  pub pair : Reverse-of (schema-of b) t r
 
 -- no is the number of the first of the refusals that holds; 0 where none does, and then it is so
 pub record Refused-or (b : List ℕ) (rs : Refusals) (no : ℕ) (So : Type 0) : Type 0 where
@@ -51,4 +57,4 @@ pub record Refused-or (b : List ℕ) (rs : Refusals) (no : ℕ) (So : Type 0) : 
 -- what is told of a name where no was told before: the type that it stands for is t
 pub record Named (b : List ℕ) (d : ℕ) (n : Name) (no no′ t : ℕ) : Type 0 where
   pub after : (bad : Bool) → Tested b (aim-refusals (schema-of b) d bad) no 0
-      → Refused-or b (named-refusals (schema-of b) d bad (no-such-name (schema-of b) d n)) no′ (Type-of (schema-of b) d n t)
+      → Refused-or b (named-refusals (schema-of b) d bad (no-such-name (schema-of b) d n)) no′ (Type-of b d n t)

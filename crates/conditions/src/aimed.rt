@@ -100,7 +100,7 @@ pub fn named(base: &[u8], sds: usize, name: &[u8], no: usize) -> Told
 pub fn named_two(base: &[u8], sds: usize, name: &[u8], other: &[u8]) -> Told
     ensures { λ r. ⌜ Refused-or (now (base .entry))
         (two-refusals (schema-of (now (base .entry))) sds (now (name .entry)) (now (other .entry))) (r .no)
-        (Both (schema-of (now (base .entry))) sds (now (name .entry)) (now (other .entry)) (r .one) (r .two)) ⌝ }
+        (Both (now (base .entry)) sds (now (name .entry)) (now (other .entry)) (r .one) (r .two)) ⌝ }
 {
     let no = aimed_two(base, sds, name, other);
     if no != 0 {

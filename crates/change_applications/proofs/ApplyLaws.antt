@@ -1,4 +1,4 @@
--- The refusals that apply and unapply share, test by test; then what is left of each. Assumes nothing.
+-- The kinds that apply and unapply test; then what is left of each, and its effect. Assumes nothing.
 use Prim.Native.Nat.{ℕ, _+_, _≤_, _<_}
 use native.Mathlib.Omega.{arith}
 use mathlib.Core.Path.{_≡_, refl, sym, ap, _∙_}
@@ -10,7 +10,7 @@ use borrow.Author.Tests.{eqb-true, lt-ltb, le-ltb}
 use Rattle.rules.specs.01-Lists.{without, put}
 use Rattle.rules.specs.03-Names.{Name}
 use Rattle.rules.specs.04-Schema.{Schema, Application, kind-of, is-attribute, type-named, applied, is-application, application-before}
-use Rattle.rules.specs.07-Picture.{picture}
+use Rattle.rules.specs.07-Picture.{Sound, picture}
 use Rattle.rules.specs.09-Refusals.{_when_, Refusals, no-object, no-attribute, no-link, applications-full}
 use Rattle.rules.specs.09-Refusals.Outcome.{done}
 use Rattle.rules.specs.10-Changes.{with-applications, application-refusals, apply, unapply}
@@ -18,7 +18,6 @@ use Rattle.rules.proofs.Bools.{or-left, and-both}
 use Rattle.rules.proofs.09-Refusals.{Left}
 use Rattle.rows.specs.Rows.{Counted}
 use Rattle.base.specs.Back.{schema-of, application-count, application-shown}
-use Rattle.base.specs.Tested.{Tested}
 use Rattle.lookup.specs.Found.{First-row}
 use Rattle.base.specs.Stored.{less-row, Shows}
 use Rattle.base.proofs.Shown.{applications-long}
@@ -26,15 +25,9 @@ use Rattle.base.proofs.StoredLaws.{sound-stored}
 use Rattle.edit.proofs.TakenLaws.{application-without}
 use Rattle.lookup.specs.Kinds.{kind-code}
 use Rattle.lookup.proofs.KindBytes.{told-object, told-attribute, told-link}
-use Rattle.change_applications.specs.declared.Asked.{Asked}
-use Rattle.change_applications.specs.Applying.{wrong-kind, Both, Aimed}
+use Rattle.change_applications.specs.Applying.{wrong-kind}
+use Rattle.conditions.specs.Aimed.{Both}
 use Rattle.conditions.proofs.ConditionLaws.{applied-row}
-
--- ---- what the tests that both calls make say
-
-pub not-aimed : {b : List ℕ} {d : ℕ} {a n : Name} {v : Asked} → Tested b (application-refusals d a n (schema-of b)) (v .no) 0 → (v .no ≡ 0 → ⊥)
-    → Aimed b d a n v
-not-aimed t z = record { told = t; both = λ e. absurd (z e) }
 
 -- ---- the kinds, by their codes
 
@@ -55,8 +48,9 @@ module _ (b : List ℕ) (a t : ℕ) {x : Bool} (e : x ≡ eqb (kind-code (kind-o
     link-or-wrong p g = rw (ap not (told-attribute b a e) ∙ q, told-object b t f ∙ p) (ap not (sym (told-link b t g)))
 
 -- of the types that were found, and so of those that are named
-pub wrong-named : (s : Schema) {a a′ t t′ : ℕ} → a ≡ a′ → t ≡ t′ → {r : Bool} → r ≡ wrong-kind s a t → r ≡ wrong-kind s a′ t′
-wrong-named s {a′ = a′} {t = t} e f q = q ∙ ap (λ (x : ℕ). wrong-kind s x t) e ∙ ap (wrong-kind s a′) f
+pub wrong-named : {b : List ℕ} {d : ℕ} {a n : Name} {u t : ℕ} → Both b d a n u t → {r : Bool} → r ≡ wrong-kind (schema-of b) u t
+    → wrong-kind (schema-of b) (type-named (schema-of b) d a) (type-named (schema-of b) d n) ≡ r
+wrong-named {b} x q = sym (q ∙ (λ i. wrong-kind (schema-of b) (x .one .named i) (x .two .named i)))
 
 -- ---- the two rules
 
@@ -85,23 +79,23 @@ module _ (d : ℕ) (a n : Name) (s : Schema) where
   unapply-left = record { is = refl }
 
 -- the types are those that were found
-module _ {b : List ℕ} {d : ℕ} {a n : Name} {v : Asked} (x : Both b d a n v) where
-  pub same-types : {A : Type 0} (f : ℕ → ℕ → A) → f (v .to) (v .attribute) ≡ f (type-named (schema-of b) d n) (type-named (schema-of b) d a)
-  same-types f = ap (λ (t : ℕ). f t (v .attribute)) (x .to .1) ∙ ap (f (type-named (schema-of b) d n)) (x .attribute .1)
+module _ {b : List ℕ} {d : ℕ} {a n : Name} {u t : ℕ} (x : Both b d a n u t) where
+  pub same-types : {A : Type 0} (f : ℕ → ℕ → A) → f t u ≡ f (type-named (schema-of b) d n) (type-named (schema-of b) d a)
+  same-types f = λ i. f (x .two .named i) (x .one .named i)
 
-  pub same-applied : {r : Bool} → r ≡ applied (schema-of b) d (v .to) (v .attribute)
+  pub same-applied : {r : Bool} → r ≡ applied (schema-of b) d t u
       → r ≡ applied (schema-of b) d (type-named (schema-of b) d n) (type-named (schema-of b) d a)
   same-applied e = e ∙ same-types (applied (schema-of b) d)
 
-  pub put-down : {b₁ : List ℕ} → Shows b₁ (with-application d (v .to) (v .attribute) (schema-of b))
+  pub put-down : {b₁ : List ℕ} → Shows b₁ (with-application d t u (schema-of b))
       → b₁ ≡ picture (with-application d (type-named (schema-of b) d n) (type-named (schema-of b) d a) (schema-of b))
-  put-down o = o .shown ∙ same-types (λ t u. picture (with-application d t u (schema-of b)))
+  put-down o = o .shown ∙ same-types (λ y z. picture (with-application d y z (schema-of b)))
 
-  module _ {r : ℕ} (found : First-row (application-count b) (λ i. is-application d (v .to) (v .attribute) (application-shown b i)) r) where
+  module _ {r : ℕ} (found : First-row (application-count b) (λ i. is-application d t u (application-shown b i)) r) where
     -- whether there is a row, by their count
     row-told : {k : ℕ} → Counted (application-count b) 256 k
         → ltb r k ≡ applied (schema-of b) d (type-named (schema-of b) d n) (type-named (schema-of b) d a)
-    row-told c = same-applied (applied-row b d (v .to) (v .attribute) (c .is) found)
+    row-told c = same-applied (applied-row b d t u (c .is) found)
 
     pub row-none : {k : ℕ} → Counted (application-count b) 256 k → k ≤ r
         → not (applied (schema-of b) d (type-named (schema-of b) d n) (type-named (schema-of b) d a)) ≡ true
@@ -111,20 +105,19 @@ module _ {b : List ℕ} {d : ℕ} {a n : Name} {v : Asked} (x : Both b d a n v) 
         → not (applied (schema-of b) d (type-named (schema-of b) d n) (type-named (schema-of b) d a)) ≡ false
     row-some {k} c h = ap not (sym (row-told c) ∙ lt-ltb r k h)
 
-    row-gone : r < application-count b
-        → without (is-application d (v .to) (v .attribute)) ((schema-of b) .applications) ≡ less-row r ((schema-of b) .applications)
-    row-gone h =
+    row-gone : Sound b → r < application-count b
+        → without (is-application d t u) ((schema-of b) .applications) ≡ less-row r ((schema-of b) .applications)
+    row-gone sound h =
         let y = application-shown b r in
-        let (e, more) = and-both (eqb (y .sds) d) (eqb (y .to) (v .to) && eqb (y .attribute) (v .attribute)) (found .found h) in
-        let (f, g) = and-both (eqb (y .to) (v .to)) (eqb (y .attribute) (v .attribute)) more in
-        application-without (sound-stored (x .sound)) r d (v .to) (v .attribute) h (eqb-true (y .sds) d e) (eqb-true (y .to) (v .to) f)
-        (eqb-true (y .attribute) (v .attribute) g)
+        let (e, more) = and-both (eqb (y .sds) d) (eqb (y .to) t && eqb (y .attribute) u) (found .found h) in
+        let (f, g) = and-both (eqb (y .to) t) (eqb (y .attribute) u) more in
+        application-without (sound-stored sound) r d t u h (eqb-true (y .sds) d e) (eqb-true (y .to) t f) (eqb-true (y .attribute) u g)
 
-    pub taken-off : r < application-count b → {b₁ : List ℕ} → Shows b₁ (with-applications (schema-of b) (less-row r ((schema-of b) .applications)))
+    pub taken-off : Sound b → r < application-count b → {b₁ : List ℕ} → Shows b₁ (with-applications (schema-of b) (less-row r ((schema-of b) .applications)))
         → b₁ ≡ picture (less-application d (type-named (schema-of b) d n) (type-named (schema-of b) d a) (schema-of b))
-    taken-off h o =
-        o .shown ∙ ap (λ (l : List Application). picture (with-applications (schema-of b) l)) (sym (row-gone h))
-        ∙ same-types (λ t u. picture (less-application d t u (schema-of b)))
+    taken-off sound h o =
+        o .shown ∙ ap (λ (l : List Application). picture (with-applications (schema-of b) l)) (sym (row-gone sound h))
+        ∙ same-types (λ y z. picture (less-application d y z (schema-of b)))
 
 -- room for one more
 module _ (b : List ℕ) {k : ℕ} (c : Counted (application-count b) 256 k) where

@@ -1,31 +1,15 @@
 // Attribute types applied to object and link types, and taken off them again.
+use conditions::aimed::Told;
 use rules::Answer;
 use rules::Limits;
 ghost use mathlib.Core.Path.{_≡_};
-ghost use Prim.Native.Nat.{_<_};
 ghost use lib.ListN.{length};
 ghost use Rattle.rules.specs.07-Picture.{base-length};
-ghost use Rattle.rules.specs.10-Changes.{apply, unapply};
+ghost use Rattle.rules.specs.10-Changes.{application-refusals, apply, unapply};
 ghost use Rattle.rules.specs.12-Contracts.{Kept};
 ghost use Rattle.base.specs.Back.{schema-of};
-ghost use Rattle.change_applications.specs.Applying.{wrong-kind, Aimed};
-
-// The number of the refusal, 0 where there is none; then the attribute type, and the type that it is to be applied to.
-pub struct Asked {
-    pub no: usize,
-    pub attribute: usize,
-    pub to: usize,
-}
-
-fn refused(no: usize) -> Asked
-    ensures { λ r. ⌜ r .no ≡ no ⌝ }
-{
-    Asked {
-        no,
-        attribute: 0,
-        to: 0,
-    }
-}
+ghost use Rattle.conditions.specs.Aimed.{Refused-or, Both};
+ghost use Rattle.change_applications.specs.Applying.{wrong-kind};
 
 // Whether a is no attribute type, or t is neither an object nor a link type.
 fn is_wrong_kind(base: &[u8], a: usize, t: usize) -> bool
@@ -41,41 +25,20 @@ fn is_wrong_kind(base: &[u8], a: usize, t: usize) -> bool
     !lookup::is_kind(base, t, 3)
 }
 
-// What both calls test, once, in the order of their refusals.
-fn tested(base: &[u8], sds: usize, attribute: &[u8], to: &[u8]) -> Asked
-    ensures { λ r. ⌜ Aimed (now (base .entry)) sds (now (attribute .entry)) (now (to .entry)) r ⌝ }
+// What both calls test, once, in the order of their refusals; then the attribute type, and the type that it is to be applied to.
+fn tested(base: &[u8], sds: usize, attribute: &[u8], to: &[u8]) -> Told
+    ensures { λ r. ⌜ Refused-or (now (base .entry))
+        (application-refusals sds (now (attribute .entry)) (now (to .entry)) (schema-of (now (base .entry)))) (r .no)
+        (Both (now (base .entry)) sds (now (attribute .entry)) (now (to .entry)) (r .one) (r .two)) ⌝ }
 {
-    if !sound::is_sound(base) {
-        return refused(1);
+    let told = conditions::aimed::named_two(base, sds, attribute, to);
+    if told.no != 0 {
+        return told;
     }
-    if !lookup::is_sds(base, sds) {
-        return refused(2);
+    if is_wrong_kind(base, told.one, told.two) {
+        return Told::refused(7);
     }
-    if sds == 0 {
-        return refused(3);
-    }
-    if !names::is_well_formed(attribute) {
-        return refused(4);
-    }
-    if !names::is_well_formed(to) {
-        return refused(4);
-    }
-    let a = working::find::type_in(base, sds, attribute);
-    if a == Limits::TYPES {
-        return refused(6);
-    }
-    let t = working::find::type_in(base, sds, to);
-    if t == Limits::TYPES {
-        return refused(6);
-    }
-    if is_wrong_kind(base, a, t) {
-        return refused(7);
-    }
-    Asked {
-        no: 0,
-        attribute: a,
-        to: t,
-    }
+    told
 }
 
 pub fn apply(base: &mut [u8], sds: usize, attribute: &[u8], to: &[u8]) -> Answer
@@ -85,13 +48,13 @@ pub fn apply(base: &mut [u8], sds: usize, attribute: &[u8], to: &[u8]) -> Answer
     if asked.no != 0 {
         return Answer::refused(asked.no);
     }
-    if conditions::is_applied(base, sds, asked.to, asked.attribute) {
+    if conditions::is_applied(base, sds, asked.two, asked.one) {
         return Answer::refused(9);
     }
     if Limits::APPLICATIONS <= base::used::application_count(base) {
         return Answer::refused(14);
     }
-    edit::put_application(base, sds, asked.to, asked.attribute);
+    edit::put_application(base, sds, asked.two, asked.one);
     Answer::done(0, 0, 0)
 }
 
@@ -102,7 +65,7 @@ pub fn unapply(base: &mut [u8], sds: usize, attribute: &[u8], to: &[u8]) -> Answ
     if asked.no != 0 {
         return Answer::refused(asked.no);
     }
-    let row = conditions::application_row(base, sds, asked.to, asked.attribute);
+    let row = conditions::application_row(base, sds, asked.two, asked.one);
     if base::used::application_count(base) <= row {
         return Answer::refused(13);
     }

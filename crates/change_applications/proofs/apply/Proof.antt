@@ -1,3 +1,4 @@
+-- Apply: what was told of its two types, its own tests, and the row put in. Assumes nothing.
 use borrow.Author.Needs.{needs}
 use Prim.Native.Nat.{ℕ}
 use native.Mathlib.Omega.{arith}
@@ -14,7 +15,8 @@ use Rattle.base.specs.Back.{schema-of}
 use Rattle.base.proofs.Kept.{sound-long, kept-refused, kept-done}
 use Rattle.base.proofs.StoredLaws.{sound-stored}
 use Rattle.base.proofs.TestedLaws.{begun-stops, begun-passes}
-use Rattle.change_applications.specs.Applying.{Both}
+use Rattle.conditions.specs.Aimed.{Aimed, Both}
+use Rattle.conditions.proofs.AimedLaws.{aimed-well}
 use Rattle.change_applications.proofs.ApplyLaws.{with-application, apply-rest, apply-left, same-applied, put-down, full, room, room-left}
 use Rattle.change_applications.proofs.apply.Statement.{statement}
 use Rattle.change_applications.proofs.apply.Tie as tie
@@ -23,9 +25,12 @@ use Rattle.change_applications.proofs.apply.Tie as tie
 abbrev Ways : List ℕ → ℕ → Name → Name → ℕ → Type 0
 Ways b d a n k = let s = schema-of b in Left (apply d a n s) (drop k (apply-rest d a n s)) (done 0 0 0 (with-application d (type-named s d n) (type-named s d a) s))
 
-both-1 : (c : tie.Else1) → let x = c .before .before .before .before .before .before .before .args in Both (x .base .now) (x .sds) (x .attribute .now)
-    (x .to .now) (c .before .before .tested .result)
-both-1 c = c .before .before .tested .ensures .both (c .if1 .left)
+aim-1 : (c : tie.Else1) → let x = c .before .before .before .before .before .before .before .args in Aimed (x .base .now) (x .sds)
+aim-1 c = aimed-well _ (c .before .before .tested .ensures .told) (c .if1 .left)
+
+both-1 : (c : tie.Else1) → let x = c .before .before .before .before .before .before .before .args in
+    let told = c .before .before .tested .result in Both (x .base .now) (x .sds) (x .attribute .now) (x .to .now) (told .one) (told .two)
+both-1 c = c .before .before .tested .ensures .so (c .if1 .left)
 
 left-1 : (c : tie.Else1) → let x = c .before .before .before .before .before .before .before .args in Ways (x .base .now) (x .sds) (x .attribute .now) (x .to .now) 0
 unfolding all
@@ -52,7 +57,7 @@ returns : tie.Need-returns
 returns c = begun-stops _ (c .before .before .before .tested .ensures .told) (c .before .if1 .taken) (apply-left _ _ _ _) (c .refused .ensures)
 
 is-applied-requires : tie.Need-is-applied-requires
-is-applied-requires c κs = sound-long (both-1 (c .before) .sound)
+is-applied-requires c κs = sound-long (aim-1 (c .before) .sound)
 
 refused-requires-2 : tie.Need-refused-requires-2
 refused-requires-2 c κs = search needs
@@ -63,11 +68,11 @@ same-length-2 c = search needs
 returns-2 : tie.Need-returns-2
 returns-2 c =
     let y = both-1 (c .before .before .before .before) in
-    kept-refused (y .sound) (stops (left-1 (c .before .before .before .before))
+    kept-refused (aim-1 (c .before .before .before .before) .sound) (stops (left-1 (c .before .before .before .before))
     (sym (same-applied y (c .before .before .is-applied .ensures)) ∙ c .before .if2 .taken)) (c .refused2 .ensures)
 
 application-count-requires : tie.Need-application-count-requires
-application-count-requires c κs = sound-long (both-1 (c .before .before .before .before) .sound)
+application-count-requires c κs = sound-long (aim-1 (c .before .before .before .before) .sound)
 
 refused-requires-3 : tie.Need-refused-requires-3
 refused-requires-3 c κs = search needs
@@ -76,20 +81,21 @@ same-length-3 : tie.Need-same-length-3
 same-length-3 c = search needs
 
 returns-3 : tie.Need-returns-3
-returns-3 c = kept-refused (both-1 (c .before .before .before .before .before .before .before) .sound)
+returns-3 c = kept-refused (aim-1 (c .before .before .before .before .before .before .before) .sound)
     (stops (left-2 (c .before .before .before .before)) (full _ (c .before .before .application-count .ensures) (c .before .if3 .taken)))
     (c .refused3 .ensures)
 
 put-application-requires : tie.Need-put-application-requires
 put-application-requires c κs =
-    let y = both-1 (c .before .before .before .before .before .before .before) in (
-      sound-stored (y .sound),
+    let first = c .before .before .before .before .before .before .before in
+    let aim = aim-1 first in
+    let y = both-1 first in (
+      sound-stored (aim .sound),
       (
-        (y .aimed, (omega (arith, y .below), (omega (arith, y .to .0), omega (arith, y .attribute .0)))),
+        (aim .outside, (omega (arith, aim .below), (omega (arith, y .two .below), omega (arith, y .one .below)))),
         (
           room-left _ (c .before .before .application-count .ensures) (c .before .if3 .left),
-          sym
-              (c .before .before .before .before .before .is-applied .ensures) ∙ c .before .before .before .before .if2 .left,
+          sym (c .before .before .before .before .before .is-applied .ensures) ∙ c .before .before .before .before .if2 .left,
         ),
       ),
     )
@@ -102,8 +108,9 @@ same-length-4 c = search needs
 
 returns-4 : tie.Need-returns-4
 returns-4 c =
-    let y = both-1 (c .before .before .before .before .before .before .before .before .before .before .before) in
-    kept-done (y .sound) (ends (left-3 (c .before .before .before .before .before))) (c .done .ensures) (put-down y (c .before .before .before .put-application .ensures))
+    let first = c .before .before .before .before .before .before .before .before .before .before .before in
+    kept-done (aim-1 first .sound) (ends (left-3 (c .before .before .before .before .before))) (c .done .ensures)
+    (put-down (both-1 first) (c .before .before .before .put-application .ensures))
 
 pub apply-spec : {M : Type 1} → statement M
 apply-spec =

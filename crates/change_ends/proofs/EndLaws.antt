@@ -33,16 +33,13 @@ use Rattle.base.proofs.StoredLaws.{sound-stored, shows-schema, shows-stored, sh
 use Rattle.edit.proofs.TakenLaws.{one-end, end-without}
 use Rattle.lookup.proofs.KindBytes.{object-byte, link-byte}
 use Rattle.conditions.proofs.ReverseLaws.{one-is, none-is}
-use Rattle.change_ends.specs.declared.Aim.{Aim}
-use Rattle.change_ends.specs.Ends.{Aimed}
-use Rattle.base.specs.Tested.{Tested}
+use Rattle.conditions.specs.Aimed.{Both}
+use Rattle.conditions.proofs.AimedLaws.{aimed-well, neither}
+use Rattle.change_ends.specs.Ends.{Ends-told}
 use Rattle.conditions.specs.Reverse.{one-or-none, Reverse-of}
 use Rattle.conditions.specs.Conditions.{End-place}
 use Rattle.base.proofs.TestedLaws.{begun-passes}
 use Rattle.conditions.proofs.ConditionLaws.{end-place-has}
-
-pub not-aimed : {b : List ℕ} {d : ℕ} {n m : Name} {v : Aim} → Tested b (end-refusals d n m (schema-of b)) (v .no) 0 → (v .no ≡ 0 → ⊥) → Aimed b d n m v
-not-aimed t z = record { told = t; through = λ e. absurd (z e) }
 
 -- ---- what the tests of the two types say
 
@@ -59,42 +56,54 @@ module _ {b : List ℕ} {t x : ℕ} (h : t < 128) (r : Reads b (type-at t) x) wh
   object-not : (x ≡ 1 → ⊥) → is-object (kind-of (schema-of b) t) ≡ false
   object-not e = sym (object-byte b t x h (r .is)) ∙ ne-eqb x 1 e
 
+-- whether one of the two that are named is of the wrong kind
+abbrev Wrong : Schema → ℕ → Name → Name → Bool → Type 0
+Wrong s d n m r = no-link s (type-named s d n) || no-object s (type-named s d m) ≡ r
+
 -- l and o are the types that the names stand for
-module _ (b : List ℕ) (d : ℕ) (n m : Name) where
-  pub no-link-there : {l x : ℕ} → l < 128 → l ≡ type-named (schema-of b) d n → Reads b (type-at l) x → (x ≡ 3 → ⊥)
-      → no-link (schema-of b) (type-named (schema-of b) d n) || no-object (schema-of b) (type-named (schema-of b) d m) ≡ true
+module _ {b : List ℕ} {d : ℕ} {n m : Name} {l o : ℕ} (both : Both b d n m l o) where
+  found-so : {r : Bool} → no-link (schema-of b) l || no-object (schema-of b) o ≡ r → Wrong (schema-of b) d n m r
+  found-so e = sym (λ i. no-link (schema-of b) (both .one .named i) || no-object (schema-of b) (both .two .named i)) ∙ e
+
+  pub no-link-there : {x : ℕ} → Reads b (type-at l) x → (x ≡ 3 → ⊥) → Wrong (schema-of b) d n m true
   unfolding no-link
-  no-link-there h e r k =
-      or-left (no-link (schema-of b) (type-named (schema-of b) d n)) (no-object (schema-of b) (type-named (schema-of b) d m))
-      (ap (no-link (schema-of b)) (sym e) ∙ ap not (link-not h r k))
+  no-link-there r k = found-so (or-left (no-link (schema-of b) l) (no-object (schema-of b) o) (ap not (link-not (both .one .below) r k)))
 
-  pub no-object-there : {o y : ℕ} → o < 128 → o ≡ type-named (schema-of b) d m → Reads b (type-at o) y → (y ≡ 1 → ⊥)
-      → no-link (schema-of b) (type-named (schema-of b) d n) || no-object (schema-of b) (type-named (schema-of b) d m) ≡ true
+  pub no-object-there : {y : ℕ} → Reads b (type-at o) y → (y ≡ 1 → ⊥) → Wrong (schema-of b) d n m true
   unfolding no-object
-  no-object-there h e r k =
-      or-right (no-link (schema-of b) (type-named (schema-of b) d n)) (no-object (schema-of b) (type-named (schema-of b) d m))
-      (ap (no-object (schema-of b)) (sym e) ∙ ap not (object-not h r k))
+  no-object-there r k = found-so (or-right (no-link (schema-of b) l) (no-object (schema-of b) o) (ap not (object-not (both .two .below) r k)))
 
-  pub both-kinds : {l o x y : ℕ} → (l < 128) × (l ≡ type-named (schema-of b) d n) → (o < 128) × (o ≡ type-named (schema-of b) d m)
-      → Reads b (type-at l) x → x ≡ 3 → Reads b (type-at o) y → y ≡ 1
-      → no-link (schema-of b) (type-named (schema-of b) d n) || no-object (schema-of b) (type-named (schema-of b) d m) ≡ false
+  pub both-kinds : {x y : ℕ} → Reads b (type-at l) x → x ≡ 3 → Reads b (type-at o) y → y ≡ 1 → Wrong (schema-of b) d n m false
   unfolding no-link no-object
-  both-kinds (h, e) (k, f) r u q w =
-      neither (ap (no-link (schema-of b)) (sym e) ∙ ap not (link-is h r u)) (ap (no-object (schema-of b)) (sym f) ∙ ap not (object-is k q w))
-    where
-      neither : {p q : Bool} → p ≡ false → q ≡ false → p || q ≡ false
-      neither e f = rw (e, f)
+  both-kinds r u q w = found-so (neither (ap not (link-is (both .one .below) r u)) (ap not (object-is (both .two .below) q w)))
 
--- ---- what a call tests besides, and its effect, said of the types that were found
+-- ---- what a call goes on with, said of the types that were found
 
-aimed-passes : {b : List ℕ} {d : ℕ} {n m : Name} {v : Aim} → Aimed b d n m v → v .no ≡ 0 → {o : Outcome Schema}
-    (rest : ℕ → ℕ → Refusals) (effect : ℕ → ℕ → Outcome Schema) → let l = type-named (schema-of b) d n in let t = type-named (schema-of b) d m in
-    Left o (end-refusals d n m (schema-of b) ++ rest l t) (effect l t) → Left o (rest (v .link) (v .object)) (effect (v .link) (v .object))
-unfolding all
-aimed-passes {b} {d} {n} {m} aimed z {o} rest effect left =
-    let th = aimed .through z in
-    let passed = begun-passes (rest (type-named (schema-of b) d n) (type-named (schema-of b) d m)) (aimed .told) z refl left in
-    record { is = passed .is ∙ (λ i. verdict (rest (sym (th .link-named) i) (sym (th .object-named) i)) (effect (sym (th .link-named) i) (sym (th .object-named) i))) }
+pub record Through (b : List ℕ) (d l o : ℕ) : Type 0 where
+  pub sound : Sound b
+  pub outside : d ≡ 0 → ⊥
+  pub below : d < 16
+  pub link-below : l < 128
+  pub object-below : o < 128
+
+module _ {b : List ℕ} {d : ℕ} {n m : Name} {no l o : ℕ} (told : Ends-told b d n m no l o) (z : no ≡ 0) where
+  pub goes-through : Through b d l o
+  goes-through =
+      let aim = aimed-well _ (told .told) z in
+      let both = told .so z in
+      record { sound = aim .sound; outside = aim .outside; below = aim .below; link-below = both .one .below; object-below = both .two .below }
+
+  -- what it tests besides, and its effect
+  told-passes : {u : Outcome Schema} (rest : ℕ → ℕ → Refusals) (effect : ℕ → ℕ → Outcome Schema)
+      → let x = type-named (schema-of b) d n in let y = type-named (schema-of b) d m in
+      Left u (end-refusals d n m (schema-of b) ++ rest x y) (effect x y) → Left u (rest l o) (effect l o)
+  unfolding all
+  told-passes rest effect left =
+      let both = told .so z in
+      let passed = begun-passes (rest (type-named (schema-of b) d n) (type-named (schema-of b) d m)) (told .told) z refl left in
+      record {
+        is = passed .is ∙ sym (λ i. verdict (rest (both .one .named i) (both .two .named i)) (effect (both .one .named i) (both .two .named i)));
+      }
 
 -- ---- room for the ends of a link type and its reverse
 
@@ -165,11 +174,11 @@ unfolding add-end
 add-left side d n m s = record { is = refl }
 
 -- the tests that are left, of the types that were found
-pub add-tests : {b : List ℕ} {d : ℕ} {n m : Name} {v : Aim} → Aimed b d n m v → v .no ≡ 0 → (side : Side)
-    → Left (add-end side d n m (schema-of b)) (add-rest side d (v .link) (v .object) (schema-of b))
-    (done 0 0 0 (added side d (v .link) (v .object) (schema-of b)))
-add-tests {b} {d} {n} {m} aimed z side =
-    aimed-passes aimed z (λ l o. add-rest side d l o (schema-of b)) (λ l o. done 0 0 0 (added side d l o (schema-of b))) (add-left side d n m (schema-of b))
+pub add-tests : {b : List ℕ} {d : ℕ} {n m : Name} {no l o : ℕ} → Ends-told b d n m no l o → no ≡ 0 → (side : Side)
+    → Left (add-end side d n m (schema-of b)) (add-rest side d l o (schema-of b))
+    (done 0 0 0 (added side d l o (schema-of b)))
+add-tests {b} {d} {n} {m} told z side =
+    told-passes told z (λ l o. add-rest side d l o (schema-of b)) (λ l o. done 0 0 0 (added side d l o (schema-of b))) (add-left side d n m (schema-of b))
 
 pub full-is : {s : Schema} {l r : ℕ} → Reverse-of s l r → ends-full s (suc (length (one-or-none r))) ≡ ends-full s (length (with-reverse s l))
 full-is {s} rev = ap (λ (l : List ℕ). ends-full s (suc (length l))) (sym (rev .is))
@@ -237,11 +246,11 @@ unfolding remove-end
 remove-left side d n m s = record { is = refl }
 
 -- the test that is left, of the types that were found
-pub remove-tests : {b : List ℕ} {d : ℕ} {n m : Name} {v : Aim} → Aimed b d n m v → v .no ≡ 0 → (side : Side)
-    → Left (remove-end side d n m (schema-of b)) (remove-rest side d (v .link) (v .object) (schema-of b))
-    (done 0 0 0 (removed side d (v .link) (v .object) (schema-of b)))
-remove-tests {b} {d} {n} {m} aimed z side =
-    aimed-passes aimed z (λ l o. remove-rest side d l o (schema-of b)) (λ l o. done 0 0 0 (removed side d l o (schema-of b))) (remove-left side d n m (schema-of b))
+pub remove-tests : {b : List ℕ} {d : ℕ} {n m : Name} {no l o : ℕ} → Ends-told b d n m no l o → no ≡ 0 → (side : Side)
+    → Left (remove-end side d n m (schema-of b)) (remove-rest side d l o (schema-of b))
+    (done 0 0 0 (removed side d l o (schema-of b)))
+remove-tests {b} {d} {n} {m} told z side =
+    told-passes told z (λ l o. remove-rest side d l o (schema-of b)) (λ l o. done 0 0 0 (removed side d l o (schema-of b))) (remove-left side d n m (schema-of b))
 
 module _ {b : List ℕ} {d l o row k : ℕ} {side : Side} (count : Counted (end-count b) 512 k) (place : End-place b d l side o row) where
   pub row-none : k ≤ row → not (has-end (schema-of b) d l side o) ≡ true

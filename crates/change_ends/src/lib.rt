@@ -1,4 +1,5 @@
 // The ends of link types: what the four calls test of their inputs, once, in the order of their refusals; and the calls.
+use conditions::aimed::Told;
 use rules::Answer;
 use rules::Limits;
 ghost use mathlib.Core.Path.{_≡_};
@@ -11,62 +12,23 @@ ghost use Rattle.rules.specs.12-Contracts.{Kept};
 ghost use Rattle.rules.specs.Read.{read-side};
 ghost use Rattle.base.specs.Back.{schema-of};
 ghost use Rattle.conditions.specs.Reverse.{one-or-none};
-ghost use Rattle.change_ends.specs.Ends.{Aimed};
+ghost use Rattle.change_ends.specs.Ends.{Ends-told};
 
-// The number of the refusal, 0 where there is none; then the link type and the object type that are named.
-pub struct Aim {
-    pub no: usize,
-    pub link: usize,
-    pub object: usize,
-}
-
-fn refused(no: usize) -> Aim
-    ensures { λ r. ⌜ r .no ≡ no ⌝ }
+// The link type and the object type that are named.
+fn aimed_at(base: &[u8], sds: usize, link: &[u8], object: &[u8]) -> Told
+    ensures { λ r. ⌜ Ends-told (now (base .entry)) sds (now (link .entry)) (now (object .entry)) (r .no) (r .one) (r .two) ⌝ }
 {
-    Aim {
-        no,
-        link: 0,
-        object: 0,
+    let told = conditions::aimed::named_two(base, sds, link, object);
+    if told.no != 0 {
+        return told;
     }
-}
-
-fn aimed_at(base: &[u8], sds: usize, link: &[u8], object: &[u8]) -> Aim
-    ensures { λ r. ⌜ Aimed (now (base .entry)) sds (now (link .entry)) (now (object .entry)) r ⌝ }
-{
-    if !sound::is_sound(base) {
-        return refused(1);
+    if base::kind(base, told.one) != 3 {
+        return Told::refused(7);
     }
-    if !lookup::is_sds(base, sds) {
-        return refused(2);
+    if base::kind(base, told.two) != 1 {
+        return Told::refused(7);
     }
-    if sds == 0 {
-        return refused(3);
-    }
-    if !names::is_well_formed(link) {
-        return refused(4);
-    }
-    if !names::is_well_formed(object) {
-        return refused(4);
-    }
-    let l = working::find::type_in(base, sds, link);
-    if l == Limits::TYPES {
-        return refused(6);
-    }
-    let o = working::find::type_in(base, sds, object);
-    if o == Limits::TYPES {
-        return refused(6);
-    }
-    if base::kind(base, l) != 3 {
-        return refused(7);
-    }
-    if base::kind(base, o) != 1 {
-        return refused(7);
-    }
-    Aim {
-        no: 0,
-        link: l,
-        object: o,
-    }
+    told
 }
 
 // Whether there is no room for an end of a link type and one of its reverse r, if it has one.
@@ -92,18 +54,18 @@ fn add_end(base: &mut [u8], sds: usize, link: &[u8], object: &[u8], side: usize)
     if aim.no != 0 {
         return Answer::refused(aim.no);
     }
-    if conditions::is_end(base, sds, aim.link, side, aim.object) {
+    if conditions::is_end(base, sds, aim.one, side, aim.two) {
         return Answer::refused(9);
     }
-    let reverse = conditions::reverse_of(base, aim.link);
+    let reverse = conditions::reverse_of(base, aim.one);
     if is_full(base, reverse) {
         return Answer::refused(14);
     }
-    edit::put_end(base, sds, aim.link, side, aim.object);
+    edit::put_end(base, sds, aim.one, side, aim.two);
     if reverse == Limits::TYPES {
         return Answer::done(0, 0, 0);
     }
-    edit::put_end(base, sds, reverse, 1 - side, aim.object);
+    edit::put_end(base, sds, reverse, 1 - side, aim.two);
     Answer::done(0, 0, 0)
 }
 
@@ -116,16 +78,16 @@ fn remove_end(base: &mut [u8], sds: usize, link: &[u8], object: &[u8], side: usi
     if aim.no != 0 {
         return Answer::refused(aim.no);
     }
-    let row = conditions::end_row(base, sds, aim.link, side, aim.object);
+    let row = conditions::end_row(base, sds, aim.one, side, aim.two);
     if base::used::end_count(base) <= row {
         return Answer::refused(13);
     }
-    let reverse = conditions::reverse_of(base, aim.link);
+    let reverse = conditions::reverse_of(base, aim.one);
     edit::take_end(base, row);
     if reverse == Limits::TYPES {
         return Answer::done(0, 0, 0);
     }
-    let mirror = conditions::end_row(base, sds, reverse, 1 - side, aim.object);
+    let mirror = conditions::end_row(base, sds, reverse, 1 - side, aim.two);
     edit::take_end(base, mirror);
     Answer::done(0, 0, 0)
 }

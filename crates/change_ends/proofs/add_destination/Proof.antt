@@ -1,3 +1,4 @@
+-- A destination added: the end on side 1. Assumes nothing.
 use borrow.Author.Needs.{needs}
 use Rattle.rules.specs.Read.{read-side}
 use Rattle.change_ends.proofs.add_destination.Statement.{statement}

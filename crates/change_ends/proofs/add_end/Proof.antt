@@ -1,3 +1,4 @@
+-- An end added: what was told of its two types, its own tests, and the rows of the end and of its mirror. Assumes nothing.
 use borrow.Author.Needs.{needs}
 use Prim.Native.Nat.{_<_}
 use native.Mathlib.Omega.{arith}
@@ -7,25 +8,20 @@ use Rattle.rules.specs.04-Schema.{has-end}
 use Rattle.rules.specs.Read.{read-side}
 use Rattle.rules.proofs.09-Refusals.{passes, stops, ends}
 use Rattle.base.specs.Back.{schema-of}
-use Rattle.lookup.proofs.SdsShown.{used-below}
 use Rattle.base.proofs.Kept.{sound-long, kept-refused, kept-done}
 use Rattle.base.proofs.StoredLaws.{sound-stored, shows-stored}
 use Rattle.base.proofs.TestedLaws.{begun-stops}
-use Rattle.change_ends.specs.Ends.{Through}
-use Rattle.change_ends.proofs.EndLaws.{add-left, add-tests, full-is, room-first, room-second, second-free, added-one, added-both}
+use Rattle.change_ends.proofs.EndLaws.{Through, goes-through, add-left, add-tests, full-is, room-first, room-second, second-free, added-one, added-both}
 use Rattle.change_ends.proofs.add_end.Statement.{statement}
 use Rattle.change_ends.proofs.add_end.Tie as tie
 
-through-1 : (c : tie.Else1) → let x = c .before .before .before .before .before .before .before .args in Through (x .base .now) (x .sds)
-    (x .link .now) (x .object .now) (c .before .before .aimed-at .result)
-through-1 c = c .before .before .aimed-at .ensures .through (c .if1 .left)
-
-sds-1 : (c : tie.Else1) → c .before .before .before .before .before .before .before .args .sds < 16
-sds-1 c = used-below _ (sound-long (through-1 c .sound)) _ (through-1 c .used)
+through-1 : (c : tie.Else1) → let x = c .before .before .before .before .before .before .before .args in
+    let told = c .before .before .aimed-at .result in Through (x .base .now) (x .sds) (told .one) (told .two)
+through-1 c = goes-through (c .before .before .aimed-at .ensures) (c .if1 .left)
 
 free-2 : (c : tie.Else2) → let x = c .before .before .before .before .before .before .before .before .before .before .args in has-end
-    (schema-of (x .base .now)) (x .sds) (c .before .before .before .before .before .aimed-at .result .link) (read-side (x .side))
-    (c .before .before .before .before .before .aimed-at .result .object) ≡ false
+    (schema-of (x .base .now)) (x .sds) (c .before .before .before .before .before .aimed-at .result .one) (read-side (x .side))
+    (c .before .before .before .before .before .aimed-at .result .two) ≡ false
 free-2 c = sym (c .before .is-end .ensures) ∙ c .if2 .left
 
 aimed-at-requires : tie.Need-aimed-at-requires
@@ -45,7 +41,7 @@ is-end-requires c κs =
     let th = through-1 (c .before) in (
       th .sound,
       (
-        omega (arith, sds-1 (c .before)),
+        omega (arith, through-1 (c .before) .below),
         (
           omega (arith, th .link-below),
           (c .before .before .before .before .before .before .before .before .pre, omega (arith, th .object-below)),
@@ -92,7 +88,7 @@ put-end-requires c κs =
         (
           th .outside,
           (
-            omega (arith, sds-1 (c .before .before .before .before .before .before .before .before .before)),
+            omega (arith, through-1 (c .before .before .before .before .before .before .before .before .before) .below),
             (
               omega (arith, th .link-below),
               (
@@ -144,8 +140,7 @@ put-end-requires-2 c κs =
           (
             omega (
               arith,
-              sds-1
-                  (c .before .before .before .before .before .before .before .before .before .before .before .before .before .before),
+              through-1 (c .before .before .before .before .before .before .before .before .before .before .before .before .before .before) .below,
             ),
             (omega (arith, below), (omega arith, omega (arith, th .object-below))),
           ),

@@ -1,220 +1,72 @@
+-- What the calls on ends test: what was told of the two names, then the kinds of their types. Assumes nothing.
 use borrow.Author.Needs.{needs}
-use Prim.Native.Nat.{_<_}
 use native.Mathlib.Omega.{arith}
-use mathlib.Core.Path.{_≡_, sym, _∙_}
-use mathlib.Core.Bool.{true}
-use borrow.Author.Tests.{not-true, not-false}
-use Rattle.rules.specs.03-Names.{well-formed}
-use Rattle.rules.specs.04-Schema.{used-sds, bears, type-named}
+use mathlib.Core.Path.{refl}
+use Rattle.rules.specs.01-Lists.{all}
 use Rattle.rules.specs.10-Changes.{end-refusals}
 use Rattle.base.specs.Back.{schema-of}
-use Rattle.lookup.proofs.SdsShown.{known, unknown}
 use Rattle.base.proofs.Kept.{sound-long}
-use Rattle.conditions.proofs.NameLaws.{formed-passes, malformed-stops, system-stops, system-passes, one-malformed, other-malformed, none-malformed}
-use Rattle.conditions.proofs.NameLaws.{both-there, one-missing, other-missing, borne, not-borne}
-use Rattle.base.proofs.TestedLaws.{come-spoiled, Past, come-first, come-next, come-stops, come-through}
-use Rattle.change_ends.proofs.EndLaws.{not-aimed}
-use Rattle.change_ends.proofs.EndLaws.{link-is, no-link-there, no-object-there, both-kinds}
+use Rattle.base.proofs.TestedLaws.{Past, come-next, come-through}
+use Rattle.conditions.specs.Aimed.{Both}
+use Rattle.conditions.proofs.AimedLaws.{come-on, refused-first, refused-here, passed-as}
+use Rattle.change_ends.proofs.EndLaws.{no-link-there, no-object-there, both-kinds}
 use Rattle.change_ends.proofs.aimed_at.Statement.{statement}
 use Rattle.change_ends.proofs.aimed_at.Tie as tie
 
-at-2 : (c : tie.Else1) → let x = c .before .before .before .before .before .args in
-    Past (x .base .now) (end-refusals (x .sds) (x .link .now) (x .object .now) (schema-of (x .base .now))) 2
-at-2 c = come-first (c .before .is-sound .ensures .holds (not-false _ (c .if1 .left)))
-
-used-2 : (c : tie.Else2) → let x = c .before .before .before .before .before .before .before .args in used-sds (schema-of (x .base .now)) (x .sds) ≡ true
-used-2 c = sym (c .before .is-sds .ensures) ∙ not-false _ (c .if2 .left)
-
-at-3 : (c : tie.Else2) → let x = c .before .before .before .before .before .before .before .args in
-    Past (x .base .now) (end-refusals (x .sds) (x .link .now) (x .object .now) (schema-of (x .base .now))) 3
-at-3 c = come-next (at-2 (c .before .before)) (known _ (sound-long (at-2 (c .before .before) .sound)) _ (used-2 c))
-
-at-4 : (c : tie.Else3) → let x = c .before .before .before .before .before .before .before .before .args in
-    Past (x .base .now) (end-refusals (x .sds) (x .link .now) (x .object .now) (schema-of (x .base .now))) 4
-at-4 c = come-next (at-3 (c .before)) (system-passes _ (c .if3 .left))
-
-formed-4 : (c : tie.Else4) → well-formed (c .before .before .before .before .before .before .before .before .before .before .args .link .now) ≡ true
-formed-4 c = sym (c .before .is-well-formed .ensures) ∙ not-false _ (c .if4 .left)
-
-formed-5 : (c : tie.Else5) → well-formed (c .before .before .before .before .before .before .before .before .before .before .before .before .args .object .now) ≡ true
-formed-5 c = sym (c .before .is-well-formed2 .ensures) ∙ not-false _ (c .if5 .left)
-
-at-6 : (c : tie.Else5) → let x = c .before .before .before .before .before .before .before .before .before .before .before .before .args in
-    Past (x .base .now) (end-refusals (x .sds) (x .link .now) (x .object .now) (schema-of (x .base .now))) 6
-at-6 c = come-next (at-4 (c .before .before .before .before)) (none-malformed _ _ (formed-passes _ (formed-4 (c .before .before))) (formed-passes _ (formed-5 c)))
-
-bears-6 : (c : tie.Else6) → let x =
-    c .before .before .before .before .before .before .before .before .before .before .before .before .before .before .args in bears
-    (schema-of (x .base .now)) (x .sds) (x .link .now) ≡ true
-bears-6 c = borne (c .before .type-in .ensures) (c .if6 .left)
-
-type-6 : (c : tie.Else6) → let x =
-    c .before .before .before .before .before .before .before .before .before .before .before .before .before .before .args in
-    (c .before .type-in .result < 128) × (c .before .type-in .result ≡ type-named (schema-of (x .base .now)) (x .sds) (x .link .now))
-type-6 c = c .before .type-in .ensures .found (bears-6 c)
-
-bears-7 : (c : tie.Else7) → let x =
-    c .before .before .before .before .before .before .before .before .before .before .before .before .before .before .before .before .args in bears
-    (schema-of (x .base .now)) (x .sds) (x .object .now) ≡ true
-bears-7 c = borne (c .before .type-in2 .ensures) (c .if7 .left)
-
-type-7 : (c : tie.Else7) → let x =
-    c .before .before .before .before .before .before .before .before .before .before .before .before .before .before .before .before .args in
-    (c .before .type-in2 .result < 128) × (c .before .type-in2 .result ≡ type-named (schema-of (x .base .now)) (x .sds) (x .object .now))
-type-7 c = c .before .type-in2 .ensures .found (bears-7 c)
-
-at-7 : (c : tie.Else7) → let x =
-    c .before .before .before .before .before .before .before .before .before .before .before .before .before .before .before .before .args in
+at-7 : (c : tie.Else1) → let x = c .before .before .before .before .before .before .args in
     Past (x .base .now) (end-refusals (x .sds) (x .link .now) (x .object .now) (schema-of (x .base .now))) 7
-at-7 c = come-next (at-6 (c .before .before .before .before)) (both-there _ _ _ _ (bears-6 (c .before .before)) (bears-7 c))
+unfolding all
+at-7 c = come-on (c .before .before .named-two .ensures .told) (c .if1 .left) refl _
 
-is-sound-requires : tie.Need-is-sound-requires
-is-sound-requires c κs = search needs
+both-1 : (c : tie.Else1) → let x = c .before .before .before .before .before .before .args in
+    let told = c .before .before .named-two .result in Both (x .base .now) (x .sds) (x .link .now) (x .object .now) (told .one) (told .two)
+both-1 c = c .before .before .named-two .ensures .so (c .if1 .left)
+
+named-two-requires : tie.Need-named-two-requires
+named-two-requires c κs = search needs
+
+returns : tie.Need-returns
+returns c = refused-first _ (c .before .before .named-two .ensures .told) (c .if1 .taken) refl
+
+kind-requires : tie.Need-kind-requires
+kind-requires c κs = (sound-long (at-7 c .sound), both-1 c .one .below)
 
 refused-requires : tie.Need-refused-requires
 refused-requires c κs = search needs
 
-returns : tie.Need-returns
-returns c =
-    not-aimed (come-spoiled (c .before .before .is-sound .ensures .fails (not-true _ (c .before .if1 .taken))) (c .refused .ensures))
-    (λ z. omega (arith, c .refused .ensures))
+returns-2 : tie.Need-returns-2
+returns-2 c =
+    let first = c .before .before .before in
+    refused-here (at-7 first) (no-link-there (both-1 first) (c .before .before .kind .ensures) (c .before .if2 .taken)) (c .refused .ensures) (omega arith)
 
-is-sds-requires : tie.Need-is-sds-requires
-is-sds-requires c κs = sound-long (at-2 c .sound)
+kind-requires-2 : tie.Need-kind-requires-2
+kind-requires-2 c κs = let first = c .before .before in (sound-long (at-7 first .sound), both-1 first .two .below)
 
 refused-requires-2 : tie.Need-refused-requires-2
 refused-requires-2 c κs = search needs
 
-returns-2 : tie.Need-returns-2
-returns-2 c = not-aimed (come-stops (at-2 (c .before .before .before))
-    (unknown _ (sound-long (at-2 (c .before .before .before) .sound)) _
-    (sym (c .before .before .is-sds .ensures) ∙ not-true _ (c .before .if2 .taken))) (c .refused2 .ensures))
-    (λ z. omega (arith, c .refused2 .ensures))
-
-refused-requires-3 : tie.Need-refused-requires-3
-refused-requires-3 c κs = search needs
-
 returns-3 : tie.Need-returns-3
-returns-3 c = not-aimed (come-stops (at-3 (c .before .before)) (system-stops _ (c .before .if3 .taken)) (c .refused3 .ensures))
-    (λ z. omega (arith, c .refused3 .ensures))
-
-is-well-formed-requires : tie.Need-is-well-formed-requires
-is-well-formed-requires c κs = search needs
-
-refused-requires-4 : tie.Need-refused-requires-4
-refused-requires-4 c κs = search needs
+returns-3 c =
+    let first = c .before .before .before .before .before in
+    refused-here (at-7 first) (no-object-there (both-1 first) (c .before .before .kind2 .ensures) (c .before .if3 .taken)) (c .refused2 .ensures) (omega arith)
 
 returns-4 : tie.Need-returns-4
-returns-4 c = not-aimed (come-stops (at-4 (c .before .before .before))
-    (one-malformed _ _ (malformed-stops _ (sym (c .before .before .is-well-formed .ensures) ∙ not-true _ (c .before .if4 .taken)))) (c .refused4 .ensures))
-    (λ z. omega (arith, c .refused4 .ensures))
-
-is-well-formed-requires-2 : tie.Need-is-well-formed-requires-2
-is-well-formed-requires-2 c κs = search needs
-
-refused-requires-5 : tie.Need-refused-requires-5
-refused-requires-5 c κs = search needs
-
-returns-5 : tie.Need-returns-5
-returns-5 c = not-aimed (come-stops (at-4 (c .before .before .before .before .before))
-    (other-malformed _ _ (malformed-stops _ (sym (c .before .before .is-well-formed2 .ensures) ∙ not-true _ (c .before .if5 .taken)))) (c .refused5 .ensures))
-    (λ z. omega (arith, c .refused5 .ensures))
-
-type-in-requires : tie.Need-type-in-requires
-type-in-requires c κs = at-6 c .sound
-
-refused-requires-6 : tie.Need-refused-requires-6
-refused-requires-6 c κs = search needs
-
-returns-6 : tie.Need-returns-6
-returns-6 c = not-aimed (come-stops (at-6 (c .before .before .before))
-    (one-missing _ _ _ _ (not-borne (c .before .before .type-in .ensures) (c .before .if6 .taken))) (c .refused6 .ensures))
-    (λ z. omega (arith, c .refused6 .ensures))
-
-type-in-requires-2 : tie.Need-type-in-requires-2
-type-in-requires-2 c κs = at-6 (c .before .before) .sound
-
-refused-requires-7 : tie.Need-refused-requires-7
-refused-requires-7 c κs = search needs
-
-returns-7 : tie.Need-returns-7
-returns-7 c = not-aimed (come-stops (at-6 (c .before .before .before .before .before))
-    (other-missing _ _ _ _ (not-borne (c .before .before .type-in2 .ensures) (c .before .if7 .taken))) (c .refused7 .ensures))
-    (λ z. omega (arith, c .refused7 .ensures))
-
-kind-requires : tie.Need-kind-requires
-kind-requires c κs = (sound-long (at-7 c .sound), type-6 (c .before .before) .0)
-
-refused-requires-8 : tie.Need-refused-requires-8
-refused-requires-8 c κs = search needs
-
-returns-8 : tie.Need-returns-8
-returns-8 c =
-    let (h, e) = type-6 (c .before .before .before .before .before) in
-    not-aimed (come-stops (at-7 (c .before .before .before)) (no-link-there _ _ _ _ h e (c .before .before .kind .ensures) (c .before .if8 .taken)) (c .refused8 .ensures))
-    (λ z. omega (arith, c .refused8 .ensures))
-
-kind-requires-2 : tie.Need-kind-requires-2
-kind-requires-2 c κs = (sound-long (at-7 (c .before .before) .sound), type-7 (c .before .before) .0)
-
-refused-requires-9 : tie.Need-refused-requires-9
-refused-requires-9 c κs = search needs
-
-returns-9 : tie.Need-returns-9
-returns-9 c =
-    let (h, e) = type-7 (c .before .before .before .before .before) in
-    not-aimed (come-stops (at-7 (c .before .before .before .before .before))
-    (no-object-there _ _ _ _ h e (c .before .before .kind2 .ensures) (c .before .if9 .taken)) (c .refused9 .ensures))
-    (λ z. omega (arith, c .refused9 .ensures))
-
-returns-10 : tie.Need-returns-10
-returns-10 c =
-    let l = type-6 (c .before .before .before .before .before .before) in
-    let o = type-7 (c .before .before .before .before) in
-    let past = at-7 (c .before .before .before .before) in
-    record {
-      told = come-through (come-next past (both-kinds _ _ _ _ l o (c .before .before .before .kind .ensures) (c .before .before .if8 .left)
-          (c .before .kind2 .ensures) (c .if9 .left)));
-      through = λ _. record {
-        sound = past .sound;
-        used = used-2 (c .before .before .before .before .before .before .before .before .before .before .before .before .before);
-        outside = c .before .before .before .before .before .before .before .before .before .before .before .before .if3 .left;
-        link-below = l .0;
-        link-named = l .1;
-        link-kind = link-is (l .0) (c .before .before .before .kind .ensures) (c .before .before .if8 .left);
-        object-below = o .0;
-        object-named = o .1;
-      };
-    }
+returns-4 c =
+    let first = c .before .before .before .before in
+    passed-as (first .if1 .left) (come-through (come-next (at-7 first)
+    (both-kinds (both-1 first) (c .before .before .before .kind .ensures) (c .before .before .if2 .left) (c .before .kind2 .ensures) (c .if3 .left))))
+    (both-1 first)
 
 pub aimed-at-spec : {M : Type 1} → statement M
 aimed-at-spec =
     tie.close
     (tie.spec
-    is-sound-requires
-    refused-requires
+    named-two-requires
     returns
-    is-sds-requires
-    refused-requires-2
-    returns-2
-    refused-requires-3
-    returns-3
-    is-well-formed-requires
-    refused-requires-4
-    returns-4
-    is-well-formed-requires-2
-    refused-requires-5
-    returns-5
-    type-in-requires
-    refused-requires-6
-    returns-6
-    type-in-requires-2
-    refused-requires-7
-    returns-7
     kind-requires
-    refused-requires-8
-    returns-8
+    refused-requires
+    returns-2
     kind-requires-2
-    refused-requires-9
-    returns-9
-    returns-10)
+    refused-requires-2
+    returns-3
+    returns-4)

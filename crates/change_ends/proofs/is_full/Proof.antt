@@ -1,3 +1,4 @@
+-- Whether the ends are full: one more, or two where the link type has a reverse. Assumes nothing.
 use borrow.Author.Needs.{needs}
 use Rattle.change_ends.proofs.EndLaws.{full-two, full-one}
 use Rattle.change_ends.proofs.is_full.Statement.{statement}

@@ -1,3 +1,4 @@
+-- A destination removed: the end on side 1. Assumes nothing.
 use borrow.Author.Needs.{needs}
 use Rattle.rules.specs.Read.{read-side}
 use Rattle.change_ends.proofs.remove_destination.Statement.{statement}

@@ -1,3 +1,4 @@
+-- An end removed: what was told of its two types, its own test, and the rows of the end and of its mirror. Assumes nothing.
 use borrow.Author.Needs.{needs}
 use Prim.Native.Nat.{_<_}
 use native.Mathlib.Omega.{arith}
@@ -7,28 +8,23 @@ use Rattle.rules.specs.04-Schema.{has-end}
 use Rattle.rules.specs.Read.{read-side}
 use Rattle.rules.proofs.09-Refusals.{passes, stops, ends}
 use Rattle.base.specs.Back.{schema-of, end-count}
-use Rattle.lookup.proofs.SdsShown.{used-below}
 use Rattle.base.proofs.Kept.{sound-long, kept-refused, kept-done}
 use Rattle.base.proofs.StoredLaws.{sound-stored, shows-stored}
 use Rattle.base.proofs.TestedLaws.{begun-stops}
-use Rattle.change_ends.specs.Ends.{Through}
-use Rattle.change_ends.proofs.EndLaws.{remove-left, remove-tests, row-none, row-some, removed-one, mirror-row, removed-both}
+use Rattle.change_ends.proofs.EndLaws.{Through, goes-through, remove-left, remove-tests, row-none, row-some, removed-one, mirror-row, removed-both}
 use Rattle.change_ends.proofs.remove_end.Statement.{statement}
 use Rattle.change_ends.proofs.remove_end.Tie as tie
 
-through-1 : (c : tie.Else1) → let x = c .before .before .before .before .before .before .before .args in Through (x .base .now) (x .sds)
-    (x .link .now) (x .object .now) (c .before .before .aimed-at .result)
-through-1 c = c .before .before .aimed-at .ensures .through (c .if1 .left)
-
-sds-1 : (c : tie.Else1) → c .before .before .before .before .before .before .before .args .sds < 16
-sds-1 c = used-below _ (sound-long (through-1 c .sound)) _ (through-1 c .used)
+through-1 : (c : tie.Else1) → let x = c .before .before .before .before .before .before .before .args in
+    let told = c .before .before .aimed-at .result in Through (x .base .now) (x .sds) (told .one) (told .two)
+through-1 c = goes-through (c .before .before .aimed-at .ensures) (c .if1 .left)
 
 row-2 : (c : tie.Else2) → c .before .before .before .end-row .result < end-count (c .before .before .before .before .before .before .before .before .before .before .before .before .args .base .now)
 row-2 c = omega (arith, c .before .end-count .ensures .is, c .if2 .left)
 
 there-2 : (c : tie.Else2) → let x = c .before .before .before .before .before .before .before .before .before .before .before .before .args in
-    has-end (schema-of (x .base .now)) (x .sds) (c .before .before .before .before .before .before .before .aimed-at .result .link)
-    (read-side (x .side)) (c .before .before .before .before .before .before .before .aimed-at .result .object) ≡ true
+    has-end (schema-of (x .base .now)) (x .sds) (c .before .before .before .before .before .before .before .aimed-at .result .one)
+    (read-side (x .side)) (c .before .before .before .before .before .before .before .aimed-at .result .two) ≡ true
 there-2 c = row-some (c .before .end-count .ensures) (c .before .before .before .end-row .ensures) (c .if2 .left)
 
 aimed-at-requires : tie.Need-aimed-at-requires
@@ -47,7 +43,7 @@ end-row-requires : tie.Need-end-row-requires
 end-row-requires c κs =
     let th = through-1 (c .before) in (
       sound-stored (th .sound),
-      (omega (arith, sds-1 (c .before)), (omega (arith, th .link-below), (c .before .before .before .before .before .before .before .before .pre, omega (arith, th .object-below)))),
+      (omega (arith, through-1 (c .before) .below), (omega (arith, th .link-below), (c .before .before .before .before .before .before .before .before .pre, omega (arith, th .object-below)))),
     )
 
 end-count-requires : tie.Need-end-count-requires
@@ -98,7 +94,7 @@ end-row-requires-2 c κs =
     let th = through-1 (c .before .before .before .before .before .before .before .before .before .before .before .before .before) in (
       shows-stored (c .before .before .before .before .take-end .ensures),
       (
-        omega (arith, sds-1 (c .before .before .before .before .before .before .before .before .before .before .before .before .before)),
+        omega (arith, through-1 (c .before .before .before .before .before .before .before .before .before .before .before .before .before) .below),
         (omega (arith, c .before .before .before .before .before .before .reverse-of .ensures .fits), (omega arith, omega (arith, th .object-below))),
       ),
     )

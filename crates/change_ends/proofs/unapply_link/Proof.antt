@@ -1,3 +1,4 @@
+-- An origin removed: the end on side 0. Assumes nothing.
 use borrow.Author.Needs.{needs}
 use Rattle.rules.specs.Read.{read-side}
 use Rattle.change_ends.proofs.unapply_link.Statement.{statement}

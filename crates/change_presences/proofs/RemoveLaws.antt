@@ -6,9 +6,9 @@ use mathlib.Core.List.{List, [], _∷_}
 use mathlib.Core.Bool.{Bool, true, false, _&&_, _||_, or-false}
 use lib.Dec.{eqb}
 use borrow.Author.Tests.{eqb-true}
-use Rattle.rules.specs.01-Lists.{_∈_, any, among, without}
+use Rattle.rules.specs.01-Lists.{_∈_, any, all, among, without}
 use Rattle.rules.specs.03-Names.{Name}
-use Rattle.rules.specs.04-Schema.{Schema, Presence, with-reverse, holds-type, present, bears, type-named}
+use Rattle.rules.specs.04-Schema.{Schema, Presence, with-reverse, holds-type, present, type-named}
 use Rattle.rules.specs.04-Schema.Kind.{unused}
 use Rattle.rules.specs.06-Good.{Good}
 use Rattle.rules.specs.07-Picture.{Sound, picture}
@@ -23,7 +23,10 @@ use Rattle.base.specs.Back.{schema-of}
 use Rattle.base.specs.Stored.{Shows, Stored, Becomes}
 use Rattle.base.proofs.Back.{sound-good}
 use Rattle.base.proofs.StoredLaws.{shows-next, shows-has}
+use Rattle.base.proofs.TestedLaws.{tested-sound, tested-passes}
+use Rattle.conditions.specs.Aimed.{With-reverse, Refused-or}
 use Rattle.conditions.specs.Reverse.{one-or-none, Reverse-of}
+use Rattle.conditions.proofs.AimedLaws.{all-passed, name-borne}
 use Rattle.conditions.proofs.ConditionLaws.{or-first, or-next}
 use Rattle.conditions.proofs.ReverseLaws.{one-is, none-is}
 use Rattle.change_presences.specs.Remove.{Held-once, less-presence}
@@ -113,15 +116,20 @@ pub record Through (b : List ℕ) (d : ℕ) (n : Name) (t r : ℕ) : Type 0 wher
   pub pair : Reverse-of (schema-of b) t r
   pub rule : remove-type d n (schema-of b) ≡ done t 0 0 (removed d t (schema-of b))
 
-pub goes-through : {b : List ℕ} {d : ℕ} {n : Name} {t r : ℕ} → Sound b → bears (schema-of b) d n ≡ true → (t < 128) × (t ≡ type-named (schema-of b) d n)
-    → Reverse-of (schema-of b) t r → remove-type d n (schema-of b) ≡ remove-effect d n (schema-of b) → Through b d n t r
-goes-through {b} {d} {n} s e (h, q) rev o = record {
-  sound = s;
-  below = h;
-  once = held-named (sound-good s) n e q;
-  pair = rev;
-  rule = o ∙ ap (λ (y : ℕ). done y 0 0 (removed d y (schema-of b))) (sym q);
-}
+pub goes-through : {b : List ℕ} {d : ℕ} {n : Name} {no t r : ℕ} → Refused-or b (remove-type-refusals d n (schema-of b)) no (With-reverse b d n t r) → no ≡ 0
+    → Through b d n t r
+unfolding all
+goes-through {b} {d} {n} told z =
+    let s = tested-sound (told .told) z in
+    let found = told .so z in
+    record {
+      sound = s;
+      below = found .type .below;
+      once = held-named (sound-good s) n (name-borne (schema-of b) d n (all-passed (told .told) z refl .fails 6)) (found .type .named);
+      pair = found .pair;
+      rule = tested-passes (told .told) z refl (remove-left d n (schema-of b))
+          ∙ ap (λ (y : ℕ). done y 0 0 (removed d y (schema-of b))) (sym (found .type .named));
+    }
 
 one-out : (d t : ℕ) (ps : List Presence) → without (holds-type d t) ps ≡ without (λ p. eqb (p .sds) d && among (t ∷ []) (p .type)) ps
 unfolding any

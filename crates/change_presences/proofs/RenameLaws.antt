@@ -7,8 +7,8 @@ use mathlib.Core.Bool.{Bool, true, false, not, true≢false}
 use lib.Dec.{eqb}
 use lib.ListN.{length}
 use borrow.Author.Tests.{eqb-true, eq-eqb}
-use Rattle.rules.specs.01-Lists.{_∈_, any, without, put}
-use Rattle.rules.specs.03-Names.{Name, same-name}
+use Rattle.rules.specs.01-Lists.{_∈_, any, all, without, put}
+use Rattle.rules.specs.03-Names.{Name, well-formed, same-name}
 use Rattle.rules.specs.04-Schema.{Schema, Presence, holds-type, holds-name, bears, type-named, presence-before}
 use Rattle.rules.specs.06-Good.{Good}
 use Rattle.rules.specs.07-Picture.{Sound, picture}
@@ -27,7 +27,10 @@ use Rattle.base.proofs.Back.{sound-good}
 use Rattle.base.proofs.Shown.{presences-long}
 use Rattle.base.proofs.StoredLaws.{sound-stored, shows-schema}
 use Rattle.working.specs.Listed.{Named-in}
+use Rattle.base.proofs.TestedLaws.{tested-passes}
+use Rattle.conditions.specs.Aimed.{Aimed, Type-of, Refused-or}
 use Rattle.conditions.proofs.NameLaws.{borne, not-borne}
+use Rattle.conditions.proofs.AimedLaws.{all-passed, aimed-well, both-formed, name-borne}
 use Rattle.change_presences.specs.Remove.{less-presence}
 use Rattle.change_presences.proofs.HeldLaws.{bearer, held-named, held-row, row-below, row-taken}
 
@@ -75,6 +78,32 @@ rename-effect d n new s = done 0 0 0 (renamed d (type-named s d n) new s)
 pub rename-left : (d : ℕ) (n new : Name) (s : Schema) → Left (rename d n new s) (rename-refusals d n new s) (rename-effect d n new s)
 unfolding rename
 rename-left d n new s = record { is = refl }
+
+-- what the call goes on with where nothing refuses
+pub record Through (b : List ℕ) (d : ℕ) (n new : Name) (t : ℕ) : Type 0 where
+  pub aim : Aimed b d
+  pub formed : well-formed new ≡ true
+  pub below : t < 128
+  pub there : bears (schema-of b) d n ≡ true
+  pub named : t ≡ type-named (schema-of b) d n
+  pub free : borne-by-another (schema-of b) d t new ≡ false
+  pub rule : rename d n new (schema-of b) ≡ done 0 0 0 (renamed d t new (schema-of b))
+
+pub goes-through : {b : List ℕ} {d : ℕ} {n : Name} (new : Name) {no t : ℕ}
+    → Refused-or b (rename-refusals d n new (schema-of b)) no (Type-of b d n t) → no ≡ 0 → Through b d n new t
+unfolding all
+goes-through {b} {d} {n} new told z =
+    let p = all-passed (told .told) z refl in
+    let q = told .so z .named in
+    record {
+      aim = aimed-well _ (told .told) z;
+      formed = both-formed n new (p .fails 4) .1;
+      below = told .so z .below;
+      there = name-borne (schema-of b) d n (p .fails 6);
+      named = q;
+      free = ap (λ (y : ℕ). borne-by-another (schema-of b) d y new) q ∙ p .fails 11;
+      rule = tested-passes (told .told) z refl (rename-left d n new (schema-of b)) ∙ ap (λ (y : ℕ). done 0 0 0 (renamed d y new (schema-of b))) (sym q);
+    }
 
 -- the name is another's exactly where a type is found under it, and it is another
 module _ {s : Schema} {d : ℕ} {n : Name} {r : ℕ} (found : Named-in s d n r) where

@@ -1,4 +1,5 @@
 // A type removed from an SDS, with its reverse.
+use conditions::aimed::Told;
 use rules::Answer;
 use rules::Limits;
 ghost use mathlib.Core.Path.{_≡_};
@@ -7,11 +8,12 @@ ghost use Prim.Native.Nat.{_≤_, _<_};
 ghost use Rattle.rules.specs.01-Lists.{any};
 ghost use Rattle.rules.specs.07-Picture.{Sound};
 ghost use Rattle.rules.specs.09-Refusals.{still-used};
-ghost use Rattle.rules.specs.10-Changes.{less-gone, remove-type};
+ghost use Rattle.rules.specs.10-Changes.{less-gone, remove-type, remove-type-refusals};
 ghost use Rattle.rules.specs.12-Contracts.{Kept};
 ghost use Rattle.base.specs.Back.{schema-of};
 ghost use Rattle.base.specs.Stored.{Stored, Shows};
 ghost use Rattle.conditions.specs.Reverse.{one-or-none};
+ghost use Rattle.conditions.specs.Aimed.{With-reverse, Refused-or};
 ghost use Rattle.change_presences.specs.Remove.{Held-once, less-presence};
 
 // Whether type t, or its reverse r if it has one, is still used in SDS d.
@@ -49,37 +51,43 @@ fn drop_if_gone(base: &mut [u8], t: usize)
     }
 }
 
+// What the removal tests, in the order of its refusals; then the type that is named and its reverse, as many as there are types
+// where it has none.
+fn removable(base: &[u8], sds: usize, name: &[u8]) -> Told
+    ensures { λ r. ⌜ Refused-or (now (base .entry)) (remove-type-refusals sds (now (name .entry)) (schema-of (now (base .entry)))) (r .no)
+        (With-reverse (now (base .entry)) sds (now (name .entry)) (r .one) (r .two)) ⌝ }
+{
+    let no = conditions::aimed::aimed(base, sds, name);
+    let told = conditions::aimed::named(base, sds, name, no);
+    if told.no != 0 {
+        return told;
+    }
+    let reverse = conditions::reverse_of(base, told.one);
+    if is_either_used(base, sds, told.one, reverse) {
+        return Told::refused(12);
+    }
+    Told {
+        no: 0,
+        one: told.one,
+        two: reverse,
+    }
+}
+
 // A type goes from an SDS, and its reverse with it.
 pub fn remove_type(base: &mut [u8], sds: usize, name: &[u8]) -> Answer
     ensures { λ r. ⌜ Kept (now (base .entry)) (remove-type sds (now (name .entry))) r (now (base .exit)) ⌝ }
 {
-    if !sound::is_sound(base) {
-        return Answer::refused(1);
+    let told = removable(base, sds, name);
+    if told.no != 0 {
+        return Answer::refused(told.no);
     }
-    if !lookup::is_sds(base, sds) {
-        return Answer::refused(2);
+    take_out(base, sds, told.one);
+    if told.two == Limits::TYPES {
+        drop_if_gone(base, told.one);
+        return Answer::done(told.one, 0, 0);
     }
-    if sds == 0 {
-        return Answer::refused(3);
-    }
-    if !names::is_well_formed(name) {
-        return Answer::refused(4);
-    }
-    let t = working::find::type_in(base, sds, name);
-    if t == Limits::TYPES {
-        return Answer::refused(6);
-    }
-    let reverse = conditions::reverse_of(base, t);
-    if is_either_used(base, sds, t, reverse) {
-        return Answer::refused(12);
-    }
-    take_out(base, sds, t);
-    if reverse == Limits::TYPES {
-        drop_if_gone(base, t);
-        return Answer::done(t, 0, 0);
-    }
-    take_out(base, sds, reverse);
-    drop_if_gone(base, t);
-    drop_if_gone(base, reverse);
-    Answer::done(t, 0, 0)
+    take_out(base, sds, told.two);
+    drop_if_gone(base, told.one);
+    drop_if_gone(base, told.two);
+    Answer::done(told.one, 0, 0)
 }

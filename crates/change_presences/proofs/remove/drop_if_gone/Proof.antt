@@ -1,3 +1,4 @@
+-- A type that is in no SDS any more: its row is cleared where no presence is left. Assumes nothing.
 use borrow.Author.Needs.{needs}
 use native.Mathlib.Omega.{arith}
 use mathlib.Core.Path.{sym, _∙_}

@@ -1,3 +1,4 @@
+-- Whether a type or its reverse is still used: the one, and then the other. Assumes nothing.
 use borrow.Author.Needs.{needs}
 use native.Mathlib.Omega.{arith}
 use Rattle.change_presences.proofs.RemoveLaws.{either-first, either-alone, either-last}

@@ -1,3 +1,4 @@
+-- The presence of a type taken out: its row is the only one. Assumes nothing.
 use borrow.Author.Needs.{needs}
 use Rattle.base.proofs.StoredLaws.{stored-long}
 use Rattle.change_presences.proofs.HeldLaws.{row-below, row-taken}

@@ -40,11 +40,12 @@ use Rattle.base.proofs.StoredLaws.{shows-schema, shows-next}
 use Rattle.lookup.proofs.Walked.{row-below, row-name}
 use Rattle.name_fields.specs.Field.{Stripped}
 use Rattle.conditions.specs.Reverse.{one-or-none, Reverse-of}
-use Rattle.base.specs.Tested.{Tested}
+use Rattle.conditions.specs.Aimed.{With-reverse, Refused-or}
 use Rattle.conditions.proofs.ReverseLaws.{one-is, none-is}
-use Rattle.base.proofs.TestedLaws.{tested-passes}
-use Rattle.change_imports.specs.declared.Named.{Named}
-use Rattle.change_imports.specs.Import.{first-refusals, Chosen, presence-of, enter-refusals, enter}
+use Rattle.base.proofs.TestedLaws.{tested-sound, tested-passes}
+use Rattle.conditions.proofs.AimedLaws.{system-not, name-borne, all-passed}
+use Rattle.change_presences.proofs.HeldLaws.{held-named}
+use Rattle.change_imports.specs.Import.{first-refusals, presence-of, enter-refusals, enter}
 
 -- ---- the tests of the SDSs, of the names and of the reverse
 
@@ -55,7 +56,7 @@ unknown-is b l d {r} e = go r e
     go true e = sym (known b l d (sym e))
     go false e = sym (unknown b l d (sym e))
 
-pub first-below : (s : Schema) (d e : ℕ) → unknown-sds s d || unknown-sds s e ≡ false → d < 16
+first-below : (s : Schema) (d e : ℕ) → unknown-sds s d || unknown-sds s e ≡ false → d < 16
 unfolding unknown-sds
 first-below s d e h = leb-false 16 d (or-neither (leb 16 d) (not (used-sds s d)) (or-neither (unknown-sds s d) (unknown-sds s e) h .0) .0)
 
@@ -92,12 +93,7 @@ idle-is {s} n e rev q = ap (λ (l : List ℕ). not (blank n) && eqb (length l) 0
 pub of-named : {t t′ : ℕ} {x : Bool} (p : ℕ → Bool) → t ≡ t′ → x ≡ p t → p t′ ≡ x
 of-named p e q = ap p (sym e) ∙ sym q
 
-module _ {b : List ℕ} {target source : ℕ} {n new new-reverse : Name} {v : Named} where
-  pub not-chosen : Tested b (first-refusals target source n new new-reverse (schema-of b)) (v .no) 0 → (v .no ≡ 0 → ⊥)
-      → Chosen b target source n new new-reverse v
-  not-chosen r z = record { told = r; ready = λ e. absurd (z e) }
-
-pub new-formed : (n new new-reverse : Name) → malformed n || (malformed-new new || malformed-new new-reverse) ≡ false
+new-formed : (n new new-reverse : Name) → malformed n || (malformed-new new || malformed-new new-reverse) ≡ false
     → (malformed-new new ≡ false) × (malformed-new new-reverse ≡ false)
 new-formed n new new-reverse e =
     or-neither (malformed-new new) (malformed-new new-reverse) (or-neither (malformed n) (malformed-new new || malformed-new new-reverse) e .1)
@@ -210,45 +206,72 @@ pub import-left : (target source : ℕ) (n new new-reverse : Name) (s : Schema) 
 unfolding import imported verdict
 import-left target source n new new-reverse s = record { is = refl }
 
-module _ {b : List ℕ} {target source : ℕ} {n new new-reverse : Name} {v : Named} (chosen : Chosen b target source n new new-reverse v) (z : v .no ≡ 0) where
-  left : import target source n new new-reverse (schema-of b) ≡ rest-of target source new new-reverse (schema-of b) (v .t) (one-or-none (v .reverse))
-  unfolding all
-  left =
-      let s = schema-of b in
-      let i = chosen .ready z in
-      tested-passes (chosen .told) z refl (import-left target source n new new-reverse s)
-      ∙ (λ j. rest-of target source new new-reverse s (sym (i .named) j) (reverse s (sym (i .named) j)))
-      ∙ ap (rest-of target source new new-reverse s (v .t)) (i .reversed .is)
+-- what is so where none of the first refusals holds: t is the type that is named, u its reverse, 128 where it has none
+pub record Importable (b : List ℕ) (target source : ℕ) (n new new-reverse : Name) (t u : ℕ) : Type 0 where
+  pub sound : Sound b
+  pub small : target < 16
+  pub outside : target ≡ 0 → ⊥
+  pub below : t < 128
+  pub there : present (schema-of b) source t ≡ true
+  pub reversed : Reverse-of (schema-of b) t u
+  pub formed : malformed-new new ≡ false
+  pub formed-reverse : malformed-new new-reverse ≡ false
+  pub rule : import target source n new new-reverse (schema-of b) ≡ rest-of target source new new-reverse (schema-of b) t (one-or-none u)
 
+pub importable : {b : List ℕ} {target source : ℕ} {n new new-reverse : Name} {no t u : ℕ}
+    → Refused-or b (first-refusals target source n new new-reverse (schema-of b)) no (With-reverse b source n t u) → no ≡ 0
+    → Importable b target source n new new-reverse t u
+unfolding all
+importable {b} {target} {source} {n} {new} {new-reverse} {t = t} told z =
+    let s = schema-of b in
+    let sound = tested-sound (told .told) z in
+    let passed = all-passed (told .told) z refl in
+    let found = told .so z in
+    let named = found .type .named in
+    let (formed, formed-reverse) = new-formed n new new-reverse (passed .fails 4) in
+    record {
+      sound = sound;
+      small = first-below s target source (passed .fails 2);
+      outside = system-not target (passed .fails 3);
+      below = found .type .below;
+      there = held-named (sound-good sound) n (name-borne s source n (passed .fails 6)) named .there;
+      reversed = found .pair;
+      formed = formed;
+      formed-reverse = formed-reverse;
+      rule = tested-passes (told .told) z refl (import-left target source n new new-reverse s)
+          ∙ (λ j. rest-of target source new new-reverse s (sym named j) (reverse s (sym named j)))
+          ∙ ap (rest-of target source new new-reverse s t) (found .pair .is);
+    }
+
+module _ {b : List ℕ} {target source : ℕ} {n new new-reverse : Name} {t u : ℕ} (i : Importable b target source n new new-reverse t u) where
   -- it has no reverse
-  pub import-one : v .reverse ≡ 128 → {name after : List ℕ} {a : Answer} → name ≡ filled (schema-of b) source (v .t) new
-      → Kept b (enter target (presence-of target name (v .t) ∷ []) (v .t) 0) a after → Kept b (import target source n new new-reverse) a after
+  pub import-one : u ≡ 128 → {name after : List ℕ} {a : Answer} → name ≡ filled (schema-of b) source t new
+      → Kept b (enter target (presence-of target name t ∷ []) t 0) a after → Kept b (import target source n new new-reverse) a after
   unfolding enter
   import-one e {name} q k =
       let s = schema-of b in
-      kept-like (left ∙ ap (rest-of target source new new-reverse s (v .t)) (none-is {r = v .reverse} (omega arith))
-      ∙ ap (λ (x : Name). enter target (presence-of target x (v .t) ∷ []) (v .t) 0 s) (sym q)) k
+      kept-like (i .rule ∙ ap (rest-of target source new new-reverse s t) (none-is {r = u} (omega arith))
+      ∙ ap (λ (x : Name). enter target (presence-of target x t ∷ []) t 0 s) (sym q)) k
 
-  module _ (e : v .reverse ≡ 128 → ⊥) where
-    pub reverse-below : v .reverse < 128
-    reverse-below = omega (arith, chosen .ready z .reversed .fits, e)
+  module _ (e : u ≡ 128 → ⊥) where
+    pub reverse-below : u < 128
+    reverse-below = omega (arith, i .reversed .fits, e)
 
-    pub reverse-there : present (schema-of b) source (v .reverse) ≡ true
+    pub reverse-there : present (schema-of b) source u ≡ true
     reverse-there =
-        let i = chosen .ready z in
         let (c, pair) = i .reversed .pair reverse-below in
-        sound-good (i .sound) .reverse-present source (v .t) c (v .reverse) (i .there) pair
+        sound-good (i .sound) .reverse-present source t c u (i .there) pair
 
     -- its reverse comes with it
-    pub import-both : {name other after : List ℕ} {a : Answer} → name ≡ filled (schema-of b) source (v .t) new
-        → other ≡ filled (schema-of b) source (v .reverse) new-reverse
-        → Kept b (enter target (presence-of target name (v .t) ∷ presence-of target other (v .reverse) ∷ []) (v .t) (v .reverse)) a after
+    pub import-both : {name other after : List ℕ} {a : Answer} → name ≡ filled (schema-of b) source t new
+        → other ≡ filled (schema-of b) source u new-reverse
+        → Kept b (enter target (presence-of target name t ∷ presence-of target other u ∷ []) t u) a after
         → Kept b (import target source n new new-reverse) a after
     unfolding enter
     import-both {name} {other} q w k =
         let s = schema-of b in
-        kept-like (left ∙ ap (rest-of target source new new-reverse s (v .t)) (one-is reverse-below)
-        ∙ (λ j. enter target (presence-of target (sym q j) (v .t) ∷ presence-of target (sym w j) (v .reverse) ∷ []) (v .t) (v .reverse) s)) k
+        kept-like (i .rule ∙ ap (rest-of target source new new-reverse s t) (one-is reverse-below)
+        ∙ (λ j. enter target (presence-of target (sym q j) t ∷ presence-of target (sym w j) u ∷ []) t u s)) k
 
 -- the part of a field before its first zero
 pub cut-is : {field : List ℕ} {k : ℕ} → Stripped field k → take (k - 0) field ≡ strip field

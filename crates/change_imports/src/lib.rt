@@ -1,13 +1,13 @@
 // A type of one SDS gets a presence in another, and its reverse with it.
+use conditions::aimed::Told;
 use rules::Answer;
 use rules::Limits;
 ghost use mathlib.Core.Path.{_≡_};
 ghost use mathlib.Core.List.{[], _∷_};
 ghost use mathlib.Core.Bool.{true, false, not, _&&_, _||_};
-ghost use Prim.Native.Nat.{_<_};
 ghost use lib.Dec.{eqb};
 ghost use lib.ListN.{length};
-ghost use Rattle.rules.specs.03-Names.{well-formed, blank};
+ghost use Rattle.rules.specs.03-Names.{blank};
 ghost use Rattle.rules.specs.04-Schema.{present};
 ghost use Rattle.rules.specs.07-Picture.{Sound, base-length};
 ghost use Rattle.rules.specs.09-Refusals.{unknown-sds, malformed, malformed-new};
@@ -16,27 +16,10 @@ ghost use Rattle.rules.specs.12-Contracts.{Kept};
 ghost use Rattle.rules.specs.Read.{strip};
 ghost use Rattle.base.specs.Back.{schema-of};
 ghost use Rattle.conditions.specs.Reverse.{one-or-none};
-ghost use Rattle.change_imports.specs.Import.{Chosen, presence-of, enter};
+ghost use Rattle.conditions.specs.Aimed.{With-reverse, Refused-or};
+ghost use Rattle.change_imports.specs.Import.{first-refusals, Enters, presence-of, enter};
 
 // ---- what is tested before the names are filled in
-
-// The number of the refusal, 0 where there is none; then the type that is named and its reverse, as many as there are types
-// where it has none.
-pub struct Named {
-    pub no: usize,
-    pub t: usize,
-    pub reverse: usize,
-}
-
-fn refused(no: usize) -> Named
-    ensures { λ r. ⌜ r .no ≡ no ⌝ }
-{
-    Named {
-        no,
-        t: 0,
-        reverse: 0,
-    }
-}
 
 fn is_one_unknown(base: &[u8], target: usize, source: usize) -> bool
     requires { ⌜ length (now base) ≡ base-length ⌝ }
@@ -80,6 +63,7 @@ fn is_idle(reverse: usize, name: &[u8]) -> bool
     Limits::TYPES <= reverse
 }
 
+// The type that is named and its reverse, as many as there are types where it has none.
 fn named_by(
     base: &[u8],
     target: usize,
@@ -87,36 +71,42 @@ fn named_by(
     name: &[u8],
     new: &[u8],
     new_reverse: &[u8],
-) -> Named
-    ensures { λ r. ⌜ Chosen (now (base .entry)) target source (now (name .entry)) (now (new .entry)) (now («new_reverse» .entry)) r ⌝ }
+) -> Told
+    ensures { λ r. ⌜ Refused-or (now (base .entry))
+        (first-refusals target source (now (name .entry)) (now (new .entry)) (now («new_reverse» .entry)) (schema-of (now (base .entry)))) (r .no)
+        (With-reverse (now (base .entry)) source (now (name .entry)) (r .one) (r .two)) ⌝ }
 {
     if !sound::is_sound(base) {
-        return refused(1);
+        return Told::refused(1);
     }
     if is_one_unknown(base, target, source) {
-        return refused(2);
+        return Told::refused(2);
     }
     if target == 0 {
-        return refused(3);
+        return Told::refused(3);
     }
     if is_one_malformed(name, new, new_reverse) {
-        return refused(4);
+        return Told::refused(4);
     }
     let t = working::find::type_in(base, source, name);
     if t == Limits::TYPES {
-        return refused(6);
+        return Told::refused(6);
     }
     let reverse = conditions::reverse_of(base, t);
     if is_idle(reverse, new_reverse) {
-        return refused(7);
+        return Told::refused(7);
     }
     if conditions::is_present(base, target, t) {
-        return refused(9);
+        return Told::refused(9);
     }
     if conditions::is_parent_missing(base, target, t) {
-        return refused(10);
+        return Told::refused(10);
     }
-    Named { no: 0, t, reverse }
+    Told {
+        no: 0,
+        one: t,
+        two: reverse,
+    }
 }
 
 // ---- the names
@@ -143,8 +133,7 @@ fn filled(base: &[u8], source: usize, t: usize, new: &[u8]) -> [u8; Limits::NAME
 // Type t comes into SDS d.
 fn enter_one(base: &mut [u8], d: usize, name: &[u8], t: usize) -> Answer
     requires { ⌜ Sound (now base) ⌝ }
-    requires { ⌜ (d < 16) × (t < 128) ⌝ }
-    requires { ⌜ well-formed (now name) ≡ true ⌝ }
+    requires { ⌜ Enters d (now name) t ⌝ }
     ensures { λ a. ⌜ Kept (now (base .entry)) (enter d (presence-of d (now (name .entry)) t ∷ []) t 0) a (now (base .exit)) ⌝ }
 {
     if working::find::type_in(base, d, name) != Limits::TYPES {
@@ -160,19 +149,12 @@ fn enter_one(base: &mut [u8], d: usize, name: &[u8], t: usize) -> Answer
 // Type t comes into SDS d, and with it its reverse r, under the other name.
 fn enter_both(base: &mut [u8], d: usize, name: &[u8], t: usize, other: &[u8], r: usize) -> Answer
     requires { ⌜ Sound (now base) ⌝ }
-    requires { ⌜ (d < 16) × ((t < 128) × (r < 128)) ⌝ }
-    requires { ⌜ well-formed (now name) ≡ true ⌝ }
-    requires { ⌜ well-formed (now other) ≡ true ⌝ }
+    requires { ⌜ Enters d (now name) t ⌝ }
+    requires { ⌜ Enters d (now other) r ⌝ }
     ensures { λ a. ⌜ Kept (now (base .entry))
         (enter d (presence-of d (now (name .entry)) t ∷ presence-of d (now (other .entry)) r ∷ []) t r) a (now (base .exit)) ⌝ }
 {
-    if working::find::type_in(base, d, name) != Limits::TYPES {
-        return Answer::refused(11);
-    }
-    if working::find::type_in(base, d, other) != Limits::TYPES {
-        return Answer::refused(11);
-    }
-    if names::is_same(name, other) {
+    if conditions::aimed::are_taken(base, d, name, other) {
         return Answer::refused(11);
     }
     if Limits::PRESENCES < base::used::presence_count(base) + 2 {
@@ -198,19 +180,19 @@ pub fn import(
     if named.no != 0 {
         return Answer::refused(named.no);
     }
-    let first = filled(base, source, named.t, new);
+    let first = filled(base, source, named.one, new);
     let n = name_fields::name_length(&first);
-    if named.reverse == Limits::TYPES {
-        return enter_one(base, target, &first[0..n], named.t);
+    if named.two == Limits::TYPES {
+        return enter_one(base, target, &first[0..n], named.one);
     }
-    let second = filled(base, source, named.reverse, new_reverse);
+    let second = filled(base, source, named.two, new_reverse);
     let m = name_fields::name_length(&second);
     enter_both(
         base,
         target,
         &first[0..n],
-        named.t,
+        named.one,
         &second[0..m],
-        named.reverse,
+        named.two,
     )
 }

@@ -1,4 +1,4 @@
--- `imports::enter_one` meets its contract: what refuses leaves the base, what does not puts one presence in. Assumes nothing.
+-- One presence that comes in: what refuses leaves the base, what does not puts one presence in. Assumes nothing.
 use borrow.Author.Needs.{needs}
 use Prim.Native.Nat.{_+_, _≤_}
 use native.Mathlib.Omega.{arith}
@@ -53,8 +53,8 @@ put-presence-requires c κs =
     let x = c .before .before .before .before .before .before .before .before .before in (
       sound-stored (x .pre .0),
       (
-        (omega (arith, x .pre .1 .0 .0), omega (arith, x .pre .1 .0 .1)),
-        (x .pre .1 .1, (omega (arith, fits-2 (c .before), presences-long (x .args .base .now)), free-1 (c .before .before .before .before))),
+        (omega (arith, x .pre .1 .small), omega (arith, x .pre .1 .below)),
+        (x .pre .1 .formed, (omega (arith, fits-2 (c .before), presences-long (x .args .base .now)), free-1 (c .before .before .before .before))),
       ),
     )
 

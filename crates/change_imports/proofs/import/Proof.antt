@@ -1,23 +1,22 @@
--- `imports::import` meets its contract: the rule comes to `enter` of one presence or of two, under the names filled in. Assumes nothing.
+-- An import: the rule comes to `enter` of one presence or of two, under the names filled in. Assumes nothing.
 use borrow.Author.Needs.{needs}
 use native.Mathlib.Omega.{arith}
 use mathlib.Core.Path.{_≡_, ap, _∙_}
 use Rattle.rules.specs.03-Names.{well-formed}
 use Rattle.base.proofs.Back.{sound-good}
 use Rattle.base.proofs.TestedLaws.{tested-stops}
-use Rattle.change_imports.specs.Import.{Importable}
-use Rattle.change_imports.proofs.ImportLaws.{import-left, import-one, import-both, reverse-below, reverse-there, filled-formed, cut-is}
+use Rattle.change_imports.proofs.ImportLaws.{Importable, importable, import-left, import-one, import-both, reverse-below, reverse-there, filled-formed, cut-is}
 use Rattle.change_imports.proofs.import.Statement.{statement}
 use Rattle.change_imports.proofs.import.Tie as tie
 
 ready-1 : (c : tie.Else1) → let x = c .before .before .before .before .before .before .before .before .args in let v = c .before .before .named-by .result in
-    Importable (x .base .now) (x .target) (x .source) (x .name .now) (x .new .now) (x .new-reverse .now) (v .t) (v .reverse)
-ready-1 c = c .before .before .named-by .ensures .ready (c .if1 .left)
+    Importable (x .base .now) (x .target) (x .source) (x .name .now) (x .new .now) (x .new-reverse .now) (v .one) (v .two)
+ready-1 c = importable (c .before .before .named-by .ensures) (c .if1 .left)
 
-alone-2 : (c : tie.Then2) → c .before .before .before .before .before .before .before .before .named-by .result .reverse ≡ 128
+alone-2 : (c : tie.Then2) → c .before .before .before .before .before .before .before .before .named-by .result .two ≡ 128
 alone-2 c = let h = c .if2 .taken in omega arith
 
-paired-2 : (c : tie.Else2) → c .before .before .before .before .before .before .before .before .named-by .result .reverse ≡ 128 → ⊥
+paired-2 : (c : tie.Else2) → c .before .before .before .before .before .before .before .before .named-by .result .two ≡ 128 → ⊥
 paired-2 c z = let h = c .if2 .left in omega arith
 
 named-by-requires : tie.Need-named-by-requires
@@ -56,25 +55,19 @@ enter-one-requires c κs =
     let v = c .before .before .before .before .before .before .before .before .before .before .before .named-by .result in
     let r = ready-1 (c .before .before .before .before .before .before .before .before .before) in
     let name = cut-is (c .before .before .before .before .before .name-length .ensures) ∙ c .before .before .before .before .before .before .before .filled .ensures in
-    (r .sound, ((r .small, r .below), ap well-formed name ∙ filled-formed (sound-good (r .sound)) (x .source) (v .t) (x .new .now) (r .there) (r .formed)))
+    let formed = ap well-formed name ∙ filled-formed (sound-good (r .sound)) (x .source) (v .one) (x .new .now) (r .there) (r .formed) in
+    (r .sound, record { small = r .small; outside = r .outside; below = r .below; formed = formed })
 
 same-length-2 : tie.Need-same-length-2
 same-length-2 c = search needs
 
 returns-2 : tie.Need-returns-2
 returns-2 c =
-    let named = c .before .before .before .before .before .before .before .before .before .before .before .before .before .before .named-by .ensures in
-    let z = c .before .before .before .before .before .before .before .before .before .before .before .before .if1 .left in
-    import-one named z (alone-2 (c .before .before .before .before .before .before))
-    (cut-is (c .before .before .before .before .before .before .before .before .name-length .ensures) ∙ c .before .before .before .before .before
-    .before .before .before .before .before .filled .ensures) (c .before .before .enter-one .ensures)
+    import-one (ready-1 (c .before .before .before .before .before .before .before .before .before .before .before .before)) (alone-2 (c .before .before .before .before .before .before))
+    (cut-is (c .before .before .before .before .before .before .before .before .name-length .ensures) ∙ c .before .before .before .before .before .before .before .before .before .before .filled .ensures) (c .before .before .enter-one .ensures)
 
 filled-requires-2 : tie.Need-filled-requires-2
-filled-requires-2 c κs =
-    let r = ready-1 (c .before .before .before .before .before .before .before) in
-    let named = c .before .before .before .before .before .before .before .before .before .named-by .ensures in
-    let z = c .before .before .before .before .before .before .before .if1 .left in
-    (r .sound, (reverse-there named z (paired-2 (c .before)), r .formed-reverse))
+filled-requires-2 c κs = let r = ready-1 (c .before .before .before .before .before .before .before) in (r .sound, (reverse-there r (paired-2 (c .before)), r .formed-reverse))
 
 slice-aggregate-name-length-2 : tie.Need-slice-aggregate-name-length-2
 slice-aggregate-name-length-2 c = search needs
@@ -102,24 +95,28 @@ part-enter-both-end-2 c = search needs
 
 enter-both-requires : tie.Need-enter-both-requires
 enter-both-requires c κs =
-    let x = c .before .before .before .before .before .before .before .before .before .before .before .before .before .before .before .before .before
-    .before .before .before .before .before .before .args in
-    let v = c .before .before .before .before .before .before .before .before .before .before .before .before .before .before .before .before .before .named-by .result in
-    let named = c .before .before .before .before .before .before .before .before .before .before .before .before .before .before .before .before .before .named-by .ensures in
-    let z = c .before .before .before .before .before .before .before .before .before .before .before .before .before .before .before .if1 .left in
+    let first = c .before .before .before .before .before .before .before .before .before .before .before .before .before .before .before in
+    let x = first .before .before .before .before .before .before .before .before .args in
+    let v = first .before .before .named-by .result in
+    let r = ready-1 first in
     let e = paired-2 (c .before .before .before .before .before .before .before .before .before) in
-    let r = ready-1 (c .before .before .before .before .before .before .before .before .before .before .before .before .before .before .before) in
     let good = sound-good (r .sound) in
-    let name = cut-is (c .before .before .before .before .before .before .before .before .before .before .before .name-length .ensures) ∙ c .before
-    .before .before .before .before .before .before .before .before .before .before .before .before .filled .ensures in
+    let name = cut-is (c .before .before .before .before .before .before .before .before .before .before .before .name-length .ensures) ∙ c .before .before .before .before .before .before .before .before .before .before .before .before .before .filled .ensures in
     let other = cut-is (c .before .before .before .before .before .name-length2 .ensures) ∙ c .before .before .before .before .before .before .before .filled2 .ensures in (
       r .sound,
       (
-        (r .small, (r .below, reverse-below named z e)),
-        (
-          ap well-formed name ∙ filled-formed good (x .source) (v .t) (x .new .now) (r .there) (r .formed),
-          ap well-formed other ∙ filled-formed good (x .source) (v .reverse) (x .new-reverse .now) (reverse-there named z e) (r .formed-reverse),
-        ),
+        record {
+          small = r .small;
+          outside = r .outside;
+          below = r .below;
+          formed = ap well-formed name ∙ filled-formed good (x .source) (v .one) (x .new .now) (r .there) (r .formed);
+        },
+        record {
+          small = r .small;
+          outside = r .outside;
+          below = reverse-below r e;
+          formed = ap well-formed other ∙ filled-formed good (x .source) (v .two) (x .new-reverse .now) (reverse-there r e) (r .formed-reverse);
+        },
       ),
     )
 
@@ -128,14 +125,10 @@ same-length-3 c = search needs
 
 returns-3 : tie.Need-returns-3
 returns-3 c =
-    let named = c .before .before .before .before .before .before .before .before .before .before .before .before .before .before .before .before
-    .before .before .before .before .named-by .ensures in
-    let z = c .before .before .before .before .before .before .before .before .before .before .before .before .before .before .before .before .before .before .if1 .left in
-    import-both named z (paired-2 (c .before .before .before .before .before .before .before .before .before .before .before .before))
-    (cut-is (c .before .before .before .before .before .before .before .before .before .before .before .before .before .before .name-length .ensures)
-    ∙ c .before .before .before .before .before .before .before .before .before .before .before .before .before .before .before .before .filled .ensures)
-    (cut-is (c .before .before .before .before .before .before .before .before .name-length2 .ensures) ∙ c .before .before .before .before .before
-    .before .before .before .before .before .filled2 .ensures)
+    let back = c .before .before .before .before .before .before .before .before in
+    let front = back .before .before .before .before .before .before in
+    import-both (ready-1 (front .before .before .before .before)) (paired-2 (c .before .before .before .before .before .before .before .before .before .before .before .before))
+    (cut-is (front .name-length .ensures) ∙ front .before .before .filled .ensures) (cut-is (back .name-length2 .ensures) ∙ back .before .before .filled2 .ensures)
     (c .before .before .enter-both .ensures)
 
 pub import-spec : {M : Type 1} → statement M

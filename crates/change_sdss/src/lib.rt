@@ -38,14 +38,9 @@ pub fn new_sds(base: &mut [u8], name: &[u8]) -> Answer
 pub fn remove_sds(base: &mut [u8], sds: usize) -> Answer
     ensures { λ r. ⌜ Kept (now (base .entry)) (remove-sds sds) r (now (base .exit)) ⌝ }
 {
-    if !sound::is_sound(base) {
-        return Answer::refused(1);
-    }
-    if !lookup::is_sds(base, sds) {
-        return Answer::refused(2);
-    }
-    if sds == 0 {
-        return Answer::refused(3);
+    let no = conditions::aimed::aimed_at(base, sds);
+    if no != 0 {
+        return Answer::refused(no);
     }
     if lookup::holds_presence(base, sds) {
         return Answer::refused(12);

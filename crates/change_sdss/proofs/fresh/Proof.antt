@@ -1,3 +1,4 @@
+-- A fresh base: its length, and what is written. Assumes nothing.
 use borrow.Author.Needs.{needs}
 use mathlib.Core.Path.{refl}
 use Rattle.change_sdss.proofs.fresh.Statement.{statement}

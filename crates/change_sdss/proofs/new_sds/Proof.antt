@@ -1,3 +1,4 @@
+-- A new SDS: its refusals test by test, and its name written. Assumes nothing.
 use borrow.Author.Needs.{needs}
 use Prim.Native.Nat.{ℕ}
 use mathlib.Core.Path.{_≡_, sym, ap, _∙_}

@@ -1,49 +1,31 @@
+-- An SDS removed: what was told of it, whether it holds a presence, and its name taken away. Assumes nothing.
 use borrow.Author.Needs.{needs}
-use Prim.Native.Nat.{ℕ}
 use native.Mathlib.Omega.{arith}
-use mathlib.Core.Path.{_≡_, sym, _∙_}
-use mathlib.Core.List.{List, []}
-use mathlib.Core.Bool.{true}
-use lib.ListN.{drop}
-use borrow.Author.Tests.{not-true, not-false}
-use Rattle.rules.specs.04-Schema.{used-sds}
-use Rattle.rules.specs.07-Picture.{Sound}
-use Rattle.rules.specs.10-Changes.{remove-sds, remove-sds-refusals}
+use mathlib.Core.Path.{refl, sym, _∙_}
+use mathlib.Core.List.{[], _∷_}
+use Rattle.rules.specs.01-Lists.{all}
+use Rattle.rules.specs.09-Refusals.{_when_, holds-presence}
+use Rattle.rules.specs.10-Changes.{remove-sds}
 use Rattle.rules.proofs.09-Refusals.{Left, passes, stops, ends}
 use Rattle.base.specs.Back.{schema-of}
-use Rattle.lookup.proofs.SdsShown.{used-below, known, unknown}
-use Rattle.base.proofs.Kept.{sound-long, kept-spoiled, kept-refused, kept-done, sds-changed}
+use Rattle.base.proofs.Kept.{sound-long, kept-refused, kept-done, sds-changed}
+use Rattle.base.proofs.TestedLaws.{begun-stops, begun-passes}
+use Rattle.conditions.specs.Aimed.{Aimed}
+use Rattle.conditions.proofs.AimedLaws.{aimed-well}
 use Rattle.change_sdss.proofs.Laws.{remove-sds-effect, remove-sds-left}
-use Rattle.conditions.proofs.NameLaws.{system-stops, system-passes}
 use Rattle.change_sdss.proofs.remove_sds.Statement.{statement}
 use Rattle.change_sdss.proofs.remove_sds.Tie as tie
 
--- what k of the rule's tests leave
-abbrev Ways : List ℕ → ℕ → ℕ → Type 0
-Ways b d k = Left (remove-sds d (schema-of b)) (drop k (remove-sds-refusals d (schema-of b))) (remove-sds-effect d (schema-of b))
+aim-1 : (c : tie.Else1) → let x = c .before .before .before .before .args in Aimed (x .base .now) (x .sds)
+aim-1 c = aimed-well _ (c .before .aimed-at .ensures) (c .if1 .left)
 
-sound-1 : (c : tie.Else1) → Sound (c .before .before .before .before .args .base .now)
-sound-1 c = c .before .is-sound .ensures .holds (not-false _ (c .if1 .left))
+left-1 : (c : tie.Else1) → let x = c .before .before .before .before .args in let s = schema-of (x .base .now) in
+    Left (remove-sds (x .sds) s) ((12 when holds-presence s (x .sds)) ∷ []) (remove-sds-effect (x .sds) s)
+unfolding all
+left-1 c = begun-passes _ (c .before .aimed-at .ensures) (c .if1 .left) refl (remove-sds-left _ _)
 
-used-2 : (c : tie.Else2)
-    → used-sds (schema-of (c .before .before .before .before .before .before .before .args .base .now))
-    (c .before .before .before .before .before .before .before .args .sds) ≡ true
-used-2 c = sym (c .before .is-sds .ensures) ∙ not-false _ (c .if2 .left)
-
-left-2 : (c : tie.Else2) → Ways (c .before .before .before .before .before .before .before .args .base .now)
-    (c .before .before .before .before .before .before .before .args .sds) 1
-left-2 c = passes (remove-sds-left _ _) (known _ (sound-long (sound-1 (c .before .before .before))) _ (used-2 c))
-
-left-3 : (c : tie.Else3) → Ways (c .before .before .before .before .before .before .before .before .args .base .now)
-    (c .before .before .before .before .before .before .before .before .args .sds) 2
-left-3 c = passes (left-2 (c .before)) (system-passes _ (c .if3 .left))
-
-left-4 : (c : tie.Else4) → Ways (c .before .before .before .before .before .before .before .before .before .before .before .args .base .now)
-    (c .before .before .before .before .before .before .before .before .before .before .before .args .sds) 3
-left-4 c = passes (left-3 (c .before .before .before)) (sym (c .before .holds-presence .ensures) ∙ c .if4 .left)
-
-is-sound-requires : tie.Need-is-sound-requires
-is-sound-requires c κs = search needs
+aimed-at-requires : tie.Need-aimed-at-requires
+aimed-at-requires c κs = search needs
 
 refused-requires : tie.Need-refused-requires
 refused-requires c κs = search needs
@@ -52,10 +34,10 @@ same-length : tie.Need-same-length
 same-length c = search needs
 
 returns : tie.Need-returns
-returns c = kept-spoiled (c .before .before .is-sound .ensures .fails (not-true _ (c .before .if1 .taken))) (c .refused .ensures)
+returns c = begun-stops _ (c .before .before .aimed-at .ensures) (c .before .if1 .taken) (remove-sds-left _ _) (c .refused .ensures)
 
-is-sds-requires : tie.Need-is-sds-requires
-is-sds-requires c κs = sound-long (sound-1 (c .before))
+holds-presence-requires : tie.Need-holds-presence-requires
+holds-presence-requires c κs = sound-long (aim-1 (c .before) .sound)
 
 refused-requires-2 : tie.Need-refused-requires-2
 refused-requires-2 c κs = search needs
@@ -64,82 +46,44 @@ same-length-2 : tie.Need-same-length-2
 same-length-2 c = search needs
 
 returns-2 : tie.Need-returns-2
-returns-2 c = kept-refused (sound-1 (c .before .before .before .before)) (stops (remove-sds-left _ _) (unknown _ (sound-long (sound-1
-    (c .before .before .before .before))) _ (sym (c .before .before .is-sds .ensures) ∙ not-true _ (c .before .if2 .taken)))) (c .refused2 .ensures)
-
-refused-requires-3 : tie.Need-refused-requires-3
-refused-requires-3 c κs = search needs
-
-same-length-3 : tie.Need-same-length-3
-same-length-3 c = search needs
-
-returns-3 : tie.Need-returns-3
-returns-3 c = kept-refused (sound-1 (c .before .before .before .before .before)) (stops (left-2 (c .before .before)) (system-stops _
-    (c .before .if3 .taken))) (c .refused3 .ensures)
-
-holds-presence-requires : tie.Need-holds-presence-requires
-holds-presence-requires c κs = sound-long (sound-1 (c .before .before .before .before .before))
-
-refused-requires-4 : tie.Need-refused-requires-4
-refused-requires-4 c κs = search needs
-
-same-length-4 : tie.Need-same-length-4
-same-length-4 c = search needs
-
-returns-4 : tie.Need-returns-4
-returns-4 c = kept-refused (sound-1 (c .before .before .before .before .before .before .before .before)) (stops (left-3
-    (c .before .before .before .before)) (sym (c .before .before .holds-presence .ensures) ∙ c .before .if4 .taken)) (c .refused4 .ensures)
+returns-2 c =
+    let first = c .before .before .before .before in
+    kept-refused (aim-1 first .sound) (stops (left-1 first) (sym (c .before .before .holds-presence .ensures) ∙ c .before .if2 .taken)) (c .refused2 .ensures)
 
 slice-aggregate-write-sds : tie.Need-slice-aggregate-write-sds
 slice-aggregate-write-sds c = search needs
 
 write-sds-requires : tie.Need-write-sds-requires
-write-sds-requires c κs = (
-  sound-long (sound-1 (c .before .before .before .before .before .before .before .before .before)),
-  (
-    used-below _ (sound-long
-        (sound-1 (c .before .before .before .before .before .before .before .before .before))) _ (used-2 (c .before .before .before .before .before .before)),
-    omega arith,
-  ),
-)
+write-sds-requires c κs = let aim = aim-1 (c .before .before .before .before .before) in (sound-long (aim .sound), (aim .below, omega arith))
 
 done-requires : tie.Need-done-requires
 done-requires c κs = search needs
 
-same-length-5 : tie.Need-same-length-5
-same-length-5 c = search needs
+same-length-3 : tie.Need-same-length-3
+same-length-3 c = search needs
 
-returns-5 : tie.Need-returns-5
-returns-5 c =
-    let x = c .before .before .before .before .before .before .before .before .before .before .before .before .before .before .before .before .before .args in
-    kept-done (sound-1 (c .before .before .before .before .before .before .before .before .before .before .before .before .before)) (ends (left-4
-    (c .before .before .before .before .before .before))) (c .done .ensures)
-    (c .before .before .before .write-sds .ensures ∙ sds-changed (sound-1
-    (c .before .before .before .before .before .before .before .before .before .before .before .before .before)) (x .sds) [] (used-below _ (sound-long
-    (sound-1 (c .before .before .before .before .before .before .before .before .before .before .before .before .before))) _ (used-2
-    (c .before .before .before .before .before .before .before .before .before .before))))
+returns-3 : tie.Need-returns-3
+returns-3 c =
+    let past = c .before .before .before .before .before .before in
+    let first = past .before .before .before in
+    let aim = aim-1 first in
+    kept-done (aim .sound) (ends (passes (left-1 first) (sym (past .before .holds-presence .ensures) ∙ past .if2 .left))) (c .done .ensures)
+    (c .before .before .before .write-sds .ensures ∙ sds-changed (aim .sound) _ [] (aim .below))
 
 pub remove-sds-spec : {M : Type 1} → statement M
 remove-sds-spec =
     tie.close
     (tie.spec
-    is-sound-requires
+    aimed-at-requires
     refused-requires
     same-length
     returns
-    is-sds-requires
+    holds-presence-requires
     refused-requires-2
     same-length-2
     returns-2
-    refused-requires-3
-    same-length-3
-    returns-3
-    holds-presence-requires
-    refused-requires-4
-    same-length-4
-    returns-4
     slice-aggregate-write-sds
     write-sds-requires
     done-requires
-    same-length-5
-    returns-5)
+    same-length-3
+    returns-3)

@@ -11,7 +11,7 @@ use lib.ListN.{length, getD, take, replicate}
 use borrow.Author.Tests.{leb-true, lt-ltb, le-ltb, ne-eqb}
 use Rattle.rules.specs.01-Lists.{_∈_, bytes-before, any, all, first}
 use Rattle.rules.specs.03-Names.{Name, letter, letter-or-digit, well-formed, blank, same-name, name-before}
-use Rattle.rules.specs.04-Schema.{Schema, holds-name, bears, type-named}
+use Rattle.rules.specs.04-Schema.{Schema, bears, type-named}
 use Rattle.rules.specs.07-Picture.{pad}
 use Rattle.rules.specs.09-Refusals.{sds-name-taken, borne-by-another}
 use Rattle.rules.proofs.Bools.{and-both, fails, same-test}
@@ -31,6 +31,10 @@ same-alike n m e o = ap (λ (k : Name). same-name k o) (same-bytes-is n m e)
 pub same-long : (n m : Name) → same-name n m ≡ true → length n ≡ length m
 unfolding same-name
 same-long n m e = ap length (same-bytes-is n m e)
+
+-- names of two lengths are not the same
+pub unlike-long : (n m : Name) → (length n ≡ length m → ⊥) → same-name n m ≡ false
+unlike-long n m other = fails (same-name n m) (λ e. other (same-long n m e))
 
 pub same-turned : (n m : Name) → same-name n m ≡ same-name m n
 same-turned n m = same-test (same-name n m) (same-name m n) (turned n m) (turned m n)

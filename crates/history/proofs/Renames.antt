@@ -17,12 +17,14 @@ use Rattle.rules.specs.09-Refusals.{unknown-sds, system-sds, malformed, borne-b
 use Rattle.rules.specs.09-Refusals.Outcome.{done}
 use Rattle.rules.specs.10-Changes.{with-presences, rename, rename-refusals}
 use Rattle.rules.specs.13-History.{next}
+use Rattle.rules.specs.Parts.{of-presences}
 use Rattle.rules.proofs.Bools.{or-neither, and-both, and-of, and-rest, fails}
 use Rattle.rules.proofs.01-Lists.{any-at, any-none}
 use Rattle.rules.proofs.03-Names.{same-asked}
 use Rattle.rules.proofs.Edits.{put-each, put-old, first-in, without-in, without-keeps, without-fewer}
 use Rattle.rules.proofs.09-Refusals.{verdict-keeps}
-use Rattle.history.proofs.Parts.{of-presences, presence-there, parts-of}
+use Rattle.rules.proofs.Parts.{presence-there, parts-of}
+use Rattle.history.proofs.Parts.{rows-of}
 use Rattle.history.proofs.Passed.{known, aimed, formed, named-present}
 use Rattle.history.proofs.Rows.{present-over, present-new, Row-fits, rows-less, rows-more, with-presences-good}
 
@@ -92,7 +94,7 @@ module _ (s : Schema) (g : Good s) (d : ℕ) (new : Name) (t : ℕ) where
       → Good (with-presences s after)
   renamed is-known outside well there another =
       with-presences-good g
-      (rows-more (rows-less (parts-of g .presences .rows) (holds-type d t) stays) x (room there) (fits is-known outside well another))
+      (rows-more (rows-less (rows-of (parts-of g .presences)) (holds-type d t) stays) x (room there) (fits is-known outside well another))
       still
       (λ p i. inl (was there p i))
     where

@@ -18,12 +18,14 @@ use Rattle.rules.specs.09-Refusals.{unknown-sds, sds-name-taken, holds-presence
 use Rattle.rules.specs.09-Refusals.Outcome.{done}
 use Rattle.rules.specs.10-Changes.{with-sdss, new-sds, new-sds-number, new-sds-refusals, remove-sds, remove-sds-refusals}
 use Rattle.rules.specs.13-History.{next}
+use Rattle.rules.specs.Parts.{of-sdss, Sdss}
 use Rattle.rules.proofs.Bools.{or-neither, and-of}
 use Rattle.rules.proofs.01-Lists.{any-at, place-in, numbers-in}
 use Rattle.rules.proofs.03-Names.{same-turned}
 use Rattle.rules.proofs.Edits.{set-either}
 use Rattle.rules.proofs.09-Refusals.{verdict-keeps}
-use Rattle.history.proofs.Parts.{of-sdss, Sdss, parts-of, with-sdss-good}
+use Rattle.rules.proofs.Parts.{parts-of}
+use Rattle.history.proofs.Parts.{with-sdss-good}
 use Rattle.history.proofs.Passed.{aimed, formed}
 
 -- ---- one name written

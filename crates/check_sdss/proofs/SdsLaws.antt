@@ -26,7 +26,7 @@ use Rattle.check_rows.specs.Parts.{Presences, Rest}
 use Rattle.check_sdss.specs.Parts.{Closed}
 use Rattle.check_sds.specs.Held.{type-in, Closed-type, Applied, Ended}
 use Rattle.check_sdss.specs.Sds.{Sds-closed, Ready}
-use Rattle.check_rows.proofs.OrderLaws.{front, front-once, presences-rise, applications-rise, ends-rise}
+use Rattle.check_rows.proofs.OrderLaws.{row-once, presences-rise, applications-rise, ends-rise}
 use Rattle.check_rows.proofs.RestLaws.{written-side}
 
 below-16 : (b : List ℕ) (d : ℕ) → used-sds (schema-of b) d ≡ true → d < 16
@@ -72,7 +72,7 @@ module _ {b : List ℕ} (pres : Presences b) where
       once = λ i j h k s u e.
           let one : presence-shown b i ≡ presence-shown b j
           = c .one-presence (presence-shown b i) (presence-shown b j) (presence-there b i h) (presence-there b j k) (s ∙ sym u) e in
-          front-once b (pres .presence-rows) (λ i h. pres .presence-named (presence-shown b i) (presence-there b i h)) rise i j h k (ap front one);
+          row-once b (pres .presence-rows) (λ i h. pres .presence-named (presence-shown b i) (presence-there b i h)) rise i j h k one;
       types = λ i h s. record {
         parents = λ a by. c .parents-present d (type-in b i) a (present-row b i d h s) by;
         reverse = λ e r q. c .reverse-present d (type-in b i) e r (present-row b i d h s) q;

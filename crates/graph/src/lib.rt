@@ -1,7 +1,7 @@
 // Whether no type is its own ancestor, from the rows of types alone.
 
-use type_set::TypeSet;
 use rules::Limits;
+use type_set::TypeSet;
 ghost use mathlib.Core.Path.{_≡_};
 ghost use Prim.Native.Nat.{ℕ, _<_};
 ghost use lib.ListN.{length};

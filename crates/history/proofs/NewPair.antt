@@ -20,11 +20,13 @@ use Rattle.rules.specs.09-Refusals.{malformed, no-pair, free-types}
 use Rattle.rules.specs.09-Refusals.Outcome.{done}
 use Rattle.rules.specs.10-Changes.{new-type, second-new-type, with-pair, new-pair, new-pair-refusals}
 use Rattle.rules.specs.13-History.{next}
+use Rattle.rules.specs.Parts.{of-types, of-presences}
 use Rattle.rules.proofs.Bools.{or-neither}
 use Rattle.rules.proofs.Edits.{put-long, put-in, put-old, set-either}
 use Rattle.rules.proofs.05-Descent.{members-once}
 use Rattle.rules.proofs.09-Refusals.{verdict-keeps}
-use Rattle.history.proofs.Parts.{of-types, of-presences, parts-of}
+use Rattle.rules.proofs.Parts.{parts-of}
+use Rattle.history.proofs.Parts.{rows-of}
 use Rattle.history.proofs.Passed.{formed, both-free, types-room}
 use Rattle.history.proofs.Rows.{present-still, present-new, Row-fits, row-fits, fits-still, rows-more}
 use Rattle.history.proofs.Grown.{Reverse-fits, Fits, New, Grown, grown-good}
@@ -129,7 +131,7 @@ module _ {s : Schema} (good : Good s) (t r d : ℕ) (n m : Name) (c c′ : ℕ) 
         → same-name n m ≡ false → Good (with-pair t r d n m c c′ s)
     one-pair room fit-row fit-reverse differ =
         grown-good good ks ps d grown
-        (rows-more (rows-more (parts-of good .presences .rows) row (omega arith) fit-row)
+        (rows-more (rows-more (rows-of (parts-of good .presences)) row (omega arith) fit-row)
         reverse-row (omega (arith, put-long presence-before row (s .presences)))
         (fits-still row fit-reverse (rw (eq-eqb d d refl) differ) (rw (eq-eqb d d refl) (ne-eqb t r (λ e. other (sym e))))))
 
@@ -143,15 +145,14 @@ unfolding new-pair
 new-pair-keeps d n m c c′ s g =
     verdict-keeps (λ o. Good (next s o)) (new-pair-refusals d n m c c′ s)
     (done (new-type s) (second-new-type s) 0 (with-pair (new-type s) (second-new-type s) d n m c c′ s))
-    (λ _. g)
+    (λ _ _. g)
     (λ passed.
-    let rest = passed .1 .1 .1 in
-    let (a, b) = or-neither (malformed n) (malformed m) (passed .1 .1 .0) in
-    let (free, free′, differ) = both-free s d n m (rest .1 .0) in
-    let (many, room) = types-room s 2 (rest .1 .1 .0) in
+    let (a, b) = or-neither (malformed n) (malformed m) (passed .fails 4) in
+    let (free, free′, differ) = both-free s d n m (passed .fails 11) in
+    let (many, room) = types-room s 2 (passed .fails 14) in
     let (low, unused-t) = free-number s 0 (omega arith) in
     let (reverse-low, unused-r) = free-number s 1 many in
-    one-pair g (new-type s) (second-new-type s) d n m c c′ low reverse-low (two-numbers s many) unused-t unused-r (categories c c′ (rest .0)) room
-    (row-fits s d (new-type s) n (passed .0) (passed .1 .0) (formed n a) free (unused-nowhere g d (new-type s) unused-t))
-    (row-fits s d (second-new-type s) m (passed .0) (passed .1 .0) (formed m b) free′ (unused-nowhere g d (second-new-type s) unused-r))
+    one-pair g (new-type s) (second-new-type s) d n m c c′ low reverse-low (two-numbers s many) unused-t unused-r (categories c c′ (passed .fails 5)) room
+    (row-fits s d (new-type s) n (passed .fails 2) (passed .fails 3) (formed n a) free (unused-nowhere g d (new-type s) unused-t))
+    (row-fits s d (second-new-type s) m (passed .fails 2) (passed .fails 3) (formed m b) free′ (unused-nowhere g d (second-new-type s) unused-r))
     differ)

@@ -28,7 +28,8 @@ use Rattle.rules.proofs.Edits.{put-in, put-old, put-all-long, put-all-in, set-e
 use Rattle.rules.proofs.05-Descent.{members-in}
 use Rattle.rules.proofs.09-Refusals.{verdict-keeps}
 use Rattle.history.proofs.Orders.{number-order, put-all-rises}
-use Rattle.history.proofs.Parts.{closed-at, parts-of}
+use Rattle.rules.proofs.Parts.{parts-of}
+use Rattle.history.proofs.Parts.{rows-of, placed-at}
 use Rattle.history.proofs.Passed.{formed, named-present, one-free, types-room}
 use Rattle.history.proofs.Rows.{present-new, Row-fits, row-fits, rows-more}
 use Rattle.history.proofs.Grown.{Parents-fit, Fits, New, Grown, grown-good}
@@ -46,7 +47,7 @@ free-number s i h =
 -- what is unused is nowhere
 pub unused-nowhere : {s : Schema} → Good s → (d t : ℕ) → is-used (kind-of s t) ≡ false → present s d t ≡ false
 unfolding present
-unused-nowhere {s} good d t u = fails (present s d t) (λ e. true≢false (sym (closed-at (parts-of good .presences) d t e .of-used) ∙ u))
+unused-nowhere {s} good d t u = fails (present s d t) (λ e. true≢false (sym (placed-at (parts-of good .presences) d t e .used) ∙ u))
 
 -- ---- one type
 
@@ -87,7 +88,7 @@ module _ {s : Schema} (good : Good s) (t : ℕ) (k : Kind) (d : ℕ) (n : Name) 
     }
 
     one-type : length (s .presences) + 1 ≤ limits .presences → Row-fits (s .sdss) (s .presences) row → Good (with-type t k d n s)
-    one-type room fit = grown-good good more-types more-presences d grown (rows-more (parts-of good .presences .rows) row room fit)
+    one-type room fit = grown-good good more-types more-presences d grown (rows-more (rows-of (parts-of good .presences)) row room fit)
 
 -- ---- the calls
 
@@ -108,18 +109,18 @@ unfolding new-attribute unknown-value-kind
 new-attribute-keeps d n v s g =
     verdict-keeps (λ o. Good (next s o)) (new-attribute-refusals d n v s)
     (done (new-type s) 0 0 (with-type (new-type s) (attribute v) d n s))
-    (λ _. g)
+    (λ _ _. g)
     (λ passed.
-    lowest g (attribute v) d n (ltb-false 5 v (passed .1 .1 .1 .0)) (passed .0) (passed .1 .0) (passed .1 .1 .0) (passed .1 .1 .1 .1 .0)
-    (passed .1 .1 .1 .1 .1 .0))
+    lowest g (attribute v) d n (ltb-false 5 v (passed .fails 5)) (passed .fails 2) (passed .fails 3) (passed .fails 4) (passed .fails 11)
+    (passed .fails 14))
 
 pub new-designation-keeps : (d : ℕ) (n : Name) (s : Schema) → Good s → Good (next s (new-designation d n s))
 unfolding new-designation
 new-designation-keeps d n s g =
     verdict-keeps (λ o. Good (next s o)) (new-designation-refusals d n s)
     (done (new-type s) 0 0 (with-type (new-type s) designation d n s))
-    (λ _. g)
-    (λ passed. lowest g designation d n tt (passed .0) (passed .1 .0) (passed .1 .1 .0) (passed .1 .1 .1 .0) (passed .1 .1 .1 .1 .0))
+    (λ _ _. g)
+    (λ passed. lowest g designation d n tt (passed .fails 2) (passed .fails 3) (passed .fails 4) (passed .fails 11) (passed .fails 14))
 
 -- the parents that are named: 1 to 4, object types of that SDS, none twice
 named-fit : (s : Schema) (d : ℕ) (run : List ℕ) → not-1-to-4 (names-in run) ≡ false → any (no-such-name s d) (names-in run) ≡ false
@@ -153,9 +154,7 @@ unfolding new-object
 new-object-keeps d n run s g =
     verdict-keeps (λ o. Good (next s o)) (new-object-refusals d n run s)
     (done (new-type s) 0 0 (with-type (new-type s) (object (put-all ltb (parents-named s d run) [])) d n s))
-    (λ _. g)
+    (λ _ _. g)
     (λ passed.
-    let kinds = passed .1 .1 .1 in
-    let rest = kinds .1 .1 .1 .1 in
-    lowest g (object (put-all ltb (parents-named s d run) [])) d n (named-fit s d run (kinds .0) (kinds .1 .0) (kinds .1 .1 .0) (kinds .1 .1 .1 .0))
-    (passed .0) (passed .1 .0) (or-neither (malformed n) (any malformed (names-in run)) (passed .1 .1 .0) .0) (rest .0) (rest .1 .0))
+    lowest g (object (put-all ltb (parents-named s d run) [])) d n (named-fit s d run (passed .fails 5) (passed .fails 6) (passed .fails 7) (passed .fails 8))
+    (passed .fails 2) (passed .fails 3) (or-neither (malformed n) (any malformed (names-in run)) (passed .fails 4) .0) (passed .fails 11) (passed .fails 14))

@@ -1,6 +1,6 @@
 // The kin of a set of types, from the rows of types alone: parents, children, ancestors, descendants; and the depth of a type.
-use type_set::TypeSet;
 use rules::Limits;
+use type_set::TypeSet;
 ghost use mathlib.Core.Path.{_≡_};
 ghost use mathlib.Core.Bool.{true, _||_};
 ghost use Prim.Native.Nat.{ℕ, _<_};

@@ -4,6 +4,7 @@ pub mod Edits
 pub mod 03-Names
 pub mod 05-Descent
 pub mod 06-Good
+pub mod Parts
 pub mod 07-Picture
 pub mod 08-Working
 pub mod 09-Refusals

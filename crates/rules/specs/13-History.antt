@@ -82,7 +82,7 @@ pub data Call : Type 0 where
 
 -- a refusal changes nothing
 abbrev pub next : Schema → Outcome Schema → Schema
-next s (refused n) = s
+next s (refused n value) = s
 next s (done one two three s′) = s′
 
 -- the schema after a call

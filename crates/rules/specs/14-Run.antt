@@ -34,11 +34,11 @@ printed (n ∷ m ∷ ns) = decimal 20 n ++ (32 ∷ printed (m ∷ ns))
 
 -- "prints a line for each: the number, then" the values; "A refusal prints its number alone."
 abbrev pub changed : Schema → Outcome Schema → Reply
-changed s (refused n) = record { line = printed (n ∷ []); next = s }
+changed s (refused n value) = record { line = printed (n ∷ []); next = s }
 changed s (done one two three s′) = record { line = printed (0 ∷ one ∷ []); next = s′ }
 
 abbrev pub asked : (ℕ → List ℕ → List ℕ) → Schema → Outcome (List ℕ) → Reply
-asked values s (refused n) = record { line = printed (n ∷ []); next = s }
+asked values s (refused n value) = record { line = printed (n ∷ []); next = s }
 asked values s (done one two three list) = record { line = printed (0 ∷ values one list); next = s }
 
 -- ---- the words of a line
@@ -88,7 +88,7 @@ obey-remove ws s = changed s (remove-type (sds-word ws 1 s) (word ws 2) s)
 
 -- "desc and depth list the one SDS named", and name the type there
 abbrev pub about-type : Outcome (List ℕ) → (ℕ → Outcome (List ℕ)) → Outcome (List ℕ)
-about-type (refused n) question = refused n
+about-type (refused n value) question = refused n value
 about-type (done t two three list) question = question t
 
 -- "for `desc` the count and the list"

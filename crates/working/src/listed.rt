@@ -1,6 +1,6 @@
 // The SDSs that a list of their numbers stands for.
-use type_set::TypeSet;
 use rules::Limits;
+use type_set::TypeSet;
 ghost use mathlib.Core.Path.{_≡_};
 ghost use mathlib.Core.Bool.{false};
 ghost use Prim.Native.Nat.{ℕ, _<_};

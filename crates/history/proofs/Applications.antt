@@ -23,25 +23,25 @@ use Rattle.rules.proofs.09-Refusals.{verdict-keeps}
 use Rattle.rules.proofs.Parts.{parts-of}
 use Rattle.history.proofs.Parts.{with-applications-good, ordered-less, ordered-more}
 use Rattle.history.proofs.Orders.{application-order}
-use Rattle.history.proofs.Passed.{aimed, named-present}
+use Rattle.history.proofs.Passed.{named-present}
 
 module _ {ks : List Kind} {ps : List Presence} {xs : List Application} (g : Applications ks ps xs) where
   fewer : (p : Application → Bool) → Applications ks ps (without p xs)
   fewer p = record { rows = ordered-less application-order (g .rows) p; each = λ x i. g .each x (without-in p xs i .0) }
 
   one-more : (x : Application) → length xs + 1 ≤ limits .applications → Applied ks (present (of-presences ps) (x .sds)) x
-      → (x .sds ≡ 0 → ⊥) → any (is-application (x .sds) (x .to) (x .attribute)) xs ≡ false → Applications ks ps (put application-before x xs)
+      → any (is-application (x .sds) (x .to) (x .attribute)) xs ≡ false → Applications ks ps (put application-before x xs)
   unfolding put-all
-  one-more x room fits outside new = record {
-    rows = ordered-more application-order (g .rows) (x ∷ []) room (alone (λ y. y .sds ≡ 0 → ⊥) outside) (List·Memᴰ·not-nil, tt)
-        (alone (λ y. y ∈ xs → ⊥) (λ i. true≢false (sym (any-at (is-application (x .sds) (x .to) (x .attribute)) i itself) ∙ new)));
+  one-more x room fits new = record {
+    rows = ordered-more application-order (g .rows) (x ∷ []) room (List·Memᴰ·not-nil, tt)
+        (λ y m i. true≢false (sym (any-at test (subst (λ (z : Application). z ∈ xs) (List·Memᴰ·eq-of-singleton m) i) itself) ∙ new));
     each = λ y i. put-each application-before i (λ z. Applied ks (present (of-presences ps) (z .sds)) z) fits (g .each y);
   }
     where
-      alone : (P : Application → Type 0) → P x → (y : Application) → y ∈ (x ∷ []) → P y
-      alone P h y i = subst P (sym (List·Memᴰ·eq-of-singleton i)) h
+      test : Application → Bool
+      test = is-application (x .sds) (x .to) (x .attribute)
 
-      itself : is-application (x .sds) (x .to) (x .attribute) x ≡ true
+      itself : test x ≡ true
       itself = rw (eq-eqb (x .sds) (x .sds) refl, eq-eqb (x .to) (x .to) refl, eq-eqb (x .attribute) (x .attribute) refl)
 
 pub unapply-keeps : (d : ℕ) (a n : Name) (s : Schema) → Good s → Good (next s (unapply d a n s))
@@ -62,7 +62,7 @@ apply-keeps d a n s g =
     let kinds = passed .fails 7 in
     with-applications-good g
     (one-more (parts-of g .applications) x (room (passed .fails 14))
-    (record { attribute = attribute kinds; to = to kinds; within = there (passed .fails 6) }) (aimed d (passed .fails 3)) (passed .fails 9)))
+    (record { attribute = attribute kinds; to = to kinds; within = there (passed .fails 6) }) (passed .fails 9)))
   where
     x : Application
     x = record { sds = d; to = type-named s d n; attribute = type-named s d a }

@@ -30,7 +30,7 @@ use Rattle.rules.proofs.Parts.{parts-of, ended-held}
 use Rattle.history.proofs.KindLaws.{alone-or-pair, no-pair, one-reverse}
 use Rattle.history.proofs.Parts.{with-ends-good, ordered-less, ordered-more}
 use Rattle.history.proofs.Orders.{side-is, end-order}
-use Rattle.history.proofs.Passed.{aimed, named-present}
+use Rattle.history.proofs.Passed.{named-present}
 
 -- ---- an end is known by its four parts
 
@@ -90,9 +90,8 @@ abbrev Mirrored : List Kind → List End → Type 0
 Mirrored ks es = (e : End) → e ∈ es → (c r : ℕ) → kind-of (of-types ks) (e .link) ≡ paired c r → mirror r e ∈ es
 
 -- what is asked of an end alone
-record Fit (ks : List Kind) (ps : List Presence) (e : End) : Type 0 where
-  ended : Ended ks (present (of-presences ps) (e .sds)) e
-  outside : e .sds ≡ 0 → ⊥
+abbrev Fit : List Kind → List Presence → End → Type 0
+Fit ks ps e = Ended ks (present (of-presences ps) (e .sds)) e
 
 module _ {ks : List Kind} {ps : List Presence} {es : List End} (ty : Types ks) (g : Ends ks ps es) where
   mirrors : Mirrored ks es
@@ -107,8 +106,8 @@ module _ {ks : List Kind} {ps : List Presence} {es : List End} (ty : Types ks) (
   more-ends : (new : List End) → length es + length new ≤ limits .ends → ((e : End) → e ∈ new → Fit ks ps e) → Different new
       → ((e : End) → e ∈ new → e ∈ es → ⊥) → Mirrored ks new → Ends ks ps (put-all end-before new es)
   more-ends new room fit apart none f = record {
-    rows = ordered-more end-order (g .rows) new room (λ e i. fit e i .outside) apart none;
-    each = λ e i. ⊎-elim (λ j. fit e j .ended) (g .each e) (put-all-in end-before new es i);
+    rows = ordered-more end-order (g .rows) new room apart none;
+    each = λ e i. ⊎-elim (fit e) (g .each e) (put-all-in end-before new es i);
     mirrored = λ e i c r k. in-has (put-all end-before new es) (mirror r e)
         (⊎-elim (λ j. put-all-new end-before new es (f e j c r k)) (λ j. put-all-old end-before new es (mirrors e j c r k)) (put-all-in end-before new es i));
   }
@@ -165,14 +164,11 @@ module _ {s : Schema} (g : Good s) {a : End} where
     where
       other : Fit (s .types) (s .presences) (mirror r a)
       other =
-          let (l, o) = ended-held (f .ended) in
+          let (l, o) = ended-held f in
           record {
-            ended = record {
-              link = ap is-link (g .reverse-in-turn (a .link) c r k .1);
-              object = f .ended .object;
-              within = and-of (present s (a .sds) r) (present s (a .sds) (a .object)) (g .reverse-present (a .sds) (a .link) c r l k) o;
-            };
-            outside = f .outside;
+            link = ap is-link (g .reverse-in-turn (a .link) c r k .1);
+            object = f .object;
+            within = and-of (present s (a .sds) r) (present s (a .sds) (a .object)) (g .reverse-present (a .sds) (a .link) c r l k) o;
           }
 
   both-different : {new : List End} → Both s a new → Different new
@@ -215,7 +211,7 @@ add-end-keeps side d n m s g =
     (λ passed.
     let kinds = passed .fails 7 in
     let fit : Fit (s .types) (s .presences) a
-    = record { ended = record { link = link kinds; object = object-type kinds; within = there (passed .fails 6) }; outside = aimed d (passed .fails 3) } in
+    = record { link = link kinds; object = object-type kinds; within = there (passed .fails 6) } in
     with-ends-good g
     (more-ends (parts-of g .types) (parts-of g .ends) new (room (passed .fails 14)) (both-fit g (both s a) fit) (both-different g (both s a))
     (both-new g (both s a) (λ i. true≢false (sym (in-has (s .ends) a i) ∙ passed .fails 9))) (both-mirrored g (both s a))))

@@ -2,7 +2,6 @@
 use Prim.Native.Nat.{ℕ, _+_, _≤_}
 use native.Mathlib.Omega.{arith}
 use mathlib.Core.Path.{_≡_, sym, _∙_}
-use mathlib.Core.Logic.{⊎-elim}
 use mathlib.Core.List.{List}
 use mathlib.Core.Bool.{Bool, true}
 use lib.ListN.{length}
@@ -14,7 +13,7 @@ use Rattle.rules.specs.10-Changes.{with-sdss, with-applications, with-ends, put
 use Rattle.rules.specs.Parts.{of-sdss, of-types, of-presences, Sdss, Presence-rows, Once, Closed-under, Presences, Ordered, Applications, Ends}
 use Rattle.rules.proofs.01-Lists.{Different}
 use Rattle.rules.proofs.05-Descent.{object-used}
-use Rattle.rules.proofs.Edits.{put-all-long, put-all-in, without-in, without-long}
+use Rattle.rules.proofs.Edits.{put-all-long, without-long}
 use Rattle.rules.proofs.Parts.{present-each, parts-of, whole, applied-over, ended-over, applied-held, ended-held}
 use Rattle.history.proofs.KindLaws.{attribute-used, link-used, either-used}
 use Rattle.history.proofs.Orders.{Order, put-all-rises, without-rises}
@@ -115,18 +114,16 @@ module _ (ks ks′ : List Kind) (ps ps′ : List Presence)
 
 -- ---- rows in order
 
-module _ {A : Type 0} {most : ℕ} {sds : A → ℕ} {before : A → A → Bool} (o : Order before) {rows : List A} (g : Ordered most sds before rows) where
-  pub ordered-less : (out : A → Bool) → Ordered most sds before (without out rows)
+module _ {A : Type 0} {most : ℕ} {before : A → A → Bool} (o : Order before) {rows : List A} (g : Ordered most before rows) where
+  pub ordered-less : (out : A → Bool) → Ordered most before (without out rows)
   ordered-less out = record {
     room = omega (arith, without-long out rows, g .room);
-    outside = λ x i. g .outside x (without-in out rows i .0);
     rises = without-rises o out rows (g .rises);
   }
 
-  pub ordered-more : (new : List A) → length rows + length new ≤ most → ((x : A) → x ∈ new → sds x ≡ 0 → ⊥) → Different new
-      → ((x : A) → x ∈ new → x ∈ rows → ⊥) → Ordered most sds before (put-all before new rows)
-  ordered-more new room outside apart none = record {
+  pub ordered-more : (new : List A) → length rows + length new ≤ most → Different new → ((x : A) → x ∈ new → x ∈ rows → ⊥)
+      → Ordered most before (put-all before new rows)
+  ordered-more new room apart none = record {
     room = omega (arith, put-all-long before new rows);
-    outside = λ x i. ⊎-elim (outside x) (g .outside x) (put-all-in before new rows i);
     rises = put-all-rises o new rows (g .rises) apart none;
   }

@@ -1,19 +1,21 @@
 -- `Good` and its parts are the same, and a part that speaks of types and presences holds over others that are like them. Assumes nothing.
 use Prim.Native.Nat.{ℕ}
 use mathlib.Core.Path.{_≡_, refl, ap, _∙_, subst₂}
-use mathlib.Core.List.{List}
-use mathlib.Core.Bool.{Bool, true, _||_}
+use mathlib.Core.List.{List, []}
+use mathlib.Core.Bool.{Bool, true, false, _||_}
 use lib.Dec.{eqb}
 use borrow.Author.Tests.{eqb-true, eq-eqb}
 use Rattle.rules.specs.01-Lists.{_∈_}
 use Rattle.rules.specs.04-Schema.{Schema, Kind, Presence, Application, End, used-sds, kind-of, is-object, is-attribute, is-link, parents, holds-type}
 use Rattle.rules.specs.04-Schema.{present, has-end}
+use Rattle.rules.specs.04-Schema.Kind.{object}
 use Rattle.rules.specs.05-Descent.{Parent}
 use Rattle.rules.specs.06-Good.{Good}
 use Rattle.rules.specs.Parts.{of-types, of-presences, Closed-under, Applied, Ended, Parts}
 use Rattle.rules.proofs.Bools.{and-both, and-of}
 use Rattle.rules.proofs.01-Lists.{any-at, any-where}
 use Rattle.rules.proofs.05-Descent.{descends-over}
+use Rattle.rules.proofs.06-Good.{system-lacks}
 
 -- ---- what is present
 
@@ -84,11 +86,11 @@ parts-of {s} g = record {
     somewhere = g .somewhere;
   };
   applications = record {
-    rows = record { room = g .application-room; outside = g .system-no-application; rises = g .applications-rising };
+    rows = record { room = g .application-room; rises = g .applications-rising };
     each = λ x i. record { attribute = g .applied-attribute x i; to = g .applied-to x i; within = g .application-present x i };
   };
   ends = record {
-    rows = record { room = g .end-room; outside = g .system-no-end; rises = g .ends-rising };
+    rows = record { room = g .end-room; rises = g .ends-rising };
     each = λ e i. record { link = g .end-link e i; object = g .end-object e i; within = g .end-present e i };
     mirrored = g .mirrored;
   };
@@ -128,8 +130,12 @@ whole {s} p = record {
   system-named = p .sdss .system;
   system-holds = p .presences .rows .system;
   system-alone = p .presences .rows .system-alone;
-  system-no-application = p .applications .rows .outside;
-  system-no-end = p .ends .rows .outside;
+  system-no-application = λ x i.
+      let a = p .applications .each x i in
+      lacks is-attribute refl (x .sds) (x .attribute) (a .attribute) (and-both (held (x .sds) (x .to)) (held (x .sds) (x .attribute)) (a .within) .1);
+  system-no-end = λ e i.
+      let a = p .ends .each e i in
+      lacks is-link refl (e .sds) (e .link) (a .link) (and-both (held (e .sds) (e .link)) (held (e .sds) (e .object)) (a .within) .0);
   presences-rising = p .presences .rows .rises;
   applications-rising = p .applications .rows .rises;
   ends-rising = p .ends .rows .rises;
@@ -140,6 +146,12 @@ whole {s} p = record {
   mirrored = p .ends .mirrored;
 }
   where
+    held : ℕ → ℕ → Bool
+    held = present s
+
+    lacks : (test : Kind → Bool) → test (object []) ≡ false → (d t : ℕ) → test (kind-of s t) ≡ true → held d t ≡ true → d ≡ 0 → ⊥
+    lacks = system-lacks s (p .types .parents .root) (p .presences .rows .system-alone)
+
     at : (d t : ℕ) → present (of-presences (s .presences)) d t ≡ true → Closed-under (s .types) (present (of-presences (s .presences)) d) t
     at = present-each (s .presences) (λ d t. Closed-under (s .types) (present (of-presences (s .presences)) d) t) (p .presences .closed)
 
@@ -163,9 +175,9 @@ module _ {ks ks′ : List Kind} {held held′ : ℕ → Bool} where
   pub ended-over : {e : End} → Ended ks held e
       → kind-of (of-types ks′) (e .link) ≡ kind-of (of-types ks) (e .link) → kind-of (of-types ks′) (e .object) ≡ kind-of (of-types ks) (e .object)
       → held′ (e .link) ≡ true → held′ (e .object) ≡ true → Ended ks′ held′ e
-  ended-over {e} g link object h i = record {
-    link = ap is-link link ∙ g .link;
-    object = ap is-object object ∙ g .object;
+  ended-over {e} g same-link same-object h i = record {
+    link = ap is-link same-link ∙ g .link;
+    object = ap is-object same-object ∙ g .object;
     within = and-of (held′ (e .link)) (held′ (e .object)) h i;
   }
 

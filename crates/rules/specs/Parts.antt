@@ -103,17 +103,16 @@ pub record Presences (ns : List Name) (ks : List Kind) (ps : List Presence) : Ty
 
 -- ---- applications and ends
 
--- rows in order, none of them in SDS 0
-pub record Ordered {A : Type 0} (most : ℕ) (sds : A → ℕ) (before : A → A → Bool) (rows : List A) : Type 0 where
+-- rows in order; that none is in SDS 0 follows from what it holds (`system-lacks`)
+pub record Ordered {A : Type 0} (most : ℕ) (before : A → A → Bool) (rows : List A) : Type 0 where
   pub room : length rows ≤ most
-  pub outside : (x : A) → x ∈ rows → sds x ≡ 0 → ⊥
   pub rises : rising before rows ≡ true
 
 abbrev pub Application-rows : List Application → Type 0
-Application-rows xs = Ordered (limits .applications) (λ x. x .sds) application-before xs
+Application-rows xs = Ordered (limits .applications) application-before xs
 
 abbrev pub End-rows : List End → Type 0
-End-rows es = Ordered (limits .ends) (λ e. e .sds) end-before es
+End-rows es = Ordered (limits .ends) end-before es
 
 -- an application in an SDS that holds these types
 pub record Applied (ks : List Kind) (held : ℕ → Bool) (x : Application) : Type 0 where

@@ -18,7 +18,9 @@ use Rattle.rules.proofs.05-Descent.{used-below}
 use Rattle.rules.specs.Read.{read-side, read-end}
 use Rattle.rules.proofs.08-Working.{present-used}
 use Rattle.rows.specs.Rows.{part}
-use Rattle.rows.proofs.Rows.{part-byte, filled-most}
+use Rattle.rows.proofs.Rows.{part-byte}
+use Rattle.base.specs.Tables.{applications, ends}
+use Rattle.base.proofs.Back.{rows-few}
 use Rattle.base.specs.Rows.{presence-at, application-at, end-at}
 use Rattle.base.specs.Back.{schema-of, presence-count, application-count, end-count, presence-shown, application-shown, end-shown}
 use Rattle.base.proofs.Back.{sound-canonical, sound-good}
@@ -114,10 +116,10 @@ passes-first {x} {y} {r} {z} e f g = go x y e f
 
 module _ (b : List ℕ) where
   pub few-applications : application-count b ≤ 256
-  few-applications = filled-most 3 0 256 (drop 10496 b)
+  few-applications = rows-few applications b
 
   pub few-ends : end-count b ≤ 512
-  few-ends = filled-most 4 0 512 (drop 11264 b)
+  few-ends = rows-few ends b
 
 module _ {b : List ℕ} (s : Sound b) where
   -- what is present is a type, in an SDS

@@ -16,7 +16,7 @@ use Rattle.rows.specs.Rows.{part}
 use Rattle.rows.proofs.Rows.{part-byte}
 use Rattle.base.specs.Rows.{type-at}
 use Rattle.base.specs.Back.{schema-of, kind-shown}
-use Rattle.lookup.specs.Kinds.{kind-code}
+use Rattle.rules.specs.04-Schema.{kind-code}
 use Rattle.base.proofs.Back.{sound-canonical}
 use Rattle.base.proofs.Shown.{kind-is, kind-none, shows-attribute, shows-designation, shows-paired, shows-unused}
 

@@ -16,7 +16,7 @@ ghost use Rattle.rows.specs.Decides.{Decides};
 ghost use Rattle.base.specs.Rows.{presence-at};
 ghost use Rattle.base.specs.Back.{schema-of, presence-count};
 ghost use Rattle.lookup.specs.Found.{Free-sds, Row-of, Presence-row, End-at, End-found};
-ghost use Rattle.lookup.specs.Kinds.{kind-code};
+ghost use Rattle.rules.specs.04-Schema.{kind-code};
 
 // ---- SDSs
 

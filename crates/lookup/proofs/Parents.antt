@@ -1,5 +1,4 @@
--- What the rows of types say: which types are object types, how many parents each has, and which. A sound base is parental.
--- Assumes nothing.
+-- What the rows of types say of parents: how many each type has, and which. A sound base is parental. Assumes nothing.
 use Prim.Native.Nat.{ℕ, _+_, _≤_, _<_}
 use native.Mathlib.Omega.{arith}
 use mathlib.Core.Path.{_≡_, refl, sym, ap, _∙_}
@@ -8,7 +7,7 @@ use mathlib.Core.Bool.{Bool, true, false, cond, false≢true}
 use lib.Dec.{eqb, ltb}
 use lib.ListN.{length, getD, take, drop, length-take, length-drop}
 use borrow.Author.Tests.{ltb-true, ltb-false}
-use Rattle.rules.specs.04-Schema.{Kind, is-object, parents, parents-in}
+use Rattle.rules.specs.04-Schema.{Kind, kind-of, is-object, parents, parents-in}
 use Rattle.rules.specs.04-Schema.Kind.{unused, object, attribute, designation, paired}
 use Rattle.rules.specs.05-Descent.{Parent}
 use Rattle.rules.specs.07-Picture.{pad, type-row, Sound}
@@ -21,7 +20,7 @@ use Rattle.base.specs.Rows.{type-at}
 use Rattle.base.specs.Back.{schema-of, kind-shown}
 use Rattle.base.proofs.Back.{sound-canonical, sound-good}
 use Rattle.base.proofs.Shown.{kind-is, kind-none}
-use Rattle.graph.specs.Graph.{object-in, Parental}
+use Rattle.lookup.specs.Parents.{Parental}
 
 -- a sound base is parental
 pub good-parental : {b : List ℕ} → Sound b → Parental b
@@ -72,7 +71,7 @@ written-parents (paired c r) h = refl
 -- ---- the types of a base
 
 module _ (b : List ℕ) where
-  pub object-below : (t : ℕ) → object-in b t ≡ true → t < 128
+  pub object-below : (t : ℕ) → is-object (kind-of (schema-of b) t) ≡ true → t < 128
   object-below t e = go (ltb t 128) refl
     where
       go : (x : Bool) → ltb t 128 ≡ x → t < 128

@@ -1,16 +1,14 @@
 -- The tests of an SDS and of names, one after the other. Assumes nothing.
 use Prim.Native.Nat.{ℕ}
-use native.Mathlib.Omega.{arith}
-use mathlib.Core.Path.{_≡_, refl, ap}
+use mathlib.Core.Path.{_≡_, ap}
 use mathlib.Core.List.{[], _∷_}
-use mathlib.Core.Bool.{Bool, true, false, not, _||_}
+use mathlib.Core.Bool.{true, false, not, _||_}
 use borrow.Author.Tests.{eq-eqb, ne-eqb}
 use Rattle.rules.specs.01-Lists.{any}
 use Rattle.rules.specs.03-Names.{Name, well-formed, same-name}
 use Rattle.rules.specs.04-Schema.{Schema, bears}
 use Rattle.rules.specs.09-Refusals.{system-sds, malformed, no-such-name, names-taken}
 use Rattle.rules.proofs.Bools.{or-left, or-right}
-use Rattle.working.specs.Listed.{Named-in}
 
 pub system-stops : (d : ℕ) → d ≡ 0 → system-sds d ≡ true
 unfolding system-sds
@@ -27,22 +25,6 @@ formed-passes n e = ap not e
 pub malformed-stops : (n : Name) → well-formed n ≡ false → malformed n ≡ true
 unfolding malformed
 malformed-stops n e = ap not e
-
--- a name is borne exactly where a type is found under it
-module _ {s : Schema} {d : ℕ} {n : Name} {r : ℕ} (found : Named-in s d n r) where
-  pub borne : (r ≡ 128 → ⊥) → bears s d n ≡ true
-  borne h = go (bears s d n) refl
-    where
-      go : (x : Bool) → bears s d n ≡ x → x ≡ true
-      go true e = refl
-      go false e = absurd (h (found .none e))
-
-  pub not-borne : r ≡ 128 → bears s d n ≡ false
-  not-borne h = go (bears s d n) refl
-    where
-      go : (x : Bool) → bears s d n ≡ x → x ≡ false
-      go true e = absurd (let (u, q) = found .found e in omega arith)
-      go false e = refl
 
 pub one-malformed : (n m : Name) → malformed n ≡ true → malformed n || malformed m ≡ true
 one-malformed n m e = or-left (malformed n) (malformed m) e

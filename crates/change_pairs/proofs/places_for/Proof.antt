@@ -12,7 +12,7 @@ use Rattle.base.specs.Back.{schema-of}
 use Rattle.base.proofs.Kept.{sound-long}
 use Rattle.lookup.proofs.SdsShown.{used-below, known, unknown}
 use Rattle.base.specs.Tested.Tested.{spoiled}
-use Rattle.conditions.proofs.NameLaws.{formed-passes, malformed-stops, system-stops, system-passes, one-malformed, other-malformed, none-malformed}
+use Rattle.rules.proofs.NameTests.{formed-passes, malformed-stops, system-stops, system-passes, one-malformed, other-malformed, none-malformed}
 use Rattle.base.proofs.TestedLaws.{Past, come-first, come-next, come-stops, come-rest}
 use Rattle.change_pairs.proofs.PairLaws.{not-placed, categories-fit, two-names}
 use Rattle.change_pairs.proofs.places_for.Statement.{statement}

@@ -1,4 +1,4 @@
--- `conditions::application_row` meets its contract. The loop's invariant: no row that it has passed does so. Assumes nothing.
+-- `lookup::applications::application_row` meets its contract. The loop's invariant: no row that it has passed does so. Assumes nothing.
 use native.Mathlib.Omega.{arith}
 use borrow.Author.Needs.{needs}
 use Prim.Native.Nat.{ℕ, _≤_, _<_, _-_}
@@ -7,8 +7,8 @@ use mathlib.Core.Bool.{false}
 use borrow.Author.Count.{below-none, below-more}
 use Rattle.rules.specs.04-Schema.{is-application}
 use Rattle.base.specs.Back.{application-shown}
-use Rattle.conditions.proofs.application_row.Statement.{statement}
-use Rattle.conditions.proofs.application_row.Tie as tie
+use Rattle.lookup.proofs.applications.application_row.Statement.{statement}
+use Rattle.lookup.proofs.applications.application_row.Tie as tie
 
 abbrev Inv-loop : tie.InvT-loop
 Inv-loop base d t a n i₀ i = (i ≤ n) × ((k : ℕ) → k < i → is-application d t a (application-shown base k) ≡ false)

@@ -1,8 +1,8 @@
--- `conditions::is_application` meets its contract. Assumes nothing.
+-- `lookup::applications::is_application` meets its contract. Assumes nothing.
 use borrow.Author.Needs.{needs}
-use Rattle.conditions.proofs.ConditionLaws.{differs, agrees, last-one}
-use Rattle.conditions.proofs.is_application.Statement.{statement}
-use Rattle.conditions.proofs.is_application.Tie as tie
+use Rattle.rules.proofs.Bools.{differs, agrees, last-one}
+use Rattle.lookup.proofs.applications.is_application.Statement.{statement}
+use Rattle.lookup.proofs.applications.is_application.Tie as tie
 
 application-sds-requires : tie.Need-application-sds-requires
 application-sds-requires c κs = search needs

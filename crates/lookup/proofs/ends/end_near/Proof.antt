@@ -1,8 +1,8 @@
 -- `found::end_row` meets its contract: where the row is, it stands near or at its place. Assumes nothing.
 use borrow.Author.Needs.{needs}
-use Rattle.lookup.proofs.FindLaws.{ends-rises, end-found-at, end-found-none}
-use Rattle.lookup.proofs.end_row.Statement.{statement}
-use Rattle.lookup.proofs.end_row.Tie as tie
+use Rattle.lookup.proofs.EndLaws.{ends-rises, end-found-at, end-found-none}
+use Rattle.lookup.proofs.ends.end_near.Statement.{statement}
+use Rattle.lookup.proofs.ends.end_near.Tie as tie
 
 is-end-requires : tie.Need-is-end-requires
 is-end-requires c κs = search needs
@@ -41,8 +41,8 @@ returns-3 c =
     let x = c .before .before .before .before .before .before .before in
     end-found-none (x .pre .0 .0) (x .pre .0 .1) (x .pre .1 .1) (x .pre .1 .0) (c .before .before .place .ensures) (c .before .is-end2 .ensures .fails (c .if2 .left))
 
-pub end-row-spec : {M : Type 1} → statement M
-end-row-spec =
+pub end-near-spec : {M : Type 1} → statement M
+end-near-spec =
     tie.close
     (tie.spec
     is-end-requires

@@ -4,8 +4,8 @@ use borrow.Author.Needs.{needs}
 use mathlib.Core.Path.{sym, _∙_}
 use borrow.Author.Tests.{eqb-true, eqb-false}
 use Rattle.rows.proofs.Decides.{decides-no}
-use Rattle.lookup.proofs.is_end.Statement.{statement}
-use Rattle.lookup.proofs.is_end.Tie as tie
+use Rattle.lookup.proofs.ends.is_end.Statement.{statement}
+use Rattle.lookup.proofs.ends.is_end.Tie as tie
 
 returns : tie.Need-returns
 returns c = decides-no (λ e. omega (arith, e .below, c .if1 .taken))

@@ -1,13 +1,13 @@
--- `working::find::is_named` meets its contract. Assumes nothing.
+-- `lookup::named::is_named` meets its contract. Assumes nothing.
 use borrow.Author.Needs.{needs}
 use Prim.Native.Nat.{ℕ}
 use mathlib.Core.Path.{sym, ap, _∙_}
 use mathlib.Core.List.{List}
 use Rattle.rules.specs.03-Names.{same-name}
 use Rattle.base.specs.Back.{presence-shown}
-use Rattle.working.proofs.FindLaws.{row-elsewhere, row-there}
-use Rattle.working.proofs.find.is_named.Statement.{statement}
-use Rattle.working.proofs.find.is_named.Tie as tie
+use Rattle.lookup.proofs.NamedLaws.{row-elsewhere, row-there}
+use Rattle.lookup.proofs.named.is_named.Statement.{statement}
+use Rattle.lookup.proofs.named.is_named.Tie as tie
 
 presence-sds-requires : tie.Need-presence-sds-requires
 presence-sds-requires c κs = search needs

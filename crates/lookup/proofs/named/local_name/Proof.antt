@@ -1,12 +1,12 @@
--- `working::find::local_name` meets its contract. Assumes nothing.
+-- `lookup::named::local_name` meets its contract. Assumes nothing.
 use borrow.Author.Needs.{needs}
 use Prim.Native.Nat.{ℕ, _-_}
 use native.Mathlib.Omega.{arith}
 use mathlib.Core.Path.{_≡_, ap, _∙_}
 use lib.ListN.{take}
 use Rattle.rules.specs.Read.{strip}
-use Rattle.working.proofs.find.local_name.Statement.{statement}
-use Rattle.working.proofs.find.local_name.Tie as tie
+use Rattle.lookup.proofs.named.local_name.Statement.{statement}
+use Rattle.lookup.proofs.named.local_name.Tie as tie
 
 presence-field-requires : tie.Need-presence-field-requires
 presence-field-requires c κs = search needs

@@ -2,8 +2,8 @@ use borrow.Author.Needs.{needs}
 use mathlib.Core.Path.{ap, _∙_}
 use lib.ListN.{length}
 use Rattle.rules.specs.Read.{strip}
-use Rattle.lookup.proofs.name_length.Statement.{statement}
-use Rattle.lookup.proofs.name_length.Tie as tie
+use Rattle.lookup.proofs.named.name_length.Statement.{statement}
+use Rattle.lookup.proofs.named.name_length.Tie as tie
 
 presence-field-requires : tie.Need-presence-field-requires
 presence-field-requires c κs = search needs

@@ -1,4 +1,4 @@
--- `working::find::row_named` meets its contract. The loop's invariant: no row that it has passed has the name. Assumes nothing.
+-- `lookup::named::row_named` meets its contract. The loop's invariant: no row that it has passed has the name. Assumes nothing.
 use borrow.Author.Needs.{needs}
 use Prim.Native.Nat.{ℕ, _≤_, _<_, _-_}
 use native.Mathlib.Omega.{arith}
@@ -7,8 +7,8 @@ use mathlib.Core.Bool.{false}
 use borrow.Author.Count.{below-none, below-more}
 use Rattle.rules.specs.04-Schema.{holds-name}
 use Rattle.base.specs.Back.{presence-shown}
-use Rattle.working.proofs.find.row_named.Statement.{statement}
-use Rattle.working.proofs.find.row_named.Tie as tie
+use Rattle.lookup.proofs.named.row_named.Statement.{statement}
+use Rattle.lookup.proofs.named.row_named.Tie as tie
 
 abbrev Inv-loop : tie.InvT-loop
 Inv-loop base d name rows row₀ row = (row ≤ rows) × ((k : ℕ) → k < row → holds-name d name (presence-shown base k) ≡ false)

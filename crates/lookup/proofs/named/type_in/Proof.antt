@@ -1,10 +1,10 @@
--- `working::find::type_in` meets its contract. Assumes nothing.
+-- `lookup::named::type_in` meets its contract. Assumes nothing.
 use native.Mathlib.Omega.{arith}
 use Rattle.base.proofs.Back.{sound-good}
 use Rattle.base.proofs.Kept.{sound-long}
-use Rattle.working.proofs.FindLaws.{named-here, named-not-here}
-use Rattle.working.proofs.find.type_in.Statement.{statement}
-use Rattle.working.proofs.find.type_in.Tie as tie
+use Rattle.lookup.proofs.NamedLaws.{named-here, named-not-here}
+use Rattle.lookup.proofs.named.type_in.Statement.{statement}
+use Rattle.lookup.proofs.named.type_in.Tie as tie
 
 presence-count-requires : tie.Need-presence-count-requires
 presence-count-requires c κs = sound-long (c .before .before .pre)

@@ -6,8 +6,8 @@ use lib.ListN.{getD}
 use borrow.Author.Count.{below-none, below-more}
 use Rattle.base.specs.Rows.{presence-at}
 use Rattle.lookup.proofs.SdsShown.{holds-at, holds-nowhere}
-use Rattle.lookup.proofs.holds_presence.Statement.{statement}
-use Rattle.lookup.proofs.holds_presence.Tie as tie
+use Rattle.lookup.proofs.presences.holds_presence.Statement.{statement}
+use Rattle.lookup.proofs.presences.holds_presence.Tie as tie
 
 abbrev Inv-loop : tie.InvT-loop
 Inv-loop base d n i₀ i = (i ≤ n) × ((k : ℕ) → k < i → getD base (presence-at k) 0 ≡ d → ⊥)

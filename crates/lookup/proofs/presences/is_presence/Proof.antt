@@ -2,8 +2,8 @@ use borrow.Author.Needs.{needs}
 use mathlib.Core.Path.{sym, _∙_}
 use borrow.Author.Tests.{eqb-true, eqb-false}
 use Rattle.rows.proofs.Decides.{decides-no}
-use Rattle.lookup.proofs.is_presence.Statement.{statement}
-use Rattle.lookup.proofs.is_presence.Tie as tie
+use Rattle.lookup.proofs.presences.is_presence.Statement.{statement}
+use Rattle.lookup.proofs.presences.is_presence.Tie as tie
 
 presence-sds-requires : tie.Need-presence-sds-requires
 presence-sds-requires c κs = search needs

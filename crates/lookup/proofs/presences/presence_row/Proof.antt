@@ -3,8 +3,8 @@ use Prim.Native.Nat.{ℕ, _≤_, _<_, _-_}
 use native.Mathlib.Omega.{arith}
 use borrow.Author.Count.{below-none, below-more}
 use Rattle.lookup.specs.Found.{Row-of}
-use Rattle.lookup.proofs.presence_row.Statement.{statement}
-use Rattle.lookup.proofs.presence_row.Tie as tie
+use Rattle.lookup.proofs.presences.presence_row.Statement.{statement}
+use Rattle.lookup.proofs.presences.presence_row.Tie as tie
 
 abbrev Inv-loop : tie.InvT-loop
 Inv-loop base d t n i₀ i = (i ≤ n) × ((k : ℕ) → k < i → Row-of base k d t → ⊥)

@@ -7,8 +7,8 @@ use borrow.Author.Count.{below-none, below-more}
 use borrow.Author.Tests.{not-true, not-false}
 use Rattle.rules.specs.04-Schema.{used-sds}
 use Rattle.base.specs.Back.{schema-of}
-use Rattle.lookup.proofs.free_sds.Statement.{statement}
-use Rattle.lookup.proofs.free_sds.Tie as tie
+use Rattle.lookup.proofs.sdss.free_sds.Statement.{statement}
+use Rattle.lookup.proofs.sdss.free_sds.Tie as tie
 
 abbrev Inv-loop : tie.InvT-loop
 Inv-loop base d₀ d = (d ≤ 16) × ((k : ℕ) → k < d → used-sds (schema-of base) k ≡ true)

@@ -9,8 +9,8 @@ use Rattle.rules.specs.03-Names.{same-name}
 use Rattle.rules.specs.04-Schema.{sds-name}
 use Rattle.base.specs.Back.{schema-of}
 use Rattle.lookup.proofs.SdsShown.{taken-at, taken-nowhere}
-use Rattle.lookup.proofs.has_sds_named.Statement.{statement}
-use Rattle.lookup.proofs.has_sds_named.Tie as tie
+use Rattle.lookup.proofs.sdss.has_sds_named.Statement.{statement}
+use Rattle.lookup.proofs.sdss.has_sds_named.Tie as tie
 
 abbrev Inv-loop : tie.InvT-loop
 Inv-loop base name d₀ d = (d ≤ 16) × ((k : ℕ) → k < d → same-name (sds-name (schema-of base) k) name ≡ false)

@@ -6,8 +6,8 @@ use lib.ListN.{length}
 use Rattle.rows.proofs.Scan.{length-part}
 use Rattle.base.specs.Rows.{sds-at}
 use Rattle.lookup.proofs.SdsShown.{used-first, used-past}
-use Rattle.lookup.proofs.is_sds.Statement.{statement}
-use Rattle.lookup.proofs.is_sds.Tie as tie
+use Rattle.lookup.proofs.sdss.is_sds.Statement.{statement}
+use Rattle.lookup.proofs.sdss.is_sds.Tie as tie
 
 returns : tie.Need-returns
 returns c =

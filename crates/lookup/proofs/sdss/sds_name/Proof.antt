@@ -5,8 +5,8 @@ use mathlib.Core.Path.{_≡_, sym, ap, _∙_}
 use lib.ListN.{take}
 use Rattle.rules.specs.Read.{strip}
 use Rattle.base.proofs.Shown.{sds-is}
-use Rattle.lookup.proofs.sds_name.Statement.{statement}
-use Rattle.lookup.proofs.sds_name.Tie as tie
+use Rattle.lookup.proofs.sdss.sds_name.Statement.{statement}
+use Rattle.lookup.proofs.sdss.sds_name.Tie as tie
 
 sds-field-requires : tie.Need-sds-field-requires
 sds-field-requires c κs = search needs

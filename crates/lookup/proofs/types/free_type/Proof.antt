@@ -1,4 +1,4 @@
--- `conditions::free_type` meets its contract. The loop's invariant: every number that it has passed is used. Assumes nothing.
+-- `lookup::types::free_type` meets its contract. The loop's invariant: every number that it has passed is used. Assumes nothing.
 use native.Mathlib.Omega.{arith}
 use Prim.Native.Nat.{ℕ, _≤_, _<_, _-_}
 use mathlib.Core.Path.{_≡_, sym, ap, _∙_}
@@ -8,9 +8,9 @@ use borrow.Author.Tests.{eq-eqb, ne-eqb}
 use Rattle.rules.specs.04-Schema.{kind-of, is-used}
 use Rattle.base.specs.Back.{schema-of}
 use Rattle.base.proofs.Kept.{sound-long}
-use Rattle.conditions.proofs.ConditionLaws.{used-byte}
-use Rattle.conditions.proofs.free_type.Statement.{statement}
-use Rattle.conditions.proofs.free_type.Tie as tie
+use Rattle.lookup.proofs.KindBytes.{used-byte}
+use Rattle.lookup.proofs.types.free_type.Statement.{statement}
+use Rattle.lookup.proofs.types.free_type.Tie as tie
 
 abbrev Inv-loop : tie.InvT-loop
 Inv-loop base from t₀ t = (from ≤ t) × ((k : ℕ) → k < t → from ≤ k → is-used (kind-of (schema-of base) k) ≡ true)

@@ -1,8 +1,8 @@
 -- `found::is_kind` meets its contract: the first byte of the row tells the kind. Assumes nothing.
 use borrow.Author.Needs.{needs}
 use Rattle.lookup.proofs.KindBytes.{code-past, code-byte}
-use Rattle.lookup.proofs.is_kind.Statement.{statement}
-use Rattle.lookup.proofs.is_kind.Tie as tie
+use Rattle.lookup.proofs.types.is_kind.Statement.{statement}
+use Rattle.lookup.proofs.types.is_kind.Tie as tie
 
 returns : tie.Need-returns
 returns c =

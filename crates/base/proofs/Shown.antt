@@ -11,8 +11,8 @@ use Rattle.rules.specs.01-Lists.{_∈_}
 use Rattle.rules.specs.02-Limits.{limits}
 use Rattle.rules.specs.04-Schema.{Presence, Application, End, sds-name, kind-of}
 use Rattle.rules.specs.04-Schema.Kind.{unused, object, attribute, designation, paired}
-use Rattle.rules.specs.Read.{value-byte, reverse-byte, count-byte, parents-byte, name-byte, type-byte, to-byte, attribute-byte, link-byte}
-use Rattle.rules.specs.Read.{side-byte, object-byte, strip, read-kind, read-presence, read-application, read-side, read-end}
+use Rattle.rules.specs.Read.{value-offset, reverse-offset, count-offset, parents-offset, name-offset, type-offset, to-offset, attribute-offset, link-offset}
+use Rattle.rules.specs.Read.{side-offset, object-offset, strip, read-kind, read-presence, read-application, read-side, read-end}
 use Rattle.rows.specs.Rows.{part}
 use Rattle.rows.proofs.Rows.{part-byte, part-part, length-rows, rows-at, rows-there, rows-in}
 use Rattle.base.specs.Tables.{Table, at, row-of, shown, used-rows, first-things, things, sdss, types, presences, applications, ends}
@@ -90,26 +90,26 @@ module _ (b : List ℕ) where
     first-byte : getD (row-of types b t) 0 0 ≡ getD b (type-at t) 0
     first-byte = row-first types b t (omega arith)
 
-    pub shows-object : getD b (type-at t) 0 ≡ 1 → getD b (type-at t + count-byte) 0 ≤ 4
-        → kind-shown b t ≡ object (part b (type-at t + parents-byte) (getD b (type-at t + count-byte) 0))
+    pub shows-object : getD b (type-at t) 0 ≡ 1 → getD b (type-at t + count-offset) 0 ≤ 4
+        → kind-shown b t ≡ object (part b (type-at t + parents-offset) (getD b (type-at t + count-offset) 0))
     unfolding read-kind
     shows-object e h =
-        rw (first-byte, e, byte count-byte (omega arith))
-        (ap object (part-part b (type-at t) (types .width) parents-byte (getD b (type-at t + count-byte) 0) (omega arith)))
+        rw (first-byte, e, byte count-offset (omega arith))
+        (ap object (part-part b (type-at t) (types .width) parents-offset (getD b (type-at t + count-offset) 0) (omega arith)))
 
-    pub shows-attribute : getD b (type-at t) 0 ≡ 2 → kind-shown b t ≡ attribute (getD b (type-at t + value-byte) 0)
+    pub shows-attribute : getD b (type-at t) 0 ≡ 2 → kind-shown b t ≡ attribute (getD b (type-at t + value-offset) 0)
     unfolding read-kind
-    shows-attribute e = rw (first-byte, e, byte value-byte (omega arith))
+    shows-attribute e = rw (first-byte, e, byte value-offset (omega arith))
 
-    pub shows-designation : getD b (type-at t) 0 ≡ 3 → getD b (type-at t + value-byte) 0 ≡ 4 → kind-shown b t ≡ designation
+    pub shows-designation : getD b (type-at t) 0 ≡ 3 → getD b (type-at t + value-offset) 0 ≡ 4 → kind-shown b t ≡ designation
     unfolding read-kind
-    shows-designation e f = rw (first-byte, e, byte value-byte (omega arith), f)
+    shows-designation e f = rw (first-byte, e, byte value-offset (omega arith), f)
 
-    pub shows-paired : getD b (type-at t) 0 ≡ 3 → (getD b (type-at t + value-byte) 0 ≡ 4 → ⊥)
-        → kind-shown b t ≡ paired (getD b (type-at t + value-byte) 0) (getD b (type-at t + reverse-byte) 0)
+    pub shows-paired : getD b (type-at t) 0 ≡ 3 → (getD b (type-at t + value-offset) 0 ≡ 4 → ⊥)
+        → kind-shown b t ≡ paired (getD b (type-at t + value-offset) 0) (getD b (type-at t + reverse-offset) 0)
     unfolding read-kind
     shows-paired e f =
-        rw (first-byte, e, byte value-byte (omega arith), byte reverse-byte (omega arith), ne-eqb (getD b (type-at t + value-byte) 0) 4 f)
+        rw (first-byte, e, byte value-offset (omega arith), byte reverse-offset (omega arith), ne-eqb (getD b (type-at t + value-offset) 0) 4 f)
 
     pub shows-unused : (getD b (type-at t) 0 ≡ 1 → ⊥) → (getD b (type-at t) 0 ≡ 2 → ⊥) → (getD b (type-at t) 0 ≡ 3 → ⊥) → kind-shown b t ≡ unused
     unfolding read-kind
@@ -121,25 +121,25 @@ module _ (b : List ℕ) where
   unfolding read-presence
   presence-read i = λ j. record {
     sds = row-first presences b i (omega arith) j;
-    name = strip (part-part b (presence-at i) (presences .width) name-byte (limits .name) (omega arith) j);
-    type = row-byte presences b i type-byte (omega arith) j;
+    name = strip (part-part b (presence-at i) (presences .width) name-offset (limits .name) (omega arith) j);
+    type = row-byte presences b i type-offset (omega arith) j;
   }
 
   application-read : (i : ℕ) → shown applications b i ≡ application-shown b i
   unfolding read-application
   application-read i = λ j. record {
     sds = row-first applications b i (omega arith) j;
-    to = row-byte applications b i to-byte (omega arith) j;
-    attribute = row-byte applications b i attribute-byte (omega arith) j;
+    to = row-byte applications b i to-offset (omega arith) j;
+    attribute = row-byte applications b i attribute-offset (omega arith) j;
   }
 
   pub end-read : (i : ℕ) → shown ends b i ≡ end-shown b i
   unfolding read-end
   end-read i = λ j. record {
     sds = row-first ends b i (omega arith) j;
-    link = row-byte ends b i link-byte (omega arith) j;
-    side = read-side (row-byte ends b i side-byte (omega arith) j);
-    object = row-byte ends b i object-byte (omega arith) j;
+    link = row-byte ends b i link-offset (omega arith) j;
+    side = read-side (row-byte ends b i side-offset (omega arith) j);
+    object = row-byte ends b i object-offset (omega arith) j;
   }
 
   pub presences-long : length ((schema-of b) .presences) ≡ presence-count b

@@ -7,7 +7,7 @@ use Rattle.rules.specs.02-Limits.{limits}
 use Rattle.rules.specs.03-Names.{Name}
 use Rattle.rules.specs.04-Schema.{Schema, Kind, Presence, Application, End}
 use Rattle.rules.specs.07-Picture.{base-length}
-use Rattle.rules.specs.Read.{name-byte, type-byte, to-byte, attribute-byte, link-byte, side-byte, object-byte, strip, read-side}
+use Rattle.rules.specs.Read.{name-offset, type-offset, to-offset, attribute-offset, link-offset, side-offset, object-offset, strip, read-side}
 use Rattle.rows.specs.Rows.{part}
 use Rattle.base.specs.Tables.{shown, used-rows, first-things, things, Written, Blank-from, sdss, types, presences, applications, ends}
 use Rattle.base.specs.Rows.{presence-at, application-at, end-at}
@@ -40,23 +40,23 @@ kind-shown b t = shown types b t
 abbrev pub presence-shown : List ℕ → ℕ → Presence
 presence-shown b i = record {
   sds = getD b (presence-at i) 0;
-  name = strip (part b (presence-at i + name-byte) (limits .name));
-  type = getD b (presence-at i + type-byte) 0;
+  name = strip (part b (presence-at i + name-offset) (limits .name));
+  type = getD b (presence-at i + type-offset) 0;
 }
 
 abbrev pub application-shown : List ℕ → ℕ → Application
 application-shown b i = record {
   sds = getD b (application-at i) 0;
-  to = getD b (application-at i + to-byte) 0;
-  attribute = getD b (application-at i + attribute-byte) 0;
+  to = getD b (application-at i + to-offset) 0;
+  attribute = getD b (application-at i + attribute-offset) 0;
 }
 
 abbrev pub end-shown : List ℕ → ℕ → End
 end-shown b i = record {
   sds = getD b (end-at i) 0;
-  link = getD b (end-at i + link-byte) 0;
-  side = read-side (getD b (end-at i + side-byte) 0);
-  object = getD b (end-at i + object-byte) 0;
+  link = getD b (end-at i + link-offset) 0;
+  side = read-side (getD b (end-at i + side-offset) 0);
+  object = getD b (end-at i + object-offset) 0;
 }
 
 -- each row is as it would be written, and unused room is zero: what makes bytes the picture of the schema that they show

@@ -3,7 +3,7 @@ use Prim.Native.Nat.{ℕ, _+_, _<_}
 use mathlib.Core.Path.{_≡_}
 use mathlib.Core.List.{List}
 use lib.ListN.{getD}
-use Rattle.rules.specs.Read.{link-byte, side-byte, object-byte}
+use Rattle.rules.specs.Read.{link-offset, side-offset, object-offset}
 use Rattle.base.specs.Tables.{at, sdss, types, presences, applications, ends}
 
 abbrev pub sds-at : ℕ → ℕ
@@ -26,6 +26,6 @@ pub record End-row (b : List ℕ) (n d l side o : ℕ) : Type 0 where
   pub place : ℕ
   pub below : place < n
   pub sds : getD b (end-at place) 0 ≡ d
-  pub link : getD b (end-at place + link-byte) 0 ≡ l
-  pub turned : getD b (end-at place + side-byte) 0 ≡ side
-  pub object : getD b (end-at place + object-byte) 0 ≡ o
+  pub link : getD b (end-at place + link-offset) 0 ≡ l
+  pub turned : getD b (end-at place + side-offset) 0 ≡ side
+  pub object : getD b (end-at place + object-offset) 0 ≡ o

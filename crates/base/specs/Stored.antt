@@ -8,7 +8,7 @@ use Rattle.rules.specs.01-Lists.{_∈_, rising}
 use Rattle.rules.specs.04-Schema.{Schema, Kind}
 use Rattle.rules.specs.07-Picture.{pad, type-width, type-row, picture}
 use Rattle.rules.specs.10-Changes.{with-types}
-use Rattle.rules.specs.Read.{parents-byte, read-kind}
+use Rattle.rules.specs.Read.{parents-offset, read-kind}
 use Rattle.base.specs.Tables.{Table, Sorted, Used, sdss, types, by-name, by-application, by-end}
 use Rattle.base.specs.Back.{schema-of}
 
@@ -48,7 +48,7 @@ pub record Stored (b : List ℕ) : Type 0 where
 
 -- the row of a type, field by field
 abbrev pub type-fields : ℕ → ℕ → ℕ → List ℕ → List ℕ
-type-fields kind value reverse ps = kind ∷ value ∷ reverse ∷ length ps ∷ pad (type-width - parents-byte) ps
+type-fields kind value reverse ps = kind ∷ value ∷ reverse ∷ length ps ∷ pad (type-width - parents-offset) ps
 
 -- b′ is b with type t of kind k
 abbrev pub Becomes : List ℕ → ℕ → Kind → List ℕ → Type 0

@@ -9,7 +9,7 @@ use Rattle.rules.specs.03-Names.{Name, well-formed}
 use Rattle.rules.specs.04-Schema.{Kind, Presence, Application, End, presence-before, application-before, end-before}
 use Rattle.rules.specs.07-Picture.{sds-width, sds-row, type-width, type-row, presence-width, presence-row, application-width, application-row}
 use Rattle.rules.specs.07-Picture.{end-width, end-row, table}
-use Rattle.rules.specs.Read.{type-byte, strip, read-kind, read-presence, read-application, read-end}
+use Rattle.rules.specs.Read.{type-offset, strip, read-kind, read-presence, read-application, read-end}
 use Rattle.rows.specs.Rows.{part, rows, filled, Rising, Split}
 
 -- where its first row starts, how wide a row is, how many there is room for; the bytes of a thing, and what bytes show
@@ -94,7 +94,7 @@ pub record Sorted {A : Type 0} (t : Table A) : Type 1 where
 
 -- local names are unique: a row's type never decides
 abbrev pub by-name : Sorted presences
-by-name = record { before = presence-before; sds = λ p. p .sds; key = type-byte; Fit = λ p. well-formed (p .name) ≡ true }
+by-name = record { before = presence-before; sds = λ p. p .sds; key = type-offset; Fit = λ p. well-formed (p .name) ≡ true }
 
 abbrev pub by-application : Sorted applications
 by-application = record { before = application-before; sds = λ x. x .sds; key = application-width; Fit = λ x. Unit {0} }

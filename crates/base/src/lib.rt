@@ -10,8 +10,8 @@ ghost use Prim.Native.Nat.{_+_, _<_};
 ghost use lib.ListN.{length};
 ghost use Rattle.rules.specs.02-Limits.{limits};
 ghost use Rattle.rules.specs.07-Picture.{base-length};
-ghost use Rattle.rules.specs.Read.{value-byte, reverse-byte, count-byte, parents-byte, name-byte, type-byte, to-byte, attribute-byte};
-ghost use Rattle.rules.specs.Read.{link-byte, side-byte, object-byte};
+ghost use Rattle.rules.specs.Read.{value-offset, reverse-offset, count-offset, parents-offset, name-offset, type-offset, to-offset, attribute-offset};
+ghost use Rattle.rules.specs.Read.{link-offset, side-offset, object-offset};
 ghost use Rattle.rows.specs.Rows.{part, Reads};
 ghost use Rattle.base.specs.Rows.{sds-at, type-at, presence-at, application-at, end-at};
 
@@ -44,27 +44,27 @@ impl Base {
 
     // Which byte of its row holds what; the first holds a type's kind, and the SDS of the others.
 
-    pub const VALUE_BYTE: usize = 1;
+    pub const VALUE_OFFSET: usize = 1;
 
-    pub const REVERSE_BYTE: usize = 2;
+    pub const REVERSE_OFFSET: usize = 2;
 
-    pub const COUNT_BYTE: usize = 3;
+    pub const COUNT_OFFSET: usize = 3;
 
-    pub const PARENTS_BYTE: usize = 4;
+    pub const PARENTS_OFFSET: usize = 4;
 
-    pub const NAME_BYTE: usize = 1;
+    pub const NAME_OFFSET: usize = 1;
 
-    pub const TYPE_BYTE: usize = Base::NAME_BYTE + Limits::NAME;
+    pub const TYPE_OFFSET: usize = Base::NAME_OFFSET + Limits::NAME;
 
-    pub const TO_BYTE: usize = 1;
+    pub const TO_OFFSET: usize = 1;
 
-    pub const ATTRIBUTE_BYTE: usize = 2;
+    pub const ATTRIBUTE_OFFSET: usize = 2;
 
-    pub const LINK_BYTE: usize = 1;
+    pub const LINK_OFFSET: usize = 1;
 
-    pub const SIDE_BYTE: usize = 2;
+    pub const SIDE_OFFSET: usize = 2;
 
-    pub const OBJECT_BYTE: usize = 3;
+    pub const OBJECT_OFFSET: usize = 3;
 }
 
 // ---- SDSs
@@ -91,42 +91,42 @@ pub fn kind(base: &[u8], t: usize) -> usize
 // An attribute type's value kind, or a link type's category.
 pub fn value(base: &[u8], t: usize) -> usize
     requires { ⌜ (length (now base) ≡ base-length) × (t < limits .types) ⌝ }
-    ensures { λ r. ⌜ Reads (now (base .entry)) (type-at t + value-byte) r ⌝ }
+    ensures { λ r. ⌜ Reads (now (base .entry)) (type-at t + value-offset) r ⌝ }
 {
     rows::byte(
         base,
-        Base::TYPES_AT + t * Base::TYPE_WIDTH + Base::VALUE_BYTE,
+        Base::TYPES_AT + t * Base::TYPE_WIDTH + Base::VALUE_OFFSET,
     )
 }
 
 pub fn reverse(base: &[u8], t: usize) -> usize
     requires { ⌜ (length (now base) ≡ base-length) × (t < limits .types) ⌝ }
-    ensures { λ r. ⌜ Reads (now (base .entry)) (type-at t + reverse-byte) r ⌝ }
+    ensures { λ r. ⌜ Reads (now (base .entry)) (type-at t + reverse-offset) r ⌝ }
 {
     rows::byte(
         base,
-        Base::TYPES_AT + t * Base::TYPE_WIDTH + Base::REVERSE_BYTE,
+        Base::TYPES_AT + t * Base::TYPE_WIDTH + Base::REVERSE_OFFSET,
     )
 }
 
 pub fn parent_count(base: &[u8], t: usize) -> usize
     requires { ⌜ (length (now base) ≡ base-length) × (t < limits .types) ⌝ }
-    ensures { λ r. ⌜ Reads (now (base .entry)) (type-at t + count-byte) r ⌝ }
+    ensures { λ r. ⌜ Reads (now (base .entry)) (type-at t + count-offset) r ⌝ }
 {
     rows::byte(
         base,
-        Base::TYPES_AT + t * Base::TYPE_WIDTH + Base::COUNT_BYTE,
+        Base::TYPES_AT + t * Base::TYPE_WIDTH + Base::COUNT_OFFSET,
     )
 }
 
 // The parent in place i of 4.
 pub fn parent(base: &[u8], t: usize, i: usize) -> usize
     requires { ⌜ (length (now base) ≡ base-length) × ((t < limits .types) × (i < 4)) ⌝ }
-    ensures { λ r. ⌜ Reads (now (base .entry)) (type-at t + parents-byte + i) r ⌝ }
+    ensures { λ r. ⌜ Reads (now (base .entry)) (type-at t + parents-offset + i) r ⌝ }
 {
     rows::byte(
         base,
-        Base::TYPES_AT + t * Base::TYPE_WIDTH + Base::PARENTS_BYTE + i,
+        Base::TYPES_AT + t * Base::TYPE_WIDTH + Base::PARENTS_OFFSET + i,
     )
 }
 
@@ -142,7 +142,7 @@ pub fn presence_sds(base: &[u8], i: usize) -> usize
 // The field of 16 bytes that holds the local name.
 pub fn presence_field(base: &[u8], i: usize) -> &[u8]
     requires { ⌜ (length (now base) ≡ base-length) × (i < limits .presences) ⌝ }
-    ensures { λ r. ⌜ now r ≡ part (now (base .entry)) (presence-at i + name-byte) (limits .name) ⌝ }
+    ensures { λ r. ⌜ now r ≡ part (now (base .entry)) (presence-at i + name-offset) (limits .name) ⌝ }
 {
     let at = name_at(i);
     let end = at + Limits::NAME;
@@ -152,18 +152,18 @@ pub fn presence_field(base: &[u8], i: usize) -> &[u8]
 // Where that name starts.
 pub fn name_at(i: usize) -> usize
     requires { ⌜ i < limits .presences ⌝ }
-    ensures { λ r. ⌜ r ≡ presence-at i + name-byte ⌝ }
+    ensures { λ r. ⌜ r ≡ presence-at i + name-offset ⌝ }
 {
-    Base::PRESENCES_AT + i * Base::PRESENCE_WIDTH + Base::NAME_BYTE
+    Base::PRESENCES_AT + i * Base::PRESENCE_WIDTH + Base::NAME_OFFSET
 }
 
 pub fn presence_type(base: &[u8], i: usize) -> usize
     requires { ⌜ (length (now base) ≡ base-length) × (i < limits .presences) ⌝ }
-    ensures { λ r. ⌜ Reads (now (base .entry)) (presence-at i + type-byte) r ⌝ }
+    ensures { λ r. ⌜ Reads (now (base .entry)) (presence-at i + type-offset) r ⌝ }
 {
     rows::byte(
         base,
-        Base::PRESENCES_AT + i * Base::PRESENCE_WIDTH + Base::TYPE_BYTE,
+        Base::PRESENCES_AT + i * Base::PRESENCE_WIDTH + Base::TYPE_OFFSET,
     )
 }
 
@@ -178,21 +178,21 @@ pub fn application_sds(base: &[u8], i: usize) -> usize
 
 pub fn application_to(base: &[u8], i: usize) -> usize
     requires { ⌜ (length (now base) ≡ base-length) × (i < limits .applications) ⌝ }
-    ensures { λ r. ⌜ Reads (now (base .entry)) (application-at i + to-byte) r ⌝ }
+    ensures { λ r. ⌜ Reads (now (base .entry)) (application-at i + to-offset) r ⌝ }
 {
     rows::byte(
         base,
-        Base::APPLICATIONS_AT + i * Base::APPLICATION_WIDTH + Base::TO_BYTE,
+        Base::APPLICATIONS_AT + i * Base::APPLICATION_WIDTH + Base::TO_OFFSET,
     )
 }
 
 pub fn application_attribute(base: &[u8], i: usize) -> usize
     requires { ⌜ (length (now base) ≡ base-length) × (i < limits .applications) ⌝ }
-    ensures { λ r. ⌜ Reads (now (base .entry)) (application-at i + attribute-byte) r ⌝ }
+    ensures { λ r. ⌜ Reads (now (base .entry)) (application-at i + attribute-offset) r ⌝ }
 {
     rows::byte(
         base,
-        Base::APPLICATIONS_AT + i * Base::APPLICATION_WIDTH + Base::ATTRIBUTE_BYTE,
+        Base::APPLICATIONS_AT + i * Base::APPLICATION_WIDTH + Base::ATTRIBUTE_OFFSET,
     )
 }
 
@@ -207,25 +207,25 @@ pub fn end_sds(base: &[u8], i: usize) -> usize
 
 pub fn end_link(base: &[u8], i: usize) -> usize
     requires { ⌜ (length (now base) ≡ base-length) × (i < limits .ends) ⌝ }
-    ensures { λ r. ⌜ Reads (now (base .entry)) (end-at i + link-byte) r ⌝ }
+    ensures { λ r. ⌜ Reads (now (base .entry)) (end-at i + link-offset) r ⌝ }
 {
-    rows::byte(base, Base::ENDS_AT + i * Base::END_WIDTH + Base::LINK_BYTE)
+    rows::byte(base, Base::ENDS_AT + i * Base::END_WIDTH + Base::LINK_OFFSET)
 }
 
 // 0 origin, 1 destination.
 pub fn end_side(base: &[u8], i: usize) -> usize
     requires { ⌜ (length (now base) ≡ base-length) × (i < limits .ends) ⌝ }
-    ensures { λ r. ⌜ Reads (now (base .entry)) (end-at i + side-byte) r ⌝ }
+    ensures { λ r. ⌜ Reads (now (base .entry)) (end-at i + side-offset) r ⌝ }
 {
-    rows::byte(base, Base::ENDS_AT + i * Base::END_WIDTH + Base::SIDE_BYTE)
+    rows::byte(base, Base::ENDS_AT + i * Base::END_WIDTH + Base::SIDE_OFFSET)
 }
 
 pub fn end_object(base: &[u8], i: usize) -> usize
     requires { ⌜ (length (now base) ≡ base-length) × (i < limits .ends) ⌝ }
-    ensures { λ r. ⌜ Reads (now (base .entry)) (end-at i + object-byte) r ⌝ }
+    ensures { λ r. ⌜ Reads (now (base .entry)) (end-at i + object-offset) r ⌝ }
 {
     rows::byte(
         base,
-        Base::ENDS_AT + i * Base::END_WIDTH + Base::OBJECT_BYTE,
+        Base::ENDS_AT + i * Base::END_WIDTH + Base::OBJECT_OFFSET,
     )
 }

@@ -12,7 +12,7 @@ use Rattle.rules.specs.02-Limits.{limits}
 use Rattle.rules.specs.03-Names.{same-name}
 use Rattle.rules.specs.04-Schema.{Schema, Presence, Application, End, holds-name, bears, is-application, applied, is-end, has-end, side-code}
 use Rattle.rules.specs.07-Picture.{presence-width, presence-row, application-row, end-row}
-use Rattle.rules.specs.Read.{name-byte, type-byte, read-side}
+use Rattle.rules.specs.Read.{name-offset, type-offset, read-side}
 use Rattle.rules.proofs.Bools.{and-of}
 use Rattle.rules.proofs.01-Lists.{any-at}
 use Rattle.rules.proofs.03-Names.{same-name-refl}
@@ -66,13 +66,13 @@ unlike {t = t} l k q a fit it none y i e =
 -- ---- presences
 
 pub presence-built : (d t : ℕ) (n y : List ℕ) → d < 256 → t < 256 → length n ≤ limits .name
-    → y ≡ written (set (set (replicate presence-width 0) 0 (d % 256)) type-byte (t % 256)) name-byte n
+    → y ≡ written (set (set (replicate presence-width 0) 0 (d % 256)) type-offset (t % 256)) name-offset n
         → y ≡ presence-row (record { sds = d; name = n; type = t })
 unfolding presence-row
 presence-built d t n y h k l e =
     let d-is : d % 256 ≡ d = omega arith in
     let t-is : t % 256 ≡ t = omega arith in
-    e ∙ rw (d-is, t-is) (field-written (d ∷ []) (t ∷ []) n (limits .name) name-byte refl l)
+    e ∙ rw (d-is, t-is) (field-written (d ∷ []) (t ∷ []) n (limits .name) name-offset refl l)
 
 pub presence-unlike : {s : Schema} → Storable s → (a : Presence) → by-name .Fit a → bears s (a .sds) (a .name) ≡ false → Unlike presences a (s .presences)
 unfolding bears

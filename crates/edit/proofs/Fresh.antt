@@ -6,20 +6,20 @@ use lib.ListN.{set, replicate}
 use Rattle.rules.specs.01-Lists.{bytes}
 use Rattle.rules.specs.04-Schema.{fresh}
 use Rattle.rules.specs.07-Picture.{pad, sds-row, type-row, presence-row, table, base-length, picture}
-use Rattle.rules.specs.Read.{name-byte}
+use Rattle.rules.specs.Read.{name-offset}
 use Rattle.rows.specs.Table.{written}
 use Rattle.base.specs.Tables.{sdss, types}
 use Rattle.base.specs.Rows.{presence-at}
 
 -- zeros, then the name of SDS 0, the kind of type 0 and its local name
-fresh-bytes : written (set (written (replicate base-length 0) (sdss .start) (bytes "system")) (types .start) 1) (presence-at 0 + name-byte)
+fresh-bytes : written (set (written (replicate base-length 0) (sdss .start) (bytes "system")) (types .start) 1) (presence-at 0 + name-offset)
     (bytes "object") ≡ picture fresh
 unfolding written picture fresh table sds-row type-row presence-row pad
 fresh-bytes = refl
 
 pub fresh-done : {n : ℕ} {x y z : List ℕ} → n ≡ base-length → x ≡ replicate n 0 → y ≡ written x (sdss .start) (bytes "system")
-    → z ≡ written (set y (types .start) 1) (presence-at 0 + name-byte) (bytes "object") → z ≡ picture fresh
+    → z ≡ written (set y (types .start) 1) (presence-at 0 + name-offset) (bytes "object") → z ≡ picture fresh
 fresh-done l f g h =
-    h ∙ ap (λ (m : List ℕ). written (set m (types .start) 1) (presence-at 0 + name-byte) (bytes "object"))
+    h ∙ ap (λ (m : List ℕ). written (set m (types .start) 1) (presence-at 0 + name-offset) (bytes "object"))
         (g ∙ ap (λ (m : List ℕ). written m (sdss .start) (bytes "system")) (f ∙ ap (λ (n : ℕ). replicate n 0) l))
     ∙ fresh-bytes

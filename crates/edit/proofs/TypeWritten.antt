@@ -12,7 +12,7 @@ use Rattle.rules.specs.04-Schema.{Schema, Kind}
 use Rattle.rules.specs.04-Schema.Kind.{unused, object, attribute, designation, paired}
 use Rattle.rules.specs.07-Picture.{pad, type-width, type-row, picture}
 use Rattle.rules.specs.10-Changes.{with-types}
-use Rattle.rules.specs.Read.{parents-byte, read-kind}
+use Rattle.rules.specs.Read.{parents-offset, read-kind}
 use Rattle.rules.proofs.07-Picture.{kind-back}
 use Rattle.rules.proofs.07-Picture.Fitting.{fits-unused, fits-object, fits-attribute, fits-designation, fits-paired}
 use Rattle.rows.specs.Table.{written}
@@ -25,16 +25,16 @@ use Rattle.base.proofs.Tables.{types-stand, row-over}
 -- ---- the row
 
 pub type-built : (kind value reverse : ℕ) (ps y : List ℕ) → (kind < 256) × ((value < 256) × (reverse < 256)) → length ps ≤ 4
-    → y ≡ written (kind % 256 ∷ value % 256 ∷ reverse % 256 ∷ length ps % 256 ∷ 0 ∷ 0 ∷ 0 ∷ 0 ∷ []) parents-byte ps → y ≡ type-fields kind value reverse ps
+    → y ≡ written (kind % 256 ∷ value % 256 ∷ reverse % 256 ∷ length ps % 256 ∷ 0 ∷ 0 ∷ 0 ∷ 0 ∷ []) parents-offset ps → y ≡ type-fields kind value reverse ps
 type-built kind value reverse ps y h l e =
     let kind-is : kind % 256 ≡ kind = omega arith in
     let value-is : value % 256 ≡ value = omega arith in
     let reverse-is : reverse % 256 ≡ reverse = omega arith in
     let count-is : length ps % 256 ≡ length ps = omega arith in
-    let room = type-width - parents-byte in
+    let room = type-width - parents-offset in
     let front = kind ∷ value ∷ reverse ∷ length ps ∷ [] in
     e ∙ rw (kind-is, value-is, reverse-is, count-is)
-    (field-written front [] ps room parents-byte refl l ∙ ap (λ (r : List ℕ). front ++ r) (append-nil (pad room ps)))
+    (field-written front [] ps room parents-offset refl l ∙ ap (λ (r : List ℕ). front ++ r) (append-nil (pad room ps)))
 
 -- ---- the schema
 

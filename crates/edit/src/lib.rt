@@ -27,7 +27,7 @@ pub fn write_fresh(base: &mut [u8])
     rows::table::clear(base);
     rows::table::write(base, Base::SDSS_AT, b"system");
     base[Base::TYPES_AT] = 1;
-    rows::table::write(base, Base::PRESENCES_AT + Base::NAME_BYTE, b"object");
+    rows::table::write(base, Base::PRESENCES_AT + Base::NAME_OFFSET, b"object");
 }
 
 // ---- SDSs
@@ -52,8 +52,8 @@ fn presence_bytes(d: usize, name: &[u8], t: usize) -> [u8; Base::PRESENCE_WIDTH]
 {
     let mut row: [u8; Base::PRESENCE_WIDTH] = [0; Base::PRESENCE_WIDTH];
     row[0] = (d % 256) as u8;
-    row[Base::TYPE_BYTE] = (t % 256) as u8;
-    rows::table::write(&mut row, Base::NAME_BYTE, name);
+    row[Base::TYPE_OFFSET] = (t % 256) as u8;
+    rows::table::write(&mut row, Base::NAME_OFFSET, name);
     row
 }
 
@@ -172,7 +172,7 @@ pub fn write_type(
         0,
         0,
     ];
-    rows::table::write(&mut row, Base::PARENTS_BYTE, parents);
+    rows::table::write(&mut row, Base::PARENTS_OFFSET, parents);
     let at = Base::TYPES_AT + t * Base::TYPE_WIDTH;
     rows::table::write(base, at, &row);
 }

@@ -19,7 +19,7 @@ use Rattle.rules.specs.04-Schema.Side.{origin, destination}
 use Rattle.rules.specs.06-Good.{Good}
 use Rattle.rules.specs.07-Picture.{pad, sds-width, sds-row, type-width, type-row, presence-width, presence-row, application-width}
 use Rattle.rules.specs.07-Picture.{application-row, end-width, end-row, table, sds-table, type-table, presence-table}
-use Rattle.rules.specs.Read.{name-byte, strip, read-kind, read-presence, read-application, read-side, read-end}
+use Rattle.rules.specs.Read.{name-offset, strip, read-kind, read-presence, read-application, read-side, read-end}
 use Rattle.rules.specs.07-Picture.{application-table, end-table, picture, base-length, name-start}
 use Rattle.rules.proofs.01-Lists.{at-place, place-in}
 use Rattle.rules.proofs.03-Names.{formed-long, formed-no-zero}
@@ -228,7 +228,7 @@ module _ {s : Schema} (good : Good s) where
   unfolding presence-row pad
   presence-used p i e =
       let system : p ≡ system-presence = good .system-alone p i (ap (λ (r : List ℕ). getD r 0 0) e) in
-      let first : _≡_ {A = ℕ} 111 0 = ap (λ (r : List ℕ). getD r name-byte 0) (sym (ap presence-row system) ∙ e) in
+      let first : _≡_ {A = ℕ} 111 0 = ap (λ (r : List ℕ). getD r name-offset 0) (sym (ap presence-row system) ∙ e) in
       omega arith
 
   pub application-used : (x : Application) → x ∈ s .applications → application-row x ≡ replicate application-width 0 → ⊥

@@ -13,41 +13,41 @@ use Rattle.rules.specs.04-Schema.Side.{origin, destination}
 -- Which byte of its row holds what. The first byte is a type's kind, and the SDS of a presence, an application or an end.
 
 -- a type: its value kind or category; its reverse; the number of its parents; the first parent
-abbrev pub value-byte : ℕ
-value-byte = 1
+abbrev pub value-offset : ℕ
+value-offset = 1
 
-abbrev pub reverse-byte : ℕ
-reverse-byte = 2
+abbrev pub reverse-offset : ℕ
+reverse-offset = 2
 
-abbrev pub count-byte : ℕ
-count-byte = 3
+abbrev pub count-offset : ℕ
+count-offset = 3
 
-abbrev pub parents-byte : ℕ
-parents-byte = 4
+abbrev pub parents-offset : ℕ
+parents-offset = 4
 
 -- a presence: the first byte of its name; its type
-abbrev pub name-byte : ℕ
-name-byte = 1
+abbrev pub name-offset : ℕ
+name-offset = 1
 
-abbrev pub type-byte : ℕ
-type-byte = name-byte + limits .name
+abbrev pub type-offset : ℕ
+type-offset = name-offset + limits .name
 
 -- an application: the type that has the attribute type; the attribute type
-abbrev pub to-byte : ℕ
-to-byte = 1
+abbrev pub to-offset : ℕ
+to-offset = 1
 
-abbrev pub attribute-byte : ℕ
-attribute-byte = 2
+abbrev pub attribute-offset : ℕ
+attribute-offset = 2
 
 -- an end: the link type; the side; the object type
-abbrev pub link-byte : ℕ
-link-byte = 1
+abbrev pub link-offset : ℕ
+link-offset = 1
 
-abbrev pub side-byte : ℕ
-side-byte = 2
+abbrev pub side-offset : ℕ
+side-offset = 2
 
-abbrev pub object-byte : ℕ
-object-byte = 3
+abbrev pub object-offset : ℕ
+object-offset = 3
 
 -- what stands before the first zero
 unfoldable pub strip : List ℕ → List ℕ
@@ -58,20 +58,20 @@ strip (suc x ∷ l) = suc x ∷ strip l
 -- the kind that a row shows
 unfoldable pub read-kind : List ℕ → Kind
 read-kind r =
-    cond (eqb (getD r 0 0) 1) (object (take (getD r count-byte 0) (drop parents-byte r)))
-    (cond (eqb (getD r 0 0) 2) (attribute (getD r value-byte 0))
-    (cond (eqb (getD r 0 0) 3) (cond (eqb (getD r value-byte 0) 4) designation (paired (getD r value-byte 0) (getD r reverse-byte 0)))
+    cond (eqb (getD r 0 0) 1) (object (take (getD r count-offset 0) (drop parents-offset r)))
+    (cond (eqb (getD r 0 0) 2) (attribute (getD r value-offset 0))
+    (cond (eqb (getD r 0 0) 3) (cond (eqb (getD r value-offset 0) 4) designation (paired (getD r value-offset 0) (getD r reverse-offset 0)))
     unused))
 
 unfoldable pub read-presence : List ℕ → Presence
-read-presence r = record { sds = getD r 0 0; name = strip (take (limits .name) (drop name-byte r)); type = getD r type-byte 0 }
+read-presence r = record { sds = getD r 0 0; name = strip (take (limits .name) (drop name-offset r)); type = getD r type-offset 0 }
 
 unfoldable pub read-application : List ℕ → Application
-read-application r = record { sds = getD r 0 0; to = getD r to-byte 0; attribute = getD r attribute-byte 0 }
+read-application r = record { sds = getD r 0 0; to = getD r to-offset 0; attribute = getD r attribute-offset 0 }
 
 unfoldable pub read-side : ℕ → Side
 read-side zero = origin
 read-side (suc n) = destination
 
 unfoldable pub read-end : List ℕ → End
-read-end r = record { sds = getD r 0 0; link = getD r link-byte 0; side = read-side (getD r side-byte 0); object = getD r object-byte 0 }
+read-end r = record { sds = getD r 0 0; link = getD r link-offset 0; side = read-side (getD r side-offset 0); object = getD r object-offset 0 }

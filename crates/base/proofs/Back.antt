@@ -178,7 +178,7 @@ application-any (x ∷ y ∷ []) e = absurd (omega arith)
 application-any (x ∷ y ∷ z ∷ []) e = refl
 application-any (x ∷ y ∷ z ∷ w ∷ r) e = absurd (omega arith)
 
-applications-written : (b : List ℕ) → length b ≡ base-length → Written applications (used-rows applications b) b
+pub applications-written : (b : List ℕ) → length b ≡ base-length → Written applications (used-rows applications b) b
 applications-written b long k h =
     let at = applications .start + k * applications .width in
     application-any (row-of applications b k)

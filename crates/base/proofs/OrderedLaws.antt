@@ -13,17 +13,18 @@ use lib.Seq.{drop-at, drop-drop}
 use borrow.Author.Tests.{ltb-true, ltb-false}
 use Rattle.rules.specs.01-Lists.{_∈_, bytes-before, without, rising, put}
 use Rattle.rules.proofs.Bools.{and-both, and-of}
-use Rattle.rules.proofs.01-Lists.{place-in, before-irreflexive, before-transitive, before-connected, rising-at}
+use Rattle.rules.proofs.01-Lists.{place-in, before-irreflexive, before-transitive, before-connected, rising-at, at-rising}
 use Rattle.rules.proofs.Edits.{put-long, put-in, put-place, tail-rising, put-rising}
 use Rattle.rules.proofs.07-Picture.{zeros-long, length-table}
-use Rattle.rows.specs.Rows.{row-at}
+use Rattle.rows.specs.Rows.{row-at, Rising}
 use Rattle.rows.specs.Table.{Rises, Put-in, closed}
 use Rattle.rows.proofs.Rows.{table-part}
 use Rattle.rows.proofs.Scan.{rising-far}
 use Rattle.rows.proofs.TableLaws.{row-fits, without-at, table-opened, table-closed}
-use Rattle.base.specs.Tables.{Table, Sorted, at, end, row-of, Used, bytes-of}
+use Rattle.base.specs.Tables.{Table, Sorted, at, end, row-of, shown, Used, first-things, bytes-of, Written}
 use Rattle.base.specs.Stored.{Ordered, less-row}
 use Rattle.base.proofs.Tables.{Sorts}
+use Rattle.base.proofs.Shown.{things-long, thing-at}
 
 -- ---- a list with one element more or less
 
@@ -178,3 +179,24 @@ module _ {A : Type 0} {t : Table A} {o : Sorted t} (l : Sorts o) {rs : List A} (
       go : (j : ℕ) → j < length rs → (j ≡ i → ⊥) → (x : Bool) → q (getD rs j d) ≡ x → q (getD rs j d) ≡ false
       go j m ne true p = absurd (ne (once d j i m h (alone (getD rs j d) (place-in d rs j m) p)))
       go j m ne false p = p
+
+-- ---- the order of n rows, each as it would be written, is that of what they show
+
+module _ {A : Type 0} {t : Table A} {o : Sorted t} (l : Sorts o) (b : List ℕ) (n : ℕ) (w : Written t n b)
+    (fit : (i : ℕ) → i < n → o .Fit (shown t b i)) where
+  rows-order : (i j : ℕ) → i < n → j < n → bytes-before (row-of t b i) (row-of t b j) ≡ o .before (shown t b i) (shown t b j)
+  rows-order i j h k = (λ x. bytes-before (sym (w i h) x) (sym (w j k) x)) ∙ l .order (shown t b i) (shown t b j) (fit i h) (fit j k)
+
+  things-order : (i : ℕ) → suc i < n → o .before (getD (first-things t n b) i (t .read [])) (getD (first-things t n b) (suc i) (t .read []))
+      ≡ bytes-before (row-of t b i) (row-of t b (suc i))
+  things-order i k =
+      (λ x. o .before (thing-at t b n i (t .read []) (omega arith) x) (thing-at t b n (suc i) (t .read []) k x)) ∙ sym (rows-order i (suc i) (omega arith) k)
+
+  pub rise-things : Rising b (t .start) (t .width) (t .width) n → rising (o .before) (first-things t n b) ≡ true
+  rise-things r =
+      at-rising (o .before) (t .read []) (first-things t n b)
+      (λ i h. let k : suc i < n = omega (arith, things-long t b n) in things-order i k ∙ r i k)
+
+  pub things-rise : rising (o .before) (first-things t n b) ≡ true → Rising b (t .start) (t .width) (t .width) n
+  things-rise r i k =
+      sym (things-order i k) ∙ rising-at (o .before) (t .read []) (first-things t n b) r i (omega (arith, things-long t b n))

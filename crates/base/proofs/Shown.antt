@@ -34,10 +34,10 @@ module _ {A : Type 0} (t : Table A) (b : List ℕ) where
   row-first : (i : ℕ) → 0 < t .width → getD (row-of t b i) 0 0 ≡ getD b (at t i) 0
   row-first i h = row-byte i 0 h ∙ ap (λ (n : ℕ). getD b n 0) (add-zero (at t i))
 
-  things-long : (n : ℕ) → length (first-things t n b) ≡ n
+  pub things-long : (n : ℕ) → length (first-things t n b) ≡ n
   things-long n = length-rows (t .width) (t .read) n (drop (t .start) b)
 
-  thing-at : (n i : ℕ) (d : A) → i < n → getD (first-things t n b) i d ≡ shown t b i
+  pub thing-at : (n i : ℕ) (d : A) → i < n → getD (first-things t n b) i d ≡ shown t b i
   thing-at n i d h = rows-at (t .width) (t .read) n (drop (t .start) b) i d h ∙ ap (t .read) (from-start i)
 
   -- what a row shows, said in some other way
@@ -125,7 +125,7 @@ module _ (b : List ℕ) where
     type = row-byte presences b i type-offset (omega arith) j;
   }
 
-  application-read : (i : ℕ) → shown applications b i ≡ application-shown b i
+  pub application-read : (i : ℕ) → shown applications b i ≡ application-shown b i
   unfolding read-application
   application-read i = λ j. record {
     sds = row-first applications b i (omega arith) j;

@@ -8,6 +8,7 @@ use lib.Dec.{eqb, ltb}
 use lib.ListN.{length}
 use borrow.Author.Tests.{eqb-true, lt-ltb, le-ltb}
 use Rattle.rules.specs.01-Lists.{without, put}
+use Rattle.rules.specs.02-Limits.{limits}
 use Rattle.rules.specs.03-Names.{Name}
 use Rattle.rules.specs.04-Schema.{Schema, Application, kind-of, is-attribute, type-named, applied, is-application, application-before}
 use Rattle.rules.specs.07-Picture.{picture}
@@ -99,15 +100,15 @@ module _ {b : List ℕ} {d : ℕ} {a n : Name} {v : Asked} (x : Both b d a n v) 
 
   module _ {r : ℕ} (found : First-row (application-count b) (λ i. is-application d (v .to) (v .attribute) (application-shown b i)) r) where
     -- whether there is a row, by their count
-    row-told : {k : ℕ} → Counted (application-count b) 256 k
+    row-told : {k : ℕ} → Counted (application-count b) (limits .applications) k
         → ltb r k ≡ applied (schema-of b) d (type-named (schema-of b) d n) (type-named (schema-of b) d a)
     row-told c = same-applied (applied-row b d (v .to) (v .attribute) (c .is) found)
 
-    pub row-none : {k : ℕ} → Counted (application-count b) 256 k → k ≤ r
+    pub row-none : {k : ℕ} → Counted (application-count b) (limits .applications) k → k ≤ r
         → not (applied (schema-of b) d (type-named (schema-of b) d n) (type-named (schema-of b) d a)) ≡ true
     row-none {k} c h = ap not (sym (row-told c) ∙ le-ltb r k h)
 
-    pub row-some : {k : ℕ} → Counted (application-count b) 256 k → r < k
+    pub row-some : {k : ℕ} → Counted (application-count b) (limits .applications) k → r < k
         → not (applied (schema-of b) d (type-named (schema-of b) d n) (type-named (schema-of b) d a)) ≡ false
     row-some {k} c h = ap not (sym (row-told c) ∙ lt-ltb r k h)
 
@@ -127,7 +128,7 @@ module _ {b : List ℕ} {d : ℕ} {a n : Name} {v : Asked} (x : Both b d a n v) 
         ∙ same-types (λ t u. picture (less-application d t u (schema-of b)))
 
 -- room for one more
-module _ (b : List ℕ) {k : ℕ} (c : Counted (application-count b) 256 k) where
+module _ (b : List ℕ) {k : ℕ} (c : Counted (application-count b) (limits .applications) k) where
   pub full : 256 ≤ k → applications-full (schema-of b) 1 ≡ true
   unfolding applications-full
   full h = lt-ltb 256 (length ((schema-of b) .applications) + 1) (omega (arith, applications-long b, c .is))

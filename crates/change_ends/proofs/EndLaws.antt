@@ -8,6 +8,7 @@ use lib.Dec.{ltb}
 use lib.ListN.{length}
 use borrow.Author.Tests.{eq-eqb, ne-eqb, ltb-true, ltb-false, lt-ltb, le-ltb}
 use Rattle.rules.specs.01-Lists.{any, all, without, put}
+use Rattle.rules.specs.02-Limits.{limits}
 use Rattle.rules.specs.03-Names.{Name}
 use Rattle.rules.specs.04-Schema.{Schema, Side, End, kind-of, is-link, is-object, reverse, with-reverse, type-named}
 use Rattle.rules.specs.04-Schema.{other-side, is-end, has-end, end-before}
@@ -98,7 +99,7 @@ aimed-passes {b} {d} {n} {m} aimed z {o} rest effect left =
 
 -- ---- room for the ends of a link type and its reverse
 
-module _ (b : List ℕ) {r k : ℕ} (c : Counted (end-count b) 512 k) where
+module _ (b : List ℕ) {r k : ℕ} (c : Counted (end-count b) (limits .ends) k) where
   pub full-two : r < 128 → ltb 512 (k + 2) ≡ ends-full (schema-of b) (suc (length (one-or-none r)))
   unfolding ends-full
   full-two h =
@@ -243,7 +244,7 @@ pub remove-tests : {b : List ℕ} {d : ℕ} {n m : Name} {v : Aim} → Aimed b d
 remove-tests {b} {d} {n} {m} aimed z side =
     aimed-passes aimed z (λ l o. remove-rest side d l o (schema-of b)) (λ l o. done 0 0 0 (removed side d l o (schema-of b))) (remove-left side d n m (schema-of b))
 
-module _ {b : List ℕ} {d l o row k : ℕ} {side : Side} (count : Counted (end-count b) 512 k) (place : End-place b d l side o row) where
+module _ {b : List ℕ} {d l o row k : ℕ} {side : Side} (count : Counted (end-count b) (limits .ends) k) (place : End-place b d l side o row) where
   pub row-none : k ≤ row → not (has-end (schema-of b) d l side o) ≡ true
   row-none h = ap not (sym (end-place-has (count .is) place) ∙ le-ltb row k h)
 

@@ -7,6 +7,7 @@ ghost use mathlib.Core.Bool.{true, false, not, _&&_, _||_};
 ghost use Prim.Native.Nat.{_<_};
 ghost use lib.Dec.{eqb};
 ghost use lib.ListN.{length};
+ghost use Rattle.rules.specs.02-Limits.{limits};
 ghost use Rattle.rules.specs.03-Names.{well-formed, blank};
 ghost use Rattle.rules.specs.04-Schema.{present};
 ghost use Rattle.rules.specs.07-Picture.{Sound, base-length};
@@ -143,7 +144,7 @@ fn filled(base: &[u8], source: usize, t: usize, new: &[u8]) -> [u8; Limits::NAME
 // Type t comes into SDS d.
 fn enter_one(base: &mut [u8], d: usize, name: &[u8], t: usize) -> Answer
     requires { ⌜ Sound (now base) ⌝ }
-    requires { ⌜ (d < 16) × (t < 128) ⌝ }
+    requires { ⌜ (d < limits .sdss) × (t < limits .types) ⌝ }
     requires { ⌜ well-formed (now name) ≡ true ⌝ }
     ensures { λ a. ⌜ Kept (now (base .entry)) (enter d (presence-of d (now (name .entry)) t ∷ []) t 0) a (now (base .exit)) ⌝ }
 {
@@ -160,7 +161,7 @@ fn enter_one(base: &mut [u8], d: usize, name: &[u8], t: usize) -> Answer
 // Type t comes into SDS d, and with it its reverse r, under the other name.
 fn enter_both(base: &mut [u8], d: usize, name: &[u8], t: usize, other: &[u8], r: usize) -> Answer
     requires { ⌜ Sound (now base) ⌝ }
-    requires { ⌜ (d < 16) × ((t < 128) × (r < 128)) ⌝ }
+    requires { ⌜ (d < limits .sdss) × ((t < limits .types) × (r < 128)) ⌝ }
     requires { ⌜ well-formed (now name) ≡ true ⌝ }
     requires { ⌜ well-formed (now other) ≡ true ⌝ }
     ensures { λ a. ⌜ Kept (now (base .entry))

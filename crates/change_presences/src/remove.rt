@@ -5,6 +5,7 @@ ghost use mathlib.Core.Path.{_≡_};
 ghost use mathlib.Core.List.{[], _∷_};
 ghost use Prim.Native.Nat.{_≤_, _<_};
 ghost use Rattle.rules.specs.01-Lists.{any};
+ghost use Rattle.rules.specs.02-Limits.{limits};
 ghost use Rattle.rules.specs.07-Picture.{Sound};
 ghost use Rattle.rules.specs.09-Refusals.{still-used};
 ghost use Rattle.rules.specs.10-Changes.{less-gone, remove-type};
@@ -41,7 +42,7 @@ fn take_out(base: &mut [u8], d: usize, t: usize)
 // Type t goes where it is in no SDS any more.
 fn drop_if_gone(base: &mut [u8], t: usize)
     requires { ⌜ Stored (now base) ⌝ }
-    requires { ⌜ t < 128 ⌝ }
+    requires { ⌜ t < limits .types ⌝ }
     ensures { λ _. ⌜ Shows (now (base .exit)) (less-gone (t ∷ []) (schema-of (now (base .entry)))) ⌝ }
 {
     if !conditions::is_elsewhere(base, t) {

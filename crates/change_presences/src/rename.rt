@@ -3,6 +3,7 @@ use rules::Answer;
 use rules::Limits;
 ghost use mathlib.Core.Path.{_≡_};
 ghost use Prim.Native.Nat.{_<_};
+ghost use Rattle.rules.specs.02-Limits.{limits};
 ghost use Rattle.rules.specs.07-Picture.{Sound};
 ghost use Rattle.rules.specs.09-Refusals.{borne-by-another};
 ghost use Rattle.rules.specs.10-Changes.{rename};
@@ -11,7 +12,7 @@ ghost use Rattle.base.specs.Back.{schema-of};
 
 // Whether a type other than t bears the name in SDS d.
 fn is_borne_by_another(base: &[u8], d: usize, t: usize, name: &[u8]) -> bool
-    requires { ⌜ Sound (now base) × (d < 16) ⌝ }
+    requires { ⌜ Sound (now base) × (d < limits .sdss) ⌝ }
     ensures { λ r. ⌜ r ≡ borne-by-another (schema-of (now (base .entry))) d t (now (name .entry)) ⌝ }
 {
     let other = lookup::named::type_in(base, d, name);

@@ -11,6 +11,7 @@ use Rattle.rules.specs.01-Lists.{any}
 use Rattle.rules.specs.04-Schema.{Side, parents, is-parent, holds-type, present, is-application, applied, is-end, has-end}
 use Rattle.rules.specs.07-Picture.{Sound}
 use Rattle.rules.specs.09-Refusals.{not-present, missing-parent}
+use Rattle.rules.specs.Read.{count-offset, parents-offset}
 use Rattle.rules.proofs.01-Lists.{any-at, any-there, any-nowhere}
 use Rattle.base.specs.Rows.{type-at}
 use Rattle.base.specs.Back.{schema-of, presence-count, application-count, end-count, application-shown}
@@ -22,32 +23,32 @@ use Rattle.lookup.proofs.Parents.{good-parental, parents-count, parents-place}
 -- ---- types
 
 -- the parents of t by the places of its row: n of them
-module _ {b : List ℕ} (s : Sound b) {t n : ℕ} (h : t < 128) (count : n ≡ getD b (type-at t + 3) 0) (p : ℕ → Bool) where
-  some-parent : (i : ℕ) → i < n → p (getD b (type-at t + 4 + i) 0) ≡ true → true ≡ any p (parents (schema-of b) t)
+module _ {b : List ℕ} (s : Sound b) {t n : ℕ} (h : t < 128) (count : n ≡ getD b (type-at t + count-offset) 0) (p : ℕ → Bool) where
+  some-parent : (i : ℕ) → i < n → p (getD b (type-at t + parents-offset + i) 0) ≡ true → true ≡ any p (parents (schema-of b) t)
   some-parent i u e =
       sym (any-there p (parents (schema-of b) t) i (omega (arith, parents-count (good-parental s) t h))
       (ap p (parents-place (good-parental s) t h i (omega arith)) ∙ e))
 
-  no-parent : ((i : ℕ) → i < n → p (getD b (type-at t + 4 + i) 0) ≡ false) → false ≡ any p (parents (schema-of b) t)
+  no-parent : ((i : ℕ) → i < n → p (getD b (type-at t + parents-offset + i) 0) ≡ false) → false ≡ any p (parents (schema-of b) t)
   no-parent none =
       sym (any-nowhere p (parents (schema-of b) t) (λ i u.
       let l : i < n = omega (arith, parents-count (good-parental s) t h) in
       ap p (parents-place (good-parental s) t h i (omega arith)) ∙ none i l))
 
-module _ {b : List ℕ} (s : Sound b) {t n : ℕ} (h : t < 128) (count : n ≡ getD b (type-at t + 3) 0) (a : ℕ) where
-  pub parent-here : (i x : ℕ) → i < n → x ≡ getD b (type-at t + 4 + i) 0 → x ≡ a → true ≡ is-parent (schema-of b) t a
+module _ {b : List ℕ} (s : Sound b) {t n : ℕ} (h : t < 128) (count : n ≡ getD b (type-at t + count-offset) 0) (a : ℕ) where
+  pub parent-here : (i x : ℕ) → i < n → x ≡ getD b (type-at t + parents-offset + i) 0 → x ≡ a → true ≡ is-parent (schema-of b) t a
   unfolding is-parent
-  parent-here i x u e q = some-parent s h count (eqb a) i u (eq-eqb a (getD b (type-at t + 4 + i) 0) (sym q ∙ e))
+  parent-here i x u e q = some-parent s h count (eqb a) i u (eq-eqb a (getD b (type-at t + parents-offset + i) 0) (sym q ∙ e))
 
-  pub parent-nowhere : ((i : ℕ) → i < n → getD b (type-at t + 4 + i) 0 ≡ a → ⊥) → false ≡ is-parent (schema-of b) t a
+  pub parent-nowhere : ((i : ℕ) → i < n → getD b (type-at t + parents-offset + i) 0 ≡ a → ⊥) → false ≡ is-parent (schema-of b) t a
   unfolding is-parent
-  parent-nowhere none = no-parent s h count (eqb a) (λ i u. ne-eqb a (getD b (type-at t + 4 + i) 0) (λ q. none i u (sym q)))
+  parent-nowhere none = no-parent s h count (eqb a) (λ i u. ne-eqb a (getD b (type-at t + parents-offset + i) 0) (λ q. none i u (sym q)))
 
-  pub missing-here : (i : ℕ) → i < n → present (schema-of b) a (getD b (type-at t + 4 + i) 0) ≡ false → true ≡ missing-parent (schema-of b) a t
+  pub missing-here : (i : ℕ) → i < n → present (schema-of b) a (getD b (type-at t + parents-offset + i) 0) ≡ false → true ≡ missing-parent (schema-of b) a t
   unfolding missing-parent not-present
   missing-here i u e = some-parent s h count (not-present (schema-of b) a) i u (ap not e)
 
-  pub missing-nowhere : ((i : ℕ) → i < n → present (schema-of b) a (getD b (type-at t + 4 + i) 0) ≡ true) → false ≡ missing-parent (schema-of b) a t
+  pub missing-nowhere : ((i : ℕ) → i < n → present (schema-of b) a (getD b (type-at t + parents-offset + i) 0) ≡ true) → false ≡ missing-parent (schema-of b) a t
   unfolding missing-parent not-present
   missing-nowhere none = no-parent s h count (not-present (schema-of b) a) (λ i u. ap not (none i u))
 

@@ -5,6 +5,7 @@ ghost use Prim.Native.Nat.{_<_};
 ghost use lib.Dec.{eqb};
 ghost use lib.ListN.{length};
 ghost use Rattle.rules.specs.01-Lists.{any};
+ghost use Rattle.rules.specs.02-Limits.{limits};
 ghost use Rattle.rules.specs.04-Schema.{present, is-parent, applied, has-end};
 ghost use Rattle.rules.specs.07-Picture.{Sound, base-length};
 ghost use Rattle.rules.specs.09-Refusals.{missing-parent};
@@ -16,7 +17,7 @@ ghost use Rattle.conditions.specs.Reverse.{Reverse-of};
 
 // Whether a is a parent of type t.
 pub fn is_parent(base: &[u8], t: usize, a: usize) -> bool
-    requires { ⌜ Sound (now base) × (t < 128) ⌝ }
+    requires { ⌜ Sound (now base) × (t < limits .types) ⌝ }
     ensures { λ r. ⌜ r ≡ is-parent (schema-of (now (base .entry))) t a ⌝ }
 {
     let n = base::parent_count(base, t);
@@ -32,7 +33,7 @@ pub fn is_parent(base: &[u8], t: usize, a: usize) -> bool
 
 // The reverse of type t, or as many as there are types where it has none.
 pub fn reverse_of(base: &[u8], t: usize) -> usize
-    requires { ⌜ Sound (now base) × (t < 128) ⌝ }
+    requires { ⌜ Sound (now base) × (t < limits .types) ⌝ }
     ensures { λ r. ⌜ Reverse-of (schema-of (now (base .entry))) t r ⌝ }
 {
     if base::kind(base, t) != 3 {
@@ -72,7 +73,7 @@ pub fn is_elsewhere(base: &[u8], t: usize) -> bool
 
 // Whether some parent of type t is not in the target.
 pub fn is_parent_missing(base: &[u8], target: usize, t: usize) -> bool
-    requires { ⌜ Sound (now base) × (t < 128) ⌝ }
+    requires { ⌜ Sound (now base) × (t < limits .types) ⌝ }
     ensures { λ r. ⌜ r ≡ missing-parent (schema-of (now (base .entry))) target t ⌝ }
 {
     let n = base::parent_count(base, t);

@@ -15,6 +15,7 @@ use Rattle.rules.specs.01-Lists.{_∈_, numbers}
 use Rattle.rules.specs.04-Schema.{Schema}
 use Rattle.rules.specs.05-Descent.{Parent, Descends, members}
 use Rattle.rules.specs.05-Descent.Descends.{by-parent, by-step}
+use Rattle.rules.specs.Read.{count-offset, parents-offset}
 use Rattle.rules.proofs.Bools.{or-cases, or-left, or-right}
 use Rattle.rules.proofs.01-Lists.{Different}
 use Rattle.rules.proofs.05-Descent.{past, members-at-most, members-most}
@@ -103,10 +104,10 @@ module _ {s : Schema} where
 module _ {b : List ℕ} (rows : Parental b) where
   -- a type is ready where each place below its count holds a type that is in
   module _ (p : ℕ → Bool) (t : ℕ) (h : t < 128) where
-    pub lacks-parent : (i : ℕ) → i < getD b (type-at t + 3) 0 → p (getD b (type-at t + 4 + i) 0) ≡ false → Ready (schema-of b) p t → ⊥
+    pub lacks-parent : (i : ℕ) → i < getD b (type-at t + count-offset) 0 → p (getD b (type-at t + parents-offset + i) 0) ≡ false → Ready (schema-of b) p t → ⊥
     lacks-parent i l e w = false≢true (sym e ∙ w .parents _ (parent-at rows t h i l))
 
-    pub has-parents : object-in b t ≡ true → ((i : ℕ) → i < getD b (type-at t + 3) 0 → p (getD b (type-at t + 4 + i) 0) ≡ true) → Ready (schema-of b) p t
+    pub has-parents : object-in b t ≡ true → ((i : ℕ) → i < getD b (type-at t + count-offset) 0 → p (getD b (type-at t + parents-offset + i) 0) ≡ true) → Ready (schema-of b) p t
     has-parents o f = record { object = o; parents = λ a by. let (i, l, e) = parent-place rows t h a by in rw e at (f i l) }
 
   abbrev Acyclic : Type 0

@@ -5,6 +5,7 @@ use type_set::TypeSet;
 ghost use mathlib.Core.Path.{_≡_};
 ghost use Prim.Native.Nat.{ℕ, _<_};
 ghost use lib.ListN.{length};
+ghost use Rattle.rules.specs.02-Limits.{limits};
 ghost use Rattle.rules.specs.05-Descent.{Descends, members};
 ghost use Rattle.rules.specs.07-Picture.{base-length};
 ghost use Rattle.rows.specs.Decides.{Decides};
@@ -38,7 +39,7 @@ fn object_count(base: &[u8]) -> usize
 
 // Whether `t` is an object type whose parents are all in `s`.
 fn is_ready(base: &[u8], t: usize, s: TypeSet) -> bool
-    requires { ⌜ Parental (now base) × (t < 128) ⌝ }
+    requires { ⌜ Parental (now base) × (t < limits .types) ⌝ }
     ensures { λ r. ⌜ Decides (Ready (schema-of (now (base .entry))) (has s) t) r ⌝ }
 {
     if !is_object(base, t) {

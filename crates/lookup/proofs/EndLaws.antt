@@ -8,16 +8,20 @@ use lib.Dec.{ltb}
 use lib.ListN.{length, getD}
 use borrow.Author.Tests.{ltb-true, ltb-false}
 use Rattle.rules.specs.01-Lists.{bytes-before}
+use Rattle.rules.specs.02-Limits.{limits}
+use Rattle.rules.specs.07-Picture.{base-length, end-width}
+use Rattle.rules.specs.Read.{link-offset, object-offset, side-offset}
 use Rattle.rules.proofs.01-Lists.{before-irreflexive}
-use Rattle.rows.specs.Rows.{part, Rising}
+use Rattle.rows.specs.Rows.{part}
 use Rattle.rows.specs.Table.{Rises, Place}
 use Rattle.rows.proofs.Scan.{part-cons, rising-far}
+use Rattle.base.specs.Tables.{In-order, by-end, ends}
 use Rattle.base.specs.Rows.{end-at, End-row}
 use Rattle.lookup.specs.Found.{End-at, End-found}
 
 -- the bytes of an end
-pub end-bytes : (b : List ℕ) (i : ℕ) → end-at i + 4 ≤ length b
-    → part b (end-at i) 4 ≡ getD b (end-at i) 0 ∷ getD b (end-at i + 1) 0 ∷ getD b (end-at i + 2) 0 ∷ getD b (end-at i + 3) 0 ∷ []
+pub end-bytes : (b : List ℕ) (i : ℕ) → end-at i + end-width ≤ length b
+    → part b (end-at i) end-width ≡ getD b (end-at i) 0 ∷ getD b (end-at i + link-offset) 0 ∷ getD b (end-at i + side-offset) 0 ∷ getD b (end-at i + object-offset) 0 ∷ []
 end-bytes b i h =
     let at = end-at i in
     let two : at + 1 + 1 ≡ at + 2 = omega arith in
@@ -27,8 +31,8 @@ end-bytes b i h =
     ∙ ap (λ (l : List ℕ). getD b (at + 1) 0 ∷ l) (rw two (part-cons b (at + 2) 2 1 (omega arith) refl
     ∙ ap (λ (l : List ℕ). getD b (at + 2) 0 ∷ l) (rw three (part-cons b (at + 3) 1 0 (omega arith) refl)))))
 
-pub ends-rises : (b : List ℕ) (n : ℕ) → length b ≡ 13312 → n ≤ 512 → Rising b 11264 4 4 n → Rises b 11264 4 n
-ends-rises b n l m r = record { room = omega arith; rise = rising-far b 11264 4 4 n r }
+pub ends-rises : (b : List ℕ) (n : ℕ) → length b ≡ base-length → n ≤ limits .ends → In-order by-end b n → Rises b (ends .start) (ends .width) n
+ends-rises b n l m r = record { room = omega arith; rise = rising-far b (ends .start) (ends .width) (by-end .key) n r }
 
 module _ {b : List ℕ} {n d l s o r : ℕ} where
   pub end-row-of : End-at b n r d l s o → End-row b n d l s o
@@ -37,9 +41,9 @@ module _ {b : List ℕ} {n d l s o r : ℕ} where
   pub end-found-at : End-at b n r d l s o → End-found b n d l s o r
   end-found-at e = record { found = λ h. e; none = λ h x. let u = e .below in absurd (omega arith) }
 
-module _ {b : List ℕ} {n d l s o r : ℕ} (long : length b ≡ 13312) (few : n ≤ 512) (rise : Rising b 11264 4 4 n)
+module _ {b : List ℕ} {n d l s o r : ℕ} (long : length b ≡ base-length) (few : n ≤ limits .ends) (rise : In-order by-end b n)
     (small : (d < 256) × ((l < 256) × ((s < 256) × (o < 256))))
-    (p : Place b 11264 n (d % 256 ∷ l % 256 ∷ s % 256 ∷ o % 256 ∷ []) r) where
+    (p : Place b (ends .start) n (d % 256 ∷ l % 256 ∷ s % 256 ∷ o % 256 ∷ []) r) where
   key : List ℕ
   key = d ∷ l ∷ s ∷ o ∷ []
 
@@ -55,7 +59,7 @@ module _ {b : List ℕ} {n d l s o r : ℕ} (long : length b ≡ 13312) (few : n
       let h : o % 256 ≡ o = omega arith in
       λ i. e i ∷ f i ∷ g i ∷ h i ∷ []
 
-  row-key : (x : End-row b n d l s o) → part b (end-at (x .place)) 4 ≡ sought
+  row-key : (x : End-row b n d l s o) → part b (end-at (x .place)) end-width ≡ sought
   unfolding key
   row-key x =
       let u = x .below in
@@ -70,8 +74,8 @@ module _ {b : List ℕ} {n d l s o r : ℕ} (long : length b ≡ 13312) (few : n
       go false q true w =
           let u = x .below in
           let less = ltb-true r (x .place) w in
-          absurd (true≢false (sym (rising-far b 11264 4 4 n rise r (x .place) less u)
-          ∙ ap (bytes-before (part b (end-at r) 4)) (row-key x) ∙ p .later r (omega arith) (omega arith)))
+          absurd (true≢false (sym (rising-far b (ends .start) (ends .width) (by-end .key) n rise r (x .place) less u)
+          ∙ ap (bytes-before (part b (end-at r) end-width)) (row-key x) ∙ p .later r (omega arith) (omega arith)))
       go false q false w = omega (arith, ltb-false (x .place) r q, ltb-false r (x .place) w)
 
   pub end-found-none : (End-at b n r d l s o → ⊥) → End-found b n d l s o n

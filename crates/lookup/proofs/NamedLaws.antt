@@ -10,6 +10,7 @@ use Rattle.rules.specs.03-Names.{Name, same-name}
 use Rattle.rules.specs.04-Schema.{Schema, Presence, system-presence, holds-name, bears, type-named}
 use Rattle.rules.specs.06-Good.{Good}
 use Rattle.rules.specs.11-Asks.{place}
+use Rattle.rules.specs.Read.{type-offset}
 use Rattle.rules.proofs.01-Lists.{any-at, any-none}
 use Rattle.rules.proofs.05-Descent.{used-below}
 use Rattle.rules.proofs.11-Asks.{place-is, first-at}
@@ -43,7 +44,7 @@ module _ {b : List ℕ} {d : ℕ} {n : Name} {r : ℕ} (row : Named-row b (prese
     bears-it = any-at (holds-name d n) (presence-there b r h) (row .found h)
 
     -- the type of the row is the one that bears the name
-    pub type-is : getD b (presence-at r + 17) 0 ≡ type-named (schema-of b) d n
+    pub type-is : getD b (presence-at r + type-offset) 0 ≡ type-named (schema-of b) d n
     unfolding bears type-named
     type-is =
         let ps = (schema-of b) .presences in
@@ -55,12 +56,12 @@ module _ {b : List ℕ} {d : ℕ} {n : Name} {r : ℕ} (row : Named-row b (prese
         ∙ ap (λ (k : ℕ). getD ps k system-presence) at ∙ presence-is b r system-presence h))
 
 -- a row's type is below 128
-pub type-below : (b : List ℕ) → Good (schema-of b) → (i : ℕ) → i < presence-count b → getD b (presence-at i + 17) 0 < 128
+pub type-below : (b : List ℕ) → Good (schema-of b) → (i : ℕ) → i < presence-count b → getD b (presence-at i + type-offset) 0 < 128
 type-below b good i h = used-below good _ (good .presence-type (presence-shown b i) (presence-there b i h))
 
 -- what the search says of SDS d, whether it found a row or none
 module _ {b : List ℕ} {d : ℕ} {n : Name} {r : ℕ} (row : Named-row b (presence-count b) d n r) where
-  pub named-here : Good (schema-of b) → (h : r < presence-count b) (t : ℕ) → t ≡ getD b (presence-at r + 17) 0 → Named-in (schema-of b) d n t
+  pub named-here : Good (schema-of b) → (h : r < presence-count b) (t : ℕ) → t ≡ getD b (presence-at r + type-offset) 0 → Named-in (schema-of b) d n t
   named-here good h t e = record {
     found = λ q. (omega (arith, type-below b good r h), e ∙ type-is row h);
     none = λ q. absurd (true≢false (sym (bears-it row h) ∙ q));

@@ -10,10 +10,10 @@ use borrow.Author.Tests.{ltb-true, ltb-false}
 use Rattle.rules.specs.04-Schema.{Kind, kind-of, is-object, parents, parents-in}
 use Rattle.rules.specs.04-Schema.Kind.{unused, object, attribute, designation, paired}
 use Rattle.rules.specs.05-Descent.{Parent}
-use Rattle.rules.specs.07-Picture.{pad, type-row, Sound}
+use Rattle.rules.specs.07-Picture.{pad, type-row, Sound, type-width}
 use Rattle.rules.proofs.01-Lists.{at-place, place-in}
 use Rattle.rules.proofs.07-Picture.{take-pad}
-use Rattle.rules.specs.Read.{read-kind}
+use Rattle.rules.specs.Read.{read-kind, count-offset, parents-offset}
 use Rattle.rows.specs.Rows.{part}
 use Rattle.rows.proofs.Rows.{part-byte, part-part}
 use Rattle.base.specs.Rows.{type-at}
@@ -88,41 +88,41 @@ module _ {b : List ℕ} (rows : Parental b) where
     shown = ap parents-in (kind-is b t h)
 
     -- the byte of the count
-    counted : getD b (type-at t + 3) 0 ≡ length (parents-in (kind-shown b t))
+    counted : getD b (type-at t + count-offset) 0 ≡ length (parents-in (kind-shown b t))
     counted =
         sym (part-byte b (type-at t) 8 3 (omega arith)) ∙ ap (λ (r : List ℕ). getD r 3 0) (sym (rows .type-rows t h))
         ∙ written-count (kind-shown b t)
 
     few : length (parents-in (kind-shown b t)) ≤ 4
-    few = read-few (part b (type-at t) 8) (omega (arith, length-take 8 (drop (type-at t) b)))
+    few = read-few (part b (type-at t) type-width) (omega (arith, length-take 8 (drop (type-at t) b)))
 
-    pub count-few : getD b (type-at t + 3) 0 ≤ 4
+    pub count-few : getD b (type-at t + count-offset) 0 ≤ 4
     count-few = omega (arith, counted, few)
 
     -- the parents stand behind it
-    parents-are : parents-in (kind-shown b t) ≡ part b (type-at t + 4) (length (parents-in (kind-shown b t)))
+    parents-are : parents-in (kind-shown b t) ≡ part b (type-at t + parents-offset) (length (parents-in (kind-shown b t)))
     parents-are =
         let n = length (parents-in (kind-shown b t)) in
         sym (written-parents (kind-shown b t) few) ∙ ap (λ (r : List ℕ). part r 4 n) (rows .type-rows t h)
-        ∙ part-part b (type-at t) 8 4 n (omega (arith, few))
+        ∙ part-part b (type-at t) type-width 4 n (omega (arith, few))
 
-    parent-byte : (i : ℕ) → i < length (parents-in (kind-shown b t)) → getD (parents-in (kind-shown b t)) i 0 ≡ getD b (type-at t + 4 + i) 0
-    parent-byte i l = ap (λ (r : List ℕ). getD r i 0) parents-are ∙ part-byte b (type-at t + 4) (length (parents-in (kind-shown b t))) i l
+    parent-byte : (i : ℕ) → i < length (parents-in (kind-shown b t)) → getD (parents-in (kind-shown b t)) i 0 ≡ getD b (type-at t + parents-offset + i) 0
+    parent-byte i l = ap (λ (r : List ℕ). getD r i 0) parents-are ∙ part-byte b (type-at t + parents-offset) (length (parents-in (kind-shown b t))) i l
 
     -- the list of the parents, by its length and its places
-    pub parents-count : length (parents (schema-of b) t) ≡ getD b (type-at t + 3) 0
+    pub parents-count : length (parents (schema-of b) t) ≡ getD b (type-at t + count-offset) 0
     parents-count = ap length shown ∙ sym counted
 
-    pub parents-place : (i : ℕ) → i < getD b (type-at t + 3) 0 → getD (parents (schema-of b) t) i 0 ≡ getD b (type-at t + 4 + i) 0
+    pub parents-place : (i : ℕ) → i < getD b (type-at t + count-offset) 0 → getD (parents (schema-of b) t) i 0 ≡ getD b (type-at t + parents-offset + i) 0
     parents-place i l = ap (λ (r : List ℕ). getD r i 0) shown ∙ parent-byte i (omega (arith, counted))
 
     -- what stands at a place below the count is a parent, and every parent stands at such a place
-    pub parent-at : (i : ℕ) → i < getD b (type-at t + 3) 0 → Parent (schema-of b) t (getD b (type-at t + 4 + i) 0)
+    pub parent-at : (i : ℕ) → i < getD b (type-at t + count-offset) 0 → Parent (schema-of b) t (getD b (type-at t + parents-offset + i) 0)
     parent-at i l =
         let l′ : i < length (parents-in (kind-shown b t)) = omega (arith, counted) in
         record { listed = rw (shown, ← parent-byte i l′) (place-in 0 (parents-in (kind-shown b t)) i l′) }
 
-    pub parent-place : (a : ℕ) → Parent (schema-of b) t a → (i : ℕ) × (i < getD b (type-at t + 3) 0) × (getD b (type-at t + 4 + i) 0 ≡ a)
+    pub parent-place : (a : ℕ) → Parent (schema-of b) t a → (i : ℕ) × (i < getD b (type-at t + count-offset) 0) × (getD b (type-at t + parents-offset + i) 0 ≡ a)
     parent-place a by =
         let (i, l, e) = at-place 0 (rw shown at (by .listed)) in
         (i, omega (arith, counted), sym (parent-byte i l) ∙ e)

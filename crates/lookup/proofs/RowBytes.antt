@@ -5,10 +5,12 @@ use mathlib.Core.Path.{_≡_, sym, ap, _∙_}
 use mathlib.Core.List.{List}
 use mathlib.Core.Bool.{true, _&&_}
 use lib.Dec.{eqb}
-use lib.ListN.{getD, drop}
+use lib.ListN.{getD}
 use borrow.Author.Tests.{eqb-true}
+use Rattle.rules.specs.02-Limits.{limits}
 use Rattle.rules.specs.04-Schema.{End, holds-type, present, side-code}
-use Rattle.rules.specs.07-Picture.{Sound, end-row}
+use Rattle.rules.specs.07-Picture.{Sound, end-row, end-width}
+use Rattle.rules.specs.Read.{attribute-offset, link-offset, object-offset, side-offset, to-offset, type-offset}
 use Rattle.rules.proofs.Bools.{and-both}
 use Rattle.rules.proofs.01-Lists.{any-where}
 use Rattle.rules.proofs.05-Descent.{used-below}
@@ -17,16 +19,16 @@ use Rattle.rows.proofs.Rows.{part-byte}
 use Rattle.base.specs.Tables.{applications, ends}
 use Rattle.base.specs.Rows.{presence-at, application-at, end-at}
 use Rattle.base.specs.Back.{schema-of, presence-count, application-count, end-count, application-shown, end-shown}
-use Rattle.base.proofs.Back.{sound-canonical, sound-good}
+use Rattle.base.proofs.Back.{rows-few, sound-canonical, sound-good}
 use Rattle.base.proofs.Kept.{sound-long}
 use Rattle.base.proofs.Shown.{presence-there, application-there, end-there, end-read}
 use Rattle.lookup.proofs.SdsShown as SdsShown
 
 module _ (b : List ℕ) where
-  pub few-applications : application-count b ≤ 256
+  pub few-applications : application-count b ≤ limits .applications
   few-applications = rows-few applications b
 
-  pub few-ends : end-count b ≤ 512
+  pub few-ends : end-count b ≤ limits .ends
   few-ends = rows-few ends b
 
 module _ {b : List ℕ} (s : Sound b) where
@@ -43,23 +45,23 @@ module _ {b : List ℕ} (s : Sound b) where
       let (x, y) = and-both (present (schema-of b) d t) (present (schema-of b) d u) e in
       (small d t x .0, (small d t x .1, small d u y .1))
 
-  pub presence-small : (i : ℕ) → i < presence-count b → (getD b (presence-at i) 0 < 128) × (getD b (presence-at i + 17) 0 < 128)
+  pub presence-small : (i : ℕ) → i < presence-count b → (getD b (presence-at i) 0 < 128) × (getD b (presence-at i + type-offset) 0 < 128)
   presence-small i h =
       let m = presence-there b i h in (
         omega (arith, SdsShown.used-below b (sound-long s) (getD b (presence-at i) 0) (sound-good s .presence-sds _ m)),
-        used-below (sound-good s) (getD b (presence-at i + 17) 0) (sound-good s .presence-type _ m),
+        used-below (sound-good s) (getD b (presence-at i + type-offset) 0) (sound-good s .presence-type _ m),
       )
 
   pub application-small : (i : ℕ) → i < application-count b
-      → (getD b (application-at i) 0 < 128) × ((getD b (application-at i + 1) 0 < 128) × (getD b (application-at i + 2) 0 < 128))
+      → (getD b (application-at i) 0 < 128) × ((getD b (application-at i + to-offset) 0 < 128) × (getD b (application-at i + attribute-offset) 0 < 128))
   application-small i h = both _ _ _ (sound-good s .application-present (application-shown b i) (application-there b i h))
 
-  pub end-small : (i : ℕ) → i < end-count b → (getD b (end-at i) 0 < 128) × ((getD b (end-at i + 1) 0 < 128) × (getD b (end-at i + 3) 0 < 128))
+  pub end-small : (i : ℕ) → i < end-count b → (getD b (end-at i) 0 < 128) × ((getD b (end-at i + link-offset) 0 < 128) × (getD b (end-at i + object-offset) 0 < 128))
   end-small i h = both _ _ _ (sound-good s .end-present (end-shown b i) (end-there b i h))
 
   -- the byte of a side is its code
-  pub side-byte : (i : ℕ) → i < end-count b → getD b (end-at i + 2) 0 ≡ side-code ((end-shown b i) .side)
+  pub side-byte : (i : ℕ) → i < end-count b → getD b (end-at i + side-offset) 0 ≡ side-code ((end-shown b i) .side)
   unfolding end-row
   side-byte i h =
-      sym (part-byte b (end-at i) 4 2 (omega arith)) ∙ ap (λ (r : List ℕ). getD r 2 0) (sym (sound-canonical s .end-rows i h))
+      sym (part-byte b (end-at i) end-width side-offset (omega arith)) ∙ ap (λ (r : List ℕ). getD r side-offset 0) (sym (sound-canonical s .end-rows i h))
       ∙ ap (λ (e : End). side-code (e .side)) (end-read b i)

@@ -8,8 +8,10 @@ use lib.Dec.{leb, ltb, eqb, eqb·suc-zero}
 use lib.ListN.{length, getD}
 use borrow.Author.Tests.{ltb-true, ltb-false, le-ltb, eq-eqb, ne-eqb, lt-leb}
 use Rattle.rules.specs.01-Lists.{numbers}
+use Rattle.rules.specs.02-Limits.{limits}
 use Rattle.rules.specs.03-Names.{Name, well-formed, blank, same-name}
 use Rattle.rules.specs.04-Schema.{Presence, sds-name, used-sds}
+use Rattle.rules.specs.07-Picture.{base-length}
 use Rattle.rules.specs.09-Refusals.{unknown-sds, sds-name-taken, holds-presence, free-sdss, no-free-sds}
 use Rattle.rules.specs.10-Changes.{new-sds-number}
 use Rattle.rules.proofs.Bools.{and-of, or-right}
@@ -25,11 +27,11 @@ use Rattle.base.proofs.Shown.{sdss-long, sds-is, sds-none, presence-there, pres
 
 -- ---- SDSs
 
-module _ (b : List ℕ) (long : length b ≡ 13312) where
+module _ (b : List ℕ) (long : length b ≡ base-length) where
   -- an SDS is used exactly where the first byte of its field is not 0
-  pub used-first : (d : ℕ) → d < 16 → (f : List ℕ) → f ≡ part b (sds-at d) 16 → not (eqb (getD f 0 0) 0) ≡ used-sds (schema-of b) d
+  pub used-first : (d : ℕ) → d < 16 → (f : List ℕ) → f ≡ part b (sds-at d) (limits .name) → not (eqb (getD f 0 0) 0) ≡ used-sds (schema-of b) d
   unfolding used-sds strip
-  used-first d h f e = rw (sds-is b d h, ← e) (go f (ap length e ∙ length-part b (sds-at d) 16 (omega arith)))
+  used-first d h f e = rw (sds-is b d h, ← e) (go f (ap length e ∙ length-part b (sds-at d) (limits .name) (omega arith)))
     where
       go : (f : List ℕ) → length f ≡ 16 → not (eqb (getD f 0 0) 0) ≡ not (eqb (length (strip f)) 0)
       go [] l = absurd (omega arith)

@@ -2,6 +2,7 @@
 ghost use mathlib.Core.Path.{_≡_};
 ghost use Prim.Native.Nat.{_<_};
 ghost use lib.ListN.{length};
+ghost use Rattle.rules.specs.02-Limits.{limits};
 ghost use Rattle.rules.specs.04-Schema.{is-application};
 ghost use Rattle.rules.specs.07-Picture.{base-length};
 ghost use Rattle.base.specs.Back.{application-count, application-shown};
@@ -9,7 +10,7 @@ ghost use Rattle.lookup.specs.Found.{First-row};
 
 // Whether row i applies attribute type a to type t in SDS d.
 fn is_application(base: &[u8], i: usize, d: usize, t: usize, a: usize) -> bool
-    requires { ⌜ (length (now base) ≡ base-length) × (i < 256) ⌝ }
+    requires { ⌜ (length (now base) ≡ base-length) × (i < limits .applications) ⌝ }
     ensures { λ r. ⌜ r ≡ is-application d t a (application-shown (now (base .entry)) i) ⌝ }
 {
     if base::application_sds(base, i) != d {

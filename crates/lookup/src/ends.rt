@@ -3,16 +3,17 @@ use base::Base;
 ghost use mathlib.Core.Path.{_≡_};
 ghost use Prim.Native.Nat.{_≤_, _<_};
 ghost use lib.ListN.{length};
+ghost use Rattle.rules.specs.02-Limits.{limits};
 ghost use Rattle.rules.specs.07-Picture.{base-length};
 ghost use Rattle.rules.specs.Read.{read-side};
-ghost use Rattle.rows.specs.Rows.{Rising};
 ghost use Rattle.rows.specs.Decides.{Decides};
+ghost use Rattle.base.specs.Tables.{In-order, by-end};
 ghost use Rattle.base.specs.Stored.{Stored};
 ghost use Rattle.lookup.specs.Found.{End-at, End-found, End-place};
 
 // Whether row i is one of the n ends: that of link type l, on that side, at object type o, in SDS d.
 fn is_end(base: &[u8], n: usize, i: usize, d: usize, l: usize, side: usize, o: usize) -> bool
-    requires { ⌜ (length (now base) ≡ base-length) × (n ≤ 512) ⌝ }
+    requires { ⌜ (length (now base) ≡ base-length) × (n ≤ limits .ends) ⌝ }
     ensures { λ r. ⌜ Decides (End-at (now (base .entry)) n i d l side o) r ⌝ }
 {
     if n <= i {
@@ -40,9 +41,9 @@ pub fn end_near(
     side: usize,
     o: usize,
 ) -> usize
-    requires { ⌜ (length (now base) ≡ base-length) × (n ≤ 512) ⌝ }
+    requires { ⌜ (length (now base) ≡ base-length) × (n ≤ limits .ends) ⌝ }
     requires { ⌜ (d < 256) × ((l < 256) × ((side < 256) × (o < 256))) ⌝ }
-    requires { ⌜ Rising (now base) 11264 4 4 n ⌝ }
+    requires { ⌜ In-order by-end (now base) n ⌝ }
     ensures { λ r. ⌜ End-found (now (base .entry)) n d l side o r ⌝ }
 {
     if is_end(base, n, near, d, l, side, o) {

@@ -3,9 +3,10 @@ use rules::Limits;
 ghost use mathlib.Core.Path.{_≡_};
 ghost use Prim.Native.Nat.{_+_, _<_};
 ghost use lib.ListN.{length};
+ghost use Rattle.rules.specs.02-Limits.{limits};
 ghost use Rattle.rules.specs.04-Schema.{holds-name};
 ghost use Rattle.rules.specs.07-Picture.{Sound, base-length};
-ghost use Rattle.rules.specs.Read.{strip};
+ghost use Rattle.rules.specs.Read.{strip, name-offset};
 ghost use Rattle.rows.specs.Rows.{part};
 ghost use Rattle.base.specs.Rows.{presence-at};
 ghost use Rattle.base.specs.Back.{schema-of, presence-count, presence-shown};
@@ -13,16 +14,16 @@ ghost use Rattle.lookup.specs.Found.{Named-row, Named-in};
 
 // How many bytes the local name in row i has.
 pub fn name_length(base: &[u8], i: usize) -> usize
-    requires { ⌜ (length (now base) ≡ base-length) × (i < 512) ⌝ }
-    ensures { λ r. ⌜ r ≡ length (strip (part (now (base .entry)) (presence-at i + 1) 16)) ⌝ }
+    requires { ⌜ (length (now base) ≡ base-length) × (i < limits .presences) ⌝ }
+    ensures { λ r. ⌜ r ≡ length (strip (part (now (base .entry)) (presence-at i + name-offset) (limits .name))) ⌝ }
 {
     name_fields::name_length(base::presence_field(base, i))
 }
 
 // The local name in row i.
 fn local_name(base: &[u8], i: usize) -> &[u8]
-    requires { ⌜ (length (now base) ≡ base-length) × (i < 512) ⌝ }
-    ensures { λ r. ⌜ now r ≡ strip (part (now (base .entry)) (presence-at i + 1) 16) ⌝ }
+    requires { ⌜ (length (now base) ≡ base-length) × (i < limits .presences) ⌝ }
+    ensures { λ r. ⌜ now r ≡ strip (part (now (base .entry)) (presence-at i + name-offset) (limits .name)) ⌝ }
 {
     let field = base::presence_field(base, i);
     let n = name_fields::name_length(field);
@@ -31,7 +32,7 @@ fn local_name(base: &[u8], i: usize) -> &[u8]
 
 // Whether row i says that a type bears the name in SDS d.
 fn is_named(base: &[u8], i: usize, d: usize, name: &[u8]) -> bool
-    requires { ⌜ (length (now base) ≡ base-length) × (i < 512) ⌝ }
+    requires { ⌜ (length (now base) ≡ base-length) × (i < limits .presences) ⌝ }
     ensures { λ r. ⌜ r ≡ holds-name d (now (name .entry)) (presence-shown (now (base .entry)) i) ⌝ }
 {
     if base::presence_sds(base, i) != d {

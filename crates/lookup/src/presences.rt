@@ -2,6 +2,7 @@
 ghost use mathlib.Core.Path.{_≡_};
 ghost use Prim.Native.Nat.{_<_};
 ghost use lib.ListN.{length};
+ghost use Rattle.rules.specs.02-Limits.{limits};
 ghost use Rattle.rules.specs.07-Picture.{base-length};
 ghost use Rattle.rules.specs.09-Refusals.{holds-presence};
 ghost use Rattle.rows.specs.Decides.{Decides};
@@ -26,7 +27,7 @@ pub fn holds_presence(base: &[u8], d: usize) -> bool
 
 // Whether row i says that type t is in SDS d.
 fn is_presence(base: &[u8], i: usize, d: usize, t: usize) -> bool
-    requires { ⌜ (length (now base) ≡ base-length) × (i < 512) ⌝ }
+    requires { ⌜ (length (now base) ≡ base-length) × (i < limits .presences) ⌝ }
     ensures { λ r. ⌜ Decides (Row-of (now (base .entry)) i d t) r ⌝ }
 {
     if base::presence_sds(base, i) != d {

@@ -4,6 +4,7 @@ ghost use mathlib.Core.Path.{_≡_};
 ghost use mathlib.Core.Bool.{true};
 ghost use Prim.Native.Nat.{_<_};
 ghost use lib.ListN.{length};
+ghost use Rattle.rules.specs.02-Limits.{limits};
 ghost use Rattle.rules.specs.03-Names.{well-formed};
 ghost use Rattle.rules.specs.04-Schema.{sds-name, used-sds};
 ghost use Rattle.rules.specs.07-Picture.{base-length};
@@ -25,7 +26,7 @@ pub fn is_sds(base: &[u8], d: usize) -> bool
 
 // The name of an SDS, blank where the number is unused.
 pub fn sds_name(base: &[u8], d: usize) -> &[u8]
-    requires { ⌜ (length (now base) ≡ base-length) × (d < 16) ⌝ }
+    requires { ⌜ (length (now base) ≡ base-length) × (d < limits .sdss) ⌝ }
     ensures { λ r. ⌜ now r ≡ sds-name (schema-of (now (base .entry))) d ⌝ }
 {
     let field = base::sds_field(base, d);

@@ -6,6 +6,7 @@ use mathlib.Core.Logic.{⊎-elim}
 use mathlib.Core.Bool.{_&&_, _||_}
 use lib.Dec.{eqb}
 use lib.ListN.{getD}
+use Rattle.rules.specs.Read.{attribute-offset, to-offset}
 use Rattle.base.specs.Rows.{application-at}
 use Rattle.base.specs.Back.{application-count}
 use Rattle.base.proofs.Kept.{sound-long}
@@ -18,7 +19,7 @@ use Rattle.visible.proofs.attributes.Tie as tie
 
 abbrev Inv-loop : tie.InvT-loop
 Inv-loop base sdss types n r₀ i₀ r i = (i ≤ n) × Gathers i (λ j. has sdss (getD base (application-at j) 0) && has types
-    (getD base (application-at j + 1) 0)) (λ j. getD base (application-at j + 2) 0) (has r)
+    (getD base (application-at j + to-offset) 0)) (λ j. getD base (application-at j + attribute-offset) 0) (has r)
 
 abbrev μ-loop : tie.MeasureT-loop
 μ-loop base sdss types n r₀ i₀ r i = n - i

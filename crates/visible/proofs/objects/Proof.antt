@@ -7,6 +7,7 @@ use mathlib.Core.Bool.{_&&_, _||_}
 use lib.Dec.{eqb}
 use lib.ListN.{getD}
 use Rattle.rules.specs.04-Schema.{side-code}
+use Rattle.rules.specs.Read.{object-offset}
 use Rattle.base.specs.Rows.{end-at}
 use Rattle.base.specs.Back.{end-count, end-shown}
 use Rattle.base.proofs.Kept.{sound-long}
@@ -20,7 +21,7 @@ use Rattle.visible.proofs.objects.Tie as tie
 abbrev Inv-loop : tie.InvT-loop
 Inv-loop base sdss side link n r₀ i₀ r i = (i ≤ n) × Gathers i
     (λ j. (has sdss ((end-shown base j) .sds) && eqb (side-code ((end-shown base j) .side)) side) && eqb ((end-shown base j) .link) link)
-    (λ j. getD base (end-at j + 3) 0) (has r)
+    (λ j. getD base (end-at j + object-offset) 0) (has r)
 
 abbrev μ-loop : tie.MeasureT-loop
 μ-loop base sdss side link n r₀ i₀ r i = n - i

@@ -6,6 +6,7 @@ use mathlib.Core.Logic.{⊎-elim}
 use mathlib.Core.Bool.{_||_}
 use lib.Dec.{eqb}
 use lib.ListN.{getD}
+use Rattle.rules.specs.Read.{type-offset}
 use Rattle.base.specs.Rows.{presence-at}
 use Rattle.base.specs.Back.{presence-count}
 use Rattle.base.proofs.Kept.{sound-long}
@@ -17,7 +18,7 @@ use Rattle.visible.proofs.visible.Statement.{statement}
 use Rattle.visible.proofs.visible.Tie as tie
 
 abbrev Inv-loop : tie.InvT-loop
-Inv-loop base sdss n r₀ i₀ r i = (i ≤ n) × Gathers i (λ j. has sdss (getD base (presence-at j) 0)) (λ j. getD base (presence-at j + 17) 0) (has r)
+Inv-loop base sdss n r₀ i₀ r i = (i ≤ n) × Gathers i (λ j. has sdss (getD base (presence-at j) 0)) (λ j. getD base (presence-at j + type-offset) 0) (has r)
 
 abbrev μ-loop : tie.MeasureT-loop
 μ-loop base sdss n r₀ i₀ r i = n - i

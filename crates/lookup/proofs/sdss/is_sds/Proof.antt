@@ -3,6 +3,7 @@ use borrow.Author.Needs.{needs}
 use native.Mathlib.Omega.{arith}
 use mathlib.Core.Path.{ap}
 use lib.ListN.{length}
+use Rattle.rules.specs.02-Limits.{limits}
 use Rattle.rows.proofs.Scan.{length-part}
 use Rattle.base.specs.Rows.{sds-at}
 use Rattle.lookup.proofs.SdsShown.{used-first, used-past}
@@ -24,7 +25,7 @@ shared-slice-read-result c =
       arith,
       x .pre,
       ap length (c .before .sds-field .ensures),
-      length-part (x .args .base .now) (sds-at (x .args .d)) 16 (omega
+      length-part (x .args .base .now) (sds-at (x .args .d)) (limits .name) (omega
           (arith, x .pre, c .before .before .if1 .left)),
     )
 

@@ -2,7 +2,7 @@
 use borrow.Author.Needs.{needs}
 use borrow.Author.Tests.{not-true, not-false}
 use Rattle.rows.proofs.Decides.{decides-no}
-use Rattle.sound.proofs.Parts.{whole-of, whole-sound}
+use Rattle.sound.proofs.Parts.{parental-of, whole-of, whole-sound}
 use Rattle.sound.proofs.is_sound.Statement.{statement}
 use Rattle.sound.proofs.is_sound.Tie as tie
 
@@ -39,11 +39,9 @@ returns-5 c = decides-no (λ s. c .before .reverses-fine .ensures .fails (not-tr
 
 is-acyclic-requires : tie.Need-is-acyclic-requires
 is-acyclic-requires c κs =
-    record {
-      long = c .before .before .before .before .before .before .before .before .if1 .left;
-      type-rows = c .before .before .before .before .before .kinds-fine .ensures .holds (not-false _ (c .before .before .before .before .if3 .left)) .type-rows;
-      parents-objects = c .before .before .before .parents-fine .ensures .holds (not-false _ (c .before .before .if4 .left)) .parents-objects;
-    }
+    parental-of (c .before .before .before .before .before .before .before .before .if1 .left)
+    (c .before .before .before .before .before .kinds-fine .ensures .holds (not-false _ (c .before .before .before .before .if3 .left)))
+    (c .before .before .before .parents-fine .ensures .holds (not-false _ (c .before .before .if4 .left)))
 
 returns-6 : tie.Need-returns-6
 returns-6 c = decides-no (λ s. c .before .is-acyclic .ensures .fails (not-true _ (c .if6 .taken)) (whole-of s .acyclic))
@@ -62,21 +60,23 @@ returns-8 c = decides-no (λ s. c .before .rest-fine .ensures .fails (not-true _
 
 closed-fine-requires : tie.Need-closed-fine-requires
 closed-fine-requires c κs = (
-  record {
-    long = c .before .before .before .before .before .before .before .before .before .before .before .before .before .before .if1 .left;
-    type-rows = c .before .before .before .before .before .before .before .before .before .before .before .kinds-fine .ensures .holds (not-false _
-        (c .before .before .before .before .before .before .before .before .before .before .if3 .left)) .type-rows;
-    parents-objects = c .before .before .before .before .before .before .before .before .before .parents-fine .ensures .holds (not-false _
-        (c .before .before .before .before .before .before .before .before .if4 .left)) .parents-objects;
-  },
-  (c .before .before .before .presences-fine .ensures .holds (not-false _ (c .before .before .if7 .left)), c .before .rest-fine .ensures .holds (not-false _ (c .if8 .left))),
+  parental-of (c .before .before .before .before .before .before .before .before .before .before .before .before .before .before .if1 .left)
+      (c .before .before .before .before .before .before .before .before .before .before .before .kinds-fine .ensures .holds
+      (not-false _ (c .before .before .before .before .before .before .before .before .before .before .if3 .left)))
+      (c .before .before .before .before .before .before .before .before .before .parents-fine .ensures .holds
+      (not-false _ (c .before .before .before .before .before .before .before .before .if4 .left))),
+  (
+    c .before .before .before .presences-fine .ensures .holds (not-false _ (c .before .before .if7 .left)),
+    c .before .rest-fine .ensures .holds (not-false _ (c .if8 .left)),
+  ),
 )
 
 returns-9 : tie.Need-returns-9
 returns-9 c =
     record {
       holds = λ e. whole-sound
-          (c .before .before .before .before .before .before .before .before .before .before .before .before .before .before .before .before .before .args .base .now) (record {
+          (c .before .before .before .before .before .before .before .before .before .before .before .before .before .before .before .before .before
+          .args .base .now) (record {
             long = c .before .before .before .before .before .before .before .before .before .before .before .before .before .before .before .if1 .left;
             sdss = c .before .before .before .before .before .before .before .before .before .before .before .before .before .before .sdss-fine .ensures .holds
                 (not-false _ (c .before .before .before .before .before .before .before .before .before .before .before .before .before .if2 .left));
@@ -86,7 +86,8 @@ returns-9 c =
                 (c .before .before .before .before .before .before .before .before .before .if4 .left));
             reverses = c .before .before .before .before .before .before .before .before .reverses-fine .ensures .holds (not-false _
                 (c .before .before .before .before .before .before .before .if5 .left));
-            acyclic = c .before .before .before .before .before .before .is-acyclic .ensures .holds (not-false _ (c .before .before .before .before .before .if6 .left));
+            acyclic = c .before .before .before .before .before .before .is-acyclic .ensures .holds
+                (not-false _ (c .before .before .before .before .before .if6 .left));
             presences = c .before .before .before .before .presences-fine .ensures .holds (not-false _ (c .before .before .before .if7 .left));
             rest = c .before .before .rest-fine .ensures .holds (not-false _ (c .before .if8 .left));
             closed = c .closed-fine .ensures .holds e;

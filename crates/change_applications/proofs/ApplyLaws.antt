@@ -24,7 +24,7 @@ use Rattle.base.specs.Stored.{less-row, Shows}
 use Rattle.base.proofs.Shown.{applications-long}
 use Rattle.base.proofs.StoredLaws.{sound-stored}
 use Rattle.edit.proofs.TakenLaws.{application-without}
-use Rattle.lookup.specs.Kinds.{kind-code}
+use Rattle.rules.specs.04-Schema.{kind-code}
 use Rattle.lookup.proofs.KindBytes.{told-object, told-attribute, told-link}
 use Rattle.change_applications.specs.declared.Asked.{Asked}
 use Rattle.change_applications.specs.Applying.{wrong-kind, Both, Aimed}

@@ -37,7 +37,7 @@ use Rattle.change_ends.specs.declared.Aim.{Aim}
 use Rattle.change_ends.specs.Ends.{Aimed}
 use Rattle.base.specs.Tested.{Tested}
 use Rattle.conditions.specs.Reverse.{one-or-none, Reverse-of}
-use Rattle.conditions.specs.Conditions.{End-place}
+use Rattle.lookup.specs.Found.{End-place}
 use Rattle.base.proofs.TestedLaws.{begun-passes}
 use Rattle.conditions.proofs.ConditionLaws.{end-place-has}
 

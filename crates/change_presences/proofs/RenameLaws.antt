@@ -21,15 +21,15 @@ use Rattle.rules.proofs.Edits.{without-in}
 use Rattle.rules.proofs.03-Names.{same-asked}
 use Rattle.rules.proofs.09-Refusals.{Left}
 use Rattle.base.specs.Back.{schema-of, presence-count}
-use Rattle.lookup.specs.Found.{Presence-row}
+use Rattle.lookup.specs.Found.{Presence-row, Named-in}
 use Rattle.base.specs.Stored.{less-row, Shows}
 use Rattle.base.proofs.Back.{sound-good}
 use Rattle.base.proofs.Shown.{presences-long}
 use Rattle.base.proofs.StoredLaws.{sound-stored, shows-schema}
-use Rattle.working.specs.Listed.{Named-in}
-use Rattle.conditions.proofs.NameLaws.{borne, not-borne}
+use Rattle.lookup.proofs.NamedLaws.{borne, not-borne}
 use Rattle.change_presences.specs.Remove.{less-presence}
-use Rattle.change_presences.proofs.HeldLaws.{bearer, held-named, held-row, row-below, row-taken}
+use Rattle.change_presences.proofs.HeldLaws.{held-named, held-row, row-below, row-taken}
+use Rattle.rules.proofs.08-Working.{bearer}
 
 -- ---- a row less
 

@@ -1,10 +1,9 @@
 -- Rows of bytes that rise are presences, applications and ends that rise; of presences the first 17 bytes also tell names apart.
 -- Assumes nothing.
-use Prim.Native.Nat.{ℕ, zero, suc, _+_, _*_, _≤_, _<_}
+use Prim.Native.Nat.{ℕ, suc, _+_, _≤_, _<_}
 use native.Mathlib.Omega.{arith}
-use mathlib.Core.Path.{_≡_, refl, sym, ap, _∙_, subst}
-use mathlib.Core.Logic.{⊎-elim}
-use mathlib.Core.List.{List, [], _∷_, _++_}
+use mathlib.Core.Path.{_≡_, refl, sym, ap, _∙_}
+use mathlib.Core.List.{List, [], _∷_}
 use mathlib.Core.Bool.{Bool, true, false, not, _&&_, _||_, true≢false, false≢true}
 use lib.Dec.{ltb, eqb}
 use lib.ListN.{length, getD, take, drop}
@@ -12,19 +11,19 @@ use lib.Seq.{take-at, take-take}
 use borrow.Author.Tests.{ltb-true, ltb-false, le-ltb, eqb-true, eq-eqb}
 use Rattle.rules.specs.01-Lists.{_∈_, bytes-before, rising}
 use Rattle.rules.specs.03-Names.{Name, well-formed, same-name, name-before}
-use Rattle.rules.specs.04-Schema.{Presence, system-presence, presence-before, application-before, end-before}
-use Rattle.rules.specs.07-Picture.{pad, presence-row, application-row, end-row}
+use Rattle.rules.specs.04-Schema.{Presence, system-presence, presence-before, application-before}
+use Rattle.rules.specs.07-Picture.{pad, presence-row, application-row}
 use Rattle.rules.proofs.Bools.{or-cases, and-both, fails}
 use Rattle.rules.proofs.01-Lists.{rising-at, at-rising}
 use Rattle.rules.proofs.03-Names.{same-name-refl, same-turned, name-connected, name-irreflexive, apart, pad-apart}
 use Rattle.rules.proofs.07-Picture.{length-pad}
 use Rattle.rows.specs.Rows.{part, Rising}
-use Rattle.rows.proofs.Scan.{rising-far, part-cons, length-part}
-use Rattle.base.specs.Rows.{presence-at, application-at, end-at}
-use Rattle.base.specs.Back.{schema-of, presence-count, application-count, end-count, presence-shown, application-shown, end-shown}
-use Rattle.base.proofs.Shown.{presences-long, applications-long, ends-long, presence-is, application-is, end-is, presence-in, presence-there}
-use Rattle.base.proofs.Back.{no-application, no-end}
-use Rattle.base.proofs.OrderedLaws.{application-rows, end-rows}
+use Rattle.rows.proofs.Scan.{rising-far, part-cons}
+use Rattle.base.specs.Rows.{presence-at, application-at}
+use Rattle.base.specs.Back.{schema-of, presence-count, application-count, presence-shown, application-shown}
+use Rattle.base.proofs.Shown.{presences-long, applications-long, presence-is, application-is, presence-in, presence-there}
+use Rattle.base.proofs.Back.{no-application}
+use Rattle.base.proofs.OrderedLaws.{application-rows}
 
 -- neither of two numbers is less
 equal : (i j : ℕ) → (i < j → ⊥) → (j < i → ⊥) → i ≡ j
@@ -180,18 +179,3 @@ module _ (b : List ℕ) where
       (application-rows (application-shown b i) (application-shown b (suc i))
       ∙ (rw (application-is b i no-application (omega arith), application-is b (suc i) no-application k)
       at (rising-at application-before no-application ((schema-of b) .applications) r i (omega (arith, applications-long b)))))
-
-  module _ (written : (i : ℕ) → i < end-count b → end-row (end-shown b i) ≡ part b (end-at i) 4) where
-    pub rise-ends : Rising b 11264 4 4 (end-count b) → rising end-before ((schema-of b) .ends) ≡ true
-    rise-ends r =
-        at-rising end-before no-end ((schema-of b) .ends)
-        (λ i h.
-        let k : suc i < end-count b = omega (arith, ends-long b) in
-        rw (end-is b i no-end (omega arith), end-is b (suc i) no-end k)
-        (sym (end-rows (end-shown b i) (end-shown b (suc i))) ∙ rw (written i (omega arith), written (suc i) k) (r i k)))
-
-    pub ends-rise : rising end-before ((schema-of b) .ends) ≡ true → Rising b 11264 4 4 (end-count b)
-    ends-rise r i k =
-        rw (← written i (omega arith), ← written (suc i) k)
-        (end-rows (end-shown b i) (end-shown b (suc i))
-        ∙ (rw (end-is b i no-end (omega arith), end-is b (suc i) no-end k) at (rising-at end-before no-end ((schema-of b) .ends) r i (omega (arith, ends-long b)))))

@@ -1,33 +1,33 @@
 -- What is asked of every SDS is what `Closed` asks. Assumes nothing.
-use Prim.Native.Nat.{ℕ, suc, _+_, _*_, _≤_, _<_}
+use Prim.Native.Nat.{ℕ, _+_, _*_, _≤_, _<_}
 use native.Mathlib.Omega.{arith}
 use mathlib.Core.Path.{_≡_, refl, sym, ap, _∙_, subst}
-use mathlib.Core.List.{List, []}
-use mathlib.Core.Bool.{Bool, true, false, not, _&&_, _||_, true≢false, false≢true}
+use mathlib.Core.List.{List}
+use mathlib.Core.Bool.{Bool, true, false, false≢true}
 use lib.Dec.{ltb, eqb}
-use lib.ListN.{length, getD, drop}
-use borrow.Author.Tests.{ltb-true, ltb-false, eqb-true, eq-eqb, ne-eqb}
+use lib.ListN.{getD}
+use borrow.Author.Tests.{ltb-true, ltb-false, eqb-true, eq-eqb}
 use Rattle.rules.specs.01-Lists.{_∈_}
-use Rattle.rules.specs.04-Schema.{Kind, Presence, Application, End, kind-of, is-used, used-sds, holds-type, present}
+use Rattle.rules.specs.04-Schema.{Kind, Presence, kind-of, is-used, used-sds, holds-type, present}
 use Rattle.rules.specs.04-Schema.Kind.{unused, object, attribute, designation, paired}
 use Rattle.rules.specs.05-Descent.{Parent}
 use Rattle.rules.specs.07-Picture.{pad, type-row}
 use Rattle.rules.proofs.Bools.{and-both, and-of}
 use Rattle.rules.proofs.01-Lists.{any-at, any-where}
-use Rattle.rows.specs.Rows.{part, Rising, Split, Counted}
+use Rattle.rows.specs.Rows.{Rising, Split, Counted}
 use Rattle.rows.proofs.Rows.{part-byte}
 use Rattle.base.specs.Rows.{type-at, presence-at, application-at, end-at}
 use Rattle.base.specs.Back.{schema-of, presence-count, application-count, end-count, presence-shown, application-shown, end-shown, kind-shown}
 use Rattle.base.proofs.Shown.{sds-none, kind-is, kind-none, presence-in, presence-there, application-in, application-there, end-in, end-there}
 use Rattle.base.proofs.Shown.{shows-unused}
-use Rattle.graph.specs.Graph.{Parental}
+use Rattle.lookup.specs.Parents.{Parental}
 use Rattle.check_sdss.specs.declared.Places.{Places}
 use Rattle.check_rows.specs.Parts.{Presences, Rest}
 use Rattle.check_sdss.specs.Parts.{Closed}
-use Rattle.check_sds.specs.Held.{type-in, Closed-type, Applied, Ended}
+use Rattle.check_sds.specs.Held.{type-in, Applied, Ended}
 use Rattle.check_sdss.specs.Sds.{Sds-closed, Ready}
-use Rattle.check_rows.proofs.OrderLaws.{row-once, presences-rise, applications-rise, ends-rise}
-use Rattle.check_rows.proofs.RestLaws.{written-side}
+use Rattle.check_rows.proofs.OrderLaws.{row-once, presences-rise, applications-rise}
+use Rattle.lookup.proofs.EndRows.{ends-rise, written-side}
 
 below-16 : (b : List ℕ) (d : ℕ) → used-sds (schema-of b) d ≡ true → d < 16
 unfolding used-sds

@@ -9,7 +9,7 @@ ghost use Rattle.rules.specs.05-Descent.{depth};
 ghost use Rattle.rules.specs.07-Picture.{Sound};
 ghost use Rattle.base.specs.Back.{schema-of};
 ghost use Rattle.type_set.specs.Set.{has};
-ghost use Rattle.graph.specs.Graph.{Parental};
+ghost use Rattle.lookup.specs.Parents.{Parental};
 ghost use Rattle.kin.specs.Kin.{parents-of, children-of, ancestors-of, descendants-of, next-of, line-of};
 
 // `s` with the parents of `t`.

@@ -12,8 +12,9 @@ use Rattle.lookup.proofs.SdsShown.{used-below, known, unknown}
 use Rattle.base.proofs.Kept.{sound-long}
 use Rattle.base.proofs.TestedLaws.{come-spoiled, Past, come-first, come-next, come-stops, come-through}
 use Rattle.change_applications.specs.Applying.{wrong-kind}
-use Rattle.conditions.proofs.NameLaws.{formed-passes, malformed-stops, system-stops, system-passes, one-malformed, other-malformed, none-malformed}
-use Rattle.conditions.proofs.NameLaws.{both-there, one-missing, other-missing, borne, not-borne}
+use Rattle.rules.proofs.NameTests.{formed-passes, malformed-stops, system-stops, system-passes, one-malformed, other-malformed, none-malformed}
+use Rattle.rules.proofs.NameTests.{both-there, one-missing, other-missing}
+use Rattle.lookup.proofs.NamedLaws.{borne, not-borne}
 use Rattle.change_applications.proofs.ApplyLaws.{not-aimed, wrong-named}
 use Rattle.change_applications.proofs.tested.Statement.{statement}
 use Rattle.change_applications.proofs.tested.Tie as tie

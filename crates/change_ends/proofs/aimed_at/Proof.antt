@@ -10,11 +10,11 @@ use Rattle.rules.specs.10-Changes.{end-refusals}
 use Rattle.base.specs.Back.{schema-of}
 use Rattle.lookup.proofs.SdsShown.{known, unknown}
 use Rattle.base.proofs.Kept.{sound-long}
-use Rattle.conditions.proofs.NameLaws.{formed-passes, malformed-stops, system-stops, system-passes, one-malformed, other-malformed, none-malformed}
-use Rattle.conditions.proofs.NameLaws.{both-there, one-missing, other-missing, borne, not-borne}
+use Rattle.rules.proofs.NameTests.{formed-passes, malformed-stops, system-stops, system-passes, one-malformed, other-malformed, none-malformed}
+use Rattle.rules.proofs.NameTests.{both-there, one-missing, other-missing}
+use Rattle.lookup.proofs.NamedLaws.{borne, not-borne}
 use Rattle.base.proofs.TestedLaws.{come-spoiled, Past, come-first, come-next, come-stops, come-through}
-use Rattle.change_ends.proofs.EndLaws.{not-aimed}
-use Rattle.change_ends.proofs.EndLaws.{link-is, no-link-there, no-object-there, both-kinds}
+use Rattle.change_ends.proofs.EndLaws.{not-aimed, link-is, no-link-there, no-object-there, both-kinds}
 use Rattle.change_ends.proofs.aimed_at.Statement.{statement}
 use Rattle.change_ends.proofs.aimed_at.Tie as tie
 

@@ -8,13 +8,13 @@ use borrow.Author.Tests.{not-true, not-false}
 use Rattle.rules.specs.04-Schema.{present, bears, type-named}
 use Rattle.rules.specs.09-Refusals.{unknown-sds, malformed, malformed-new, missing-parent}
 use Rattle.base.specs.Back.{schema-of}
-use Rattle.base.proofs.Back.{sound-good}
 use Rattle.base.proofs.Kept.{sound-long}
-use Rattle.conditions.proofs.NameLaws.{system-stops, system-passes, name-there, name-missing, borne, not-borne}
+use Rattle.rules.proofs.NameTests.{system-stops, system-passes, name-there, name-missing}
+use Rattle.lookup.proofs.NamedLaws.{borne, not-borne}
 use Rattle.base.proofs.TestedLaws.{come-spoiled, Past, come-first, come-next, come-stops, come-through}
 use Rattle.change_imports.specs.Import.{first-refusals}
 use Rattle.change_imports.proofs.ImportLaws.{not-chosen, first-below, idle-is, of-named, new-formed}
-use Rattle.change_presences.proofs.HeldLaws.{held-named}
+use Rattle.rules.proofs.08-Working.{named-present}
 use Rattle.change_imports.proofs.named_by.Statement.{statement}
 use Rattle.change_imports.proofs.named_by.Tie as tie
 
@@ -187,7 +187,7 @@ returns-9 c =
         small = first-below _ _ _ (known-2 (c .before .before .before .before .before .before .before .before .before .before .before .before));
         below = t .0;
         named = t .1;
-        there = held-named (sound-good (p .sound)) _ (bears-5 (c .before .before .before .before .before .before .before)) (t .1) .there;
+        there = named-present _ _ _ (bears-5 (c .before .before .before .before .before .before .before)) (t .1);
         reversed = c .before .before .before .before .before .before .reverse-of .ensures;
         formed = formed .0;
         formed-reverse = formed .1;

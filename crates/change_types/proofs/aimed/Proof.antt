@@ -8,7 +8,7 @@ use Rattle.rules.specs.04-Schema.{used-sds}
 use Rattle.base.specs.Back.{schema-of}
 use Rattle.base.proofs.Kept.{sound-long}
 use Rattle.lookup.proofs.SdsShown.{used-below, known, unknown}
-use Rattle.conditions.proofs.NameLaws.{formed-passes, malformed-stops, system-stops, system-passes}
+use Rattle.rules.proofs.NameTests.{formed-passes, malformed-stops, system-stops, system-passes}
 use Rattle.base.proofs.TestedLaws.{come-spoiled, Past, come-first, come-next, come-stops, come-through}
 use Rattle.change_types.specs.Create.{aim-refusals}
 use Rattle.change_types.proofs.CreateLaws.{not-aimed}

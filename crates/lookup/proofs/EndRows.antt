@@ -73,7 +73,8 @@ module _ (b : List ℕ) (written : (i : ℕ) → i < end-count b → end-row (en
   ends-rise r i k =
       rw (← written i (omega arith), ← written (suc i) k)
       (end-rows (end-shown b i) (end-shown b (suc i))
-      ∙ (rw (end-is b i no-end (omega arith), end-is b (suc i) no-end k) at (rising-at end-before no-end ((schema-of b) .ends) r i (omega (arith, ends-long b)))))
+      ∙ (rw (end-is b i no-end (omega arith), end-is b (suc i) no-end k)
+      at (rising-at end-before no-end ((schema-of b) .ends) r i (omega (arith, ends-long b)))))
 
 -- ---- an end is there exactly where a row has its bytes
 

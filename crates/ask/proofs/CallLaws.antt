@@ -13,7 +13,7 @@ use Rattle.rules.specs.04-Schema.{Schema, kind-of, is-object, is-link}
 use Rattle.rules.specs.05-Descent.{depth, members}
 use Rattle.rules.specs.07-Picture.{Sound}
 use Rattle.rules.specs.08-Working.{visible, shown}
-use Rattle.rules.specs.09-Refusals.{Outcome, Refusals, verdict, success, unknown-sds, unknown-object-scan, unknown-link-scan}
+use Rattle.rules.specs.09-Refusals.{_when_, Outcome, Refusals, verdict, success, unknown-sds, unknown-object-scan, unknown-link-scan}
 use Rattle.rules.specs.09-Refusals.{not-visible, no-object, no-link, short-output}
 use Rattle.rules.specs.09-Refusals.Outcome.{done}
 use Rattle.rules.specs.11-Asks.{object-scan-list, scan-object, link-scan-list, scan-link, profile-ancestors, profile-attributes, profile-links}
@@ -43,10 +43,10 @@ past-last n code = go (ltb n code) refl
 -- all that a scan tests, by whether its code is unknown and its type of the wrong kind
 abbrev scan-tests : Schema → List ℕ → ℕ → Bool → Bool → ℕ → List ℕ → Refusals
 scan-tests s w t unknown wrong room l =
-    (2, any (unknown-sds s) w) ∷ (5, unknown) ∷ (6, not-visible s w t) ∷ (7, wrong) ∷ (8, repeated w) ∷ (15, short-output room (length l)) ∷ []
+    (2 when any (unknown-sds s) w) ∷ (5 when unknown) ∷ (6 when not-visible s w t) ∷ (7 when wrong) ∷ (8 when repeated w) ∷ (15 when short-output room (length l)) ∷ []
 
 abbrev pub room-test : ℕ → List ℕ → Refusals
-room-test room l = (15, short-output room (length l)) ∷ []
+room-test room l = (15 when short-output room (length l)) ∷ []
 
 module _ (w : List ℕ) (t code room : ℕ) (s : Schema) where
   pub scan-object-left : Left (scan-object w t code room s) (type-refusals s w t false (ltb code 10) ++ room-test room (object-scan-list w t code s))

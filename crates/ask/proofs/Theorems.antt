@@ -21,25 +21,22 @@ use Rattle.rules.specs.11-Asks.{object-scan-list, scan-object, scan-object-refu
 use Rattle.rules.specs.12-Contracts.{entries, room, output-after, Listed, Answered}
 use Rattle.rules.proofs.Bools.{and-both}
 use Rattle.rules.proofs.05-Descent.{chain-short, depth-greatest, depth-reached}
-use Rattle.rules.proofs.09-Refusals.{Passed}
+use Rattle.rules.proofs.09-Refusals.{Passed, passed-none, passed-more, numbers-beyond}
 use Rattle.rules.proofs.11-Asks.{set-counts-list, whole-list}
 
 -- ---- a verdict that is done has passed every test, if each number is above 0
 
 module _ {Made : Type 0} (effect : Outcome Made) where
-  done-passed : (cs : Refusals) → all (λ c. ltb 0 (c .0)) cs ≡ true → (answer-of (verdict cs effect)) .no ≡ 0 → Passed cs × (verdict cs effect ≡ effect)
+  done-passed : (rs : Refusals) → numbers-beyond 0 rs ≡ true → (answer-of (verdict rs effect)) .no ≡ 0 → Passed rs × (verdict rs effect ≡ effect)
   unfolding all verdict
-  done-passed [] h e = (tt, refl)
-  done-passed (c ∷ cs) h e = go (c .1) refl e (done-passed cs (and-both (ltb 0 (c .0)) (all (λ c. ltb 0 (c .0)) cs) h .1))
+  done-passed [] h e = (passed-none, refl)
+  done-passed (r ∷ rs) h e = let (first, more) = and-both (ltb 0 (r .no)) (numbers-beyond 0 rs) h in go (r .holds) refl first e (done-passed rs more)
     where
-      positive : ltb 0 (c .0) ≡ true
-      positive = and-both (ltb 0 (c .0)) (all (λ c. ltb 0 (c .0)) cs) h .0
-
-      go : (x : Bool) → c .1 ≡ x → (answer-of (cond x (Outcome.refused (c .0)) (verdict cs effect))) .no ≡ 0
-          → ((answer-of (verdict cs effect)) .no ≡ 0 → Passed cs × (verdict cs effect ≡ effect))
-          → ((c .1 ≡ false) × Passed cs) × (cond x (Outcome.refused (c .0)) (verdict cs effect) ≡ effect)
-      go true q e f = absurd (true≢false (sym positive ∙ ap (ltb 0) e))
-      go false q e f = let (p, r) = f e in ((q, p), r)
+      go : (x : Bool) → r .holds ≡ x → ltb 0 (r .no) ≡ true → (answer-of (cond x (Outcome.refused (r .no) (r .value)) (verdict rs effect))) .no ≡ 0
+          → ((answer-of (verdict rs effect)) .no ≡ 0 → Passed rs × (verdict rs effect ≡ effect))
+          → Passed (r ∷ rs) × (cond x (Outcome.refused (r .no) (r .value)) (verdict rs effect) ≡ effect)
+      go true q positive e f = absurd (true≢false (sym positive ∙ ap (ltb 0) e))
+      go false q positive e f = let (p, same) = f e in (passed-more q p, same)
 
 module _ (b w : List ℕ) (t : ℕ) (s : Schema) (good : Good s) (shown : b ≡ picture s) where
   -- ---- the list of descendants: scan code 1
@@ -88,7 +85,7 @@ module _ (b w : List ℕ) (t : ℕ) (s : Schema) (good : Good s) (shown : b ≡ 
 
     object : is-object (kind-of s t) ≡ true
     unfolding no-object
-    object = kept (is-object (kind-of s t)) (told .0 .1 .1 .0)
+    object = kept (is-object (kind-of s t)) (told .0 .fails 7)
       where
         kept : (x : Bool) → not x ≡ false → x ≡ true
         kept true e = refl

@@ -7,7 +7,7 @@ use mathlib.Core.Bool.{false}
 use borrow.Author.Tests.{lt-ltb, le-ltb}
 use lib.ListN.{length, drop, length-append}
 use Rattle.rules.specs.declared.Answer.{Answer}
-use Rattle.rules.specs.09-Refusals.{Outcome, verdict, refusal, success, answer-of, short-output}
+use Rattle.rules.specs.09-Refusals.{_when_, Outcome, verdict, refusal, success, answer-of, short-output}
 use Rattle.rules.specs.09-Refusals.Outcome.{refused}
 use Rattle.rules.specs.12-Contracts.{entries, room, output-after}
 use Rattle.type_set.specs.Put.{put-down}
@@ -17,11 +17,11 @@ puts-as : {o o′ : Outcome (List ℕ)} {a : Answer} {before after : List ℕ} �
 puts-as {before = before} e f g = record { answers = f ∙ ap answer-of (sym e); outputs = g ∙ ap (output-after before) (sym e) }
 
 module _ (effect : Outcome (List ℕ)) (r n : ℕ) where
-  no-room : r < n → verdict ((15, short-output r n) ∷ []) effect ≡ refused 15
+  no-room : r < n → verdict ((15 when short-output r n) ∷ []) effect ≡ refused 15 0
   unfolding verdict short-output
   no-room h = rw (lt-ltb r n h)
 
-  some-room : n ≤ r → verdict ((15, short-output r n) ∷ []) effect ≡ effect
+  some-room : n ≤ r → verdict ((15 when short-output r n) ∷ []) effect ≡ effect
   unfolding verdict short-output
   some-room h = rw (le-ltb r n h)
 

@@ -26,7 +26,7 @@ use Rattle.lookup.proofs.SdsShown as SdsShown
 use Rattle.ask_scans.specs.declared.view.View.{View}
 use Rattle.ask_scans.specs.View.{of-kind, type-refusals, Viewed}
 
-pub not-viewed : {b w : List ℕ} {t : ℕ} {link known : Bool} {v : View} → Tested b (type-refusals (schema-of b) w t link known) (v .no)
+pub not-viewed : {b w : List ℕ} {t : ℕ} {link known : Bool} {v : View} → Tested b (type-refusals (schema-of b) w t link known) (v .no) 0
     → (v .no ≡ 0 → ⊥) → Viewed b w t link known v
 not-viewed r z = record { told = r; code-known = λ e. absurd (z e); through = λ e. absurd (z e) }
 

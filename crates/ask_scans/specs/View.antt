@@ -7,7 +7,7 @@ use Rattle.rules.specs.01-Lists.{any, among, repeated}
 use Rattle.rules.specs.04-Schema.{Schema, Kind, kind-of, is-object, is-link}
 use Rattle.rules.specs.07-Picture.{Sound}
 use Rattle.rules.specs.08-Working.{listed-sdss, visible}
-use Rattle.rules.specs.09-Refusals.{Refusals, unknown-sds, not-visible}
+use Rattle.rules.specs.09-Refusals.{_when_, Refusals, unknown-sds, not-visible}
 use Rattle.base.specs.Back.{schema-of}
 use Rattle.base.specs.Tested.{Tested}
 use Rattle.type_set.specs.Set.{has}
@@ -21,11 +21,11 @@ of-kind false k = is-object k
 -- the refusals that all these calls share, but for 1
 abbrev pub type-refusals : Schema → List ℕ → ℕ → Bool → Bool → Refusals
 type-refusals s w t link known =
-    (2, any (unknown-sds s) w)
-    ∷ (5, not known)
-    ∷ (6, not-visible s w t)
-    ∷ (7, not (of-kind link (kind-of s t)))
-    ∷ (8, repeated w)
+    (2 when any (unknown-sds s) w)
+    ∷ (5 when not known)
+    ∷ (6 when not-visible s w t)
+    ∷ (7 when not (of-kind link (kind-of s t)))
+    ∷ (8 when repeated w)
     ∷ []
 
 -- what a call looks through where none holds
@@ -37,6 +37,6 @@ pub record Through (b w : List ℕ) (t : ℕ) (link : Bool) (v : View) : Type 0 
   pub visible : (k : ℕ) → has (v .visible) k ≡ visible (schema-of b) w k
 
 pub record Viewed (b w : List ℕ) (t : ℕ) (link known : Bool) (v : View) : Type 0 where
-  pub told : Tested b (type-refusals (schema-of b) w t link known) (v .no)
+  pub told : Tested b (type-refusals (schema-of b) w t link known) (v .no) 0
   pub code-known : v .no ≡ 0 → known ≡ true
   pub through : v .no ≡ 0 → Through b w t link v

@@ -1,6 +1,6 @@
 // Sets put down in the caller's output as lists. Whether there is room is decided before a byte is written.
-use type_set::TypeSet;
 use rules::Answer;
+use type_set::TypeSet;
 ghost use Rattle.rules.specs.05-Descent.{members};
 ghost use Rattle.rules.specs.12-Contracts.{room};
 ghost use Rattle.type_set.specs.Set.{has};

@@ -30,9 +30,9 @@ fn is_of_kind(base: &[u8], t: usize, link: bool) -> bool
     ensures { λ r. ⌜ r ≡ of-kind link (kind-of (schema-of (now (base .entry))) t) ⌝ }
 {
     if link {
-        return lookup::is_kind(base, t, 3);
+        return lookup::types::is_kind(base, t, 3);
     }
-    lookup::is_kind(base, t, 1)
+    lookup::types::is_kind(base, t, 1)
 }
 
 // `known` is whether the call knows the scan code that it was given, if it takes one.

@@ -8,7 +8,7 @@ use Rattle.rules.specs.03-Names.{Name}
 use Rattle.rules.specs.04-Schema.{Schema}
 use Rattle.rules.specs.06-Good.{Good}
 use Rattle.rules.specs.07-Picture.{Sound, sds-row, picture, base-length}
-use Rattle.rules.specs.09-Refusals.{Outcome, refusal, success, answer-of}
+use Rattle.rules.specs.09-Refusals.{Outcome, telling, refusal, success, answer-of}
 use Rattle.rules.specs.09-Refusals.Outcome.{refused, done}
 use Rattle.rules.specs.10-Changes.{with-sdss}
 use Rattle.rules.specs.12-Contracts.{Kept, Listed, Answered, base-after, output-after}
@@ -37,7 +37,7 @@ module _ {b : List ℕ} {rule : Schema → Outcome Schema} {a : Answer} where
         (e ∙ ap answer-of same, f ∙ ap (base-after b) same);
   }
 
-  pub kept-refused : {n : ℕ} → Sound b → rule (schema-of b) ≡ refused n → a ≡ refusal n → Kept b rule a b
+  pub kept-refused : {n value : ℕ} → Sound b → rule (schema-of b) ≡ refused n value → a ≡ telling n value → Kept b rule a b
   kept-refused s₀ r e = kept-as s₀ r e refl
 
   pub kept-done : {after : List ℕ} {x y z : ℕ} {next : Schema} → Sound b → rule (schema-of b) ≡ done x y z next → a ≡ success x y z

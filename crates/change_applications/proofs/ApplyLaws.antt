@@ -11,7 +11,7 @@ use Rattle.rules.specs.01-Lists.{without, put}
 use Rattle.rules.specs.03-Names.{Name}
 use Rattle.rules.specs.04-Schema.{Schema, Application, kind-of, is-attribute, type-named, applied, is-application, application-before}
 use Rattle.rules.specs.07-Picture.{picture}
-use Rattle.rules.specs.09-Refusals.{Refusals, no-object, no-attribute, no-link, applications-full}
+use Rattle.rules.specs.09-Refusals.{_when_, Refusals, no-object, no-attribute, no-link, applications-full}
 use Rattle.rules.specs.09-Refusals.Outcome.{done}
 use Rattle.rules.specs.10-Changes.{with-applications, application-refusals, apply, unapply}
 use Rattle.rules.proofs.Bools.{or-left, and-both}
@@ -24,7 +24,7 @@ use Rattle.base.specs.Stored.{less-row, Shows}
 use Rattle.base.proofs.Shown.{applications-long}
 use Rattle.base.proofs.StoredLaws.{sound-stored}
 use Rattle.edit.proofs.TakenLaws.{application-without}
-use Rattle.lookup.specs.Kinds.{kind-code}
+use Rattle.rules.specs.04-Schema.{kind-code}
 use Rattle.lookup.proofs.KindBytes.{told-object, told-attribute, told-link}
 use Rattle.change_applications.specs.declared.Asked.{Asked}
 use Rattle.change_applications.specs.Applying.{wrong-kind, Both, Aimed}
@@ -32,7 +32,7 @@ use Rattle.conditions.proofs.ConditionLaws.{applied-row}
 
 -- ---- what the tests that both calls make say
 
-pub not-aimed : {b : List ℕ} {d : ℕ} {a n : Name} {v : Asked} → Tested b (application-refusals d a n (schema-of b)) (v .no) → (v .no ≡ 0 → ⊥)
+pub not-aimed : {b : List ℕ} {d : ℕ} {a n : Name} {v : Asked} → Tested b (application-refusals d a n (schema-of b)) (v .no) 0 → (v .no ≡ 0 → ⊥)
     → Aimed b d a n v
 not-aimed t z = record { told = t; both = λ e. absurd (z e) }
 
@@ -68,10 +68,10 @@ less-application d t a s = with-applications s (without (is-application d t a) (
 
 -- what the rules test besides
 abbrev pub apply-rest : ℕ → Name → Name → Schema → Refusals
-apply-rest d a n s = (9, applied s d (type-named s d n) (type-named s d a)) ∷ (14, applications-full s 1) ∷ []
+apply-rest d a n s = (9 when applied s d (type-named s d n) (type-named s d a)) ∷ (14 when applications-full s 1) ∷ []
 
 abbrev pub unapply-rest : ℕ → Name → Name → Schema → Refusals
-unapply-rest d a n s = (13, not (applied s d (type-named s d n) (type-named s d a))) ∷ []
+unapply-rest d a n s = (13 when not (applied s d (type-named s d n) (type-named s d a))) ∷ []
 
 module _ (d : ℕ) (a n : Name) (s : Schema) where
   pub apply-left : Left (apply d a n s) (application-refusals d a n s ++ apply-rest d a n s)

@@ -25,5 +25,5 @@ pub record Both (b : List ℕ) (d : ℕ) (a n : Name) (v : Asked) : Type 0 where
   pub to : (v .to < 128) × (v .to ≡ type-named (schema-of b) d n)
 
 pub record Aimed (b : List ℕ) (d : ℕ) (a n : Name) (v : Asked) : Type 0 where
-  pub told : Tested b (application-refusals d a n (schema-of b)) (v .no)
+  pub told : Tested b (application-refusals d a n (schema-of b)) (v .no) 0
   pub both : v .no ≡ 0 → Both b d a n v

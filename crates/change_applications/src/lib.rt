@@ -32,13 +32,13 @@ fn is_wrong_kind(base: &[u8], a: usize, t: usize) -> bool
     requires { ⌜ length (now base) ≡ base-length ⌝ }
     ensures { λ r. ⌜ r ≡ wrong-kind (schema-of (now (base .entry))) a t ⌝ }
 {
-    if !lookup::is_kind(base, a, 2) {
+    if !lookup::types::is_kind(base, a, 2) {
         return true;
     }
-    if lookup::is_kind(base, t, 1) {
+    if lookup::types::is_kind(base, t, 1) {
         return false;
     }
-    !lookup::is_kind(base, t, 3)
+    !lookup::types::is_kind(base, t, 3)
 }
 
 // What both calls test, once, in the order of their refusals.
@@ -48,7 +48,7 @@ fn tested(base: &[u8], sds: usize, attribute: &[u8], to: &[u8]) -> Asked
     if !sound::is_sound(base) {
         return refused(1);
     }
-    if !lookup::is_sds(base, sds) {
+    if !lookup::sdss::is_sds(base, sds) {
         return refused(2);
     }
     if sds == 0 {
@@ -60,11 +60,11 @@ fn tested(base: &[u8], sds: usize, attribute: &[u8], to: &[u8]) -> Asked
     if !names::is_well_formed(to) {
         return refused(4);
     }
-    let a = working::find::type_in(base, sds, attribute);
+    let a = lookup::named::type_in(base, sds, attribute);
     if a == Limits::TYPES {
         return refused(6);
     }
-    let t = working::find::type_in(base, sds, to);
+    let t = lookup::named::type_in(base, sds, to);
     if t == Limits::TYPES {
         return refused(6);
     }
@@ -102,7 +102,7 @@ pub fn unapply(base: &mut [u8], sds: usize, attribute: &[u8], to: &[u8]) -> Answ
     if asked.no != 0 {
         return Answer::refused(asked.no);
     }
-    let row = conditions::application_row(base, sds, asked.to, asked.attribute);
+    let row = lookup::applications::application_row(base, sds, asked.to, asked.attribute);
     if base::used::application_count(base) <= row {
         return Answer::refused(13);
     }

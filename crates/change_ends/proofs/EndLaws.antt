@@ -15,7 +15,7 @@ use Rattle.rules.specs.04-Schema.Kind.{paired}
 use Rattle.rules.specs.04-Schema.Side.{origin, destination}
 use Rattle.rules.specs.06-Good.{Good}
 use Rattle.rules.specs.07-Picture.{Sound, picture}
-use Rattle.rules.specs.09-Refusals.{Outcome, Refusals, verdict, no-link, no-object, ends-full}
+use Rattle.rules.specs.09-Refusals.{_when_, Outcome, Refusals, verdict, no-link, no-object, ends-full}
 use Rattle.rules.specs.09-Refusals.Outcome.{done}
 use Rattle.rules.specs.10-Changes.{with-ends, put-all, both-ends, end-refusals, add-end, is-one-of, remove-end}
 use Rattle.rules.proofs.Bools.{or-left, or-right}
@@ -37,11 +37,11 @@ use Rattle.change_ends.specs.declared.Aim.{Aim}
 use Rattle.change_ends.specs.Ends.{Aimed}
 use Rattle.base.specs.Tested.{Tested}
 use Rattle.conditions.specs.Reverse.{one-or-none, Reverse-of}
-use Rattle.conditions.specs.Conditions.{End-place}
+use Rattle.lookup.specs.Found.{End-place}
 use Rattle.base.proofs.TestedLaws.{begun-passes}
 use Rattle.conditions.proofs.ConditionLaws.{end-place-has}
 
-pub not-aimed : {b : List ℕ} {d : ℕ} {n m : Name} {v : Aim} → Tested b (end-refusals d n m (schema-of b)) (v .no) → (v .no ≡ 0 → ⊥) → Aimed b d n m v
+pub not-aimed : {b : List ℕ} {d : ℕ} {n m : Name} {v : Aim} → Tested b (end-refusals d n m (schema-of b)) (v .no) 0 → (v .no ≡ 0 → ⊥) → Aimed b d n m v
 not-aimed t z = record { told = t; through = λ e. absurd (z e) }
 
 -- ---- what the tests of the two types say
@@ -157,7 +157,7 @@ abbrev pub added : Side → ℕ → ℕ → ℕ → Schema → Schema
 added side d l o s = with-ends s (put-all end-before (both-ends d l side o s) (s .ends))
 
 abbrev pub add-rest : Side → ℕ → ℕ → ℕ → Schema → Refusals
-add-rest side d l o s = (9, has-end s d l side o) ∷ (14, ends-full s (length (with-reverse s l))) ∷ []
+add-rest side d l o s = (9 when has-end s d l side o) ∷ (14 when ends-full s (length (with-reverse s l))) ∷ []
 
 pub add-left : (side : Side) (d : ℕ) (n m : Name) (s : Schema) → Left (add-end side d n m s)
     (end-refusals d n m s ++ add-rest side d (type-named s d n) (type-named s d m) s) (done 0 0 0 (added side d (type-named s d n) (type-named s d m) s))
@@ -229,7 +229,7 @@ abbrev pub removed : Side → ℕ → ℕ → ℕ → Schema → Schema
 removed side d l o s = with-ends s (without (is-one-of (both-ends d l side o s)) (s .ends))
 
 abbrev pub remove-rest : Side → ℕ → ℕ → ℕ → Schema → Refusals
-remove-rest side d l o s = (13, not (has-end s d l side o)) ∷ []
+remove-rest side d l o s = (13 when not (has-end s d l side o)) ∷ []
 
 pub remove-left : (side : Side) (d : ℕ) (n m : Name) (s : Schema) → Left (remove-end side d n m s)
     (end-refusals d n m s ++ remove-rest side d (type-named s d n) (type-named s d m) s) (done 0 0 0 (removed side d (type-named s d n) (type-named s d m) s))

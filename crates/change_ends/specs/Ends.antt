@@ -23,5 +23,5 @@ pub record Through (b : List ℕ) (d : ℕ) (n m : Name) (v : Aim) : Type 0 wher
   pub object-named : v .object ≡ type-named (schema-of b) d m
 
 pub record Aimed (b : List ℕ) (d : ℕ) (n m : Name) (v : Aim) : Type 0 where
-  pub told : Tested b (end-refusals d n m (schema-of b)) (v .no)
+  pub told : Tested b (end-refusals d n m (schema-of b)) (v .no) 0
   pub through : v .no ≡ 0 → Through b d n m v

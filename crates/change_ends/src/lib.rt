@@ -36,7 +36,7 @@ fn aimed_at(base: &[u8], sds: usize, link: &[u8], object: &[u8]) -> Aim
     if !sound::is_sound(base) {
         return refused(1);
     }
-    if !lookup::is_sds(base, sds) {
+    if !lookup::sdss::is_sds(base, sds) {
         return refused(2);
     }
     if sds == 0 {
@@ -48,11 +48,11 @@ fn aimed_at(base: &[u8], sds: usize, link: &[u8], object: &[u8]) -> Aim
     if !names::is_well_formed(object) {
         return refused(4);
     }
-    let l = working::find::type_in(base, sds, link);
+    let l = lookup::named::type_in(base, sds, link);
     if l == Limits::TYPES {
         return refused(6);
     }
-    let o = working::find::type_in(base, sds, object);
+    let o = lookup::named::type_in(base, sds, object);
     if o == Limits::TYPES {
         return refused(6);
     }
@@ -116,7 +116,7 @@ fn remove_end(base: &mut [u8], sds: usize, link: &[u8], object: &[u8], side: usi
     if aim.no != 0 {
         return Answer::refused(aim.no);
     }
-    let row = conditions::end_row(base, sds, aim.link, side, aim.object);
+    let row = lookup::ends::end_row(base, sds, aim.link, side, aim.object);
     if base::used::end_count(base) <= row {
         return Answer::refused(13);
     }
@@ -125,7 +125,7 @@ fn remove_end(base: &mut [u8], sds: usize, link: &[u8], object: &[u8], side: usi
     if reverse == Limits::TYPES {
         return Answer::done(0, 0, 0);
     }
-    let mirror = conditions::end_row(base, sds, reverse, 1 - side, aim.object);
+    let mirror = lookup::ends::end_row(base, sds, reverse, 1 - side, aim.object);
     edit::take_end(base, mirror);
     Answer::done(0, 0, 0)
 }

@@ -14,7 +14,7 @@ use Rattle.rules.specs.04-Schema.{Schema, Presence, used-sds, reverse, holds-ty
 use Rattle.rules.specs.04-Schema.{presence-before}
 use Rattle.rules.specs.06-Good.{Good}
 use Rattle.rules.specs.07-Picture.{Sound, pad, picture, base-length}
-use Rattle.rules.specs.09-Refusals.{Outcome, verdict, unknown-sds, malformed, malformed-new, idle-reverse-name, names-taken, presences-full}
+use Rattle.rules.specs.09-Refusals.{_when_, Outcome, verdict, unknown-sds, malformed, malformed-new, idle-reverse-name, names-taken, presences-full}
 use Rattle.rules.specs.09-Refusals.Outcome.{done}
 use Rattle.rules.specs.10-Changes.{with-presences, put-all, filled, imported, import}
 use Rattle.rules.specs.12-Contracts.{Kept}
@@ -93,7 +93,7 @@ pub of-named : {t t′ : ℕ} {x : Bool} (p : ℕ → Bool) → t ≡ t′ → x
 of-named p e q = ap p (sym e) ∙ sym q
 
 module _ {b : List ℕ} {target source : ℕ} {n new new-reverse : Name} {v : Named} where
-  pub not-chosen : Tested b (first-refusals target source n new new-reverse (schema-of b)) (v .no) → (v .no ≡ 0 → ⊥)
+  pub not-chosen : Tested b (first-refusals target source n new new-reverse (schema-of b)) (v .no) 0 → (v .no ≡ 0 → ⊥)
       → Chosen b target source n new new-reverse v
   not-chosen r z = record { told = r; ready = λ e. absurd (z e) }
 
@@ -201,7 +201,7 @@ module _ (b : List ℕ) (d : ℕ) (n : Name) (t : ℕ) {b₁ : List ℕ}
 abbrev rest-of : ℕ → ℕ → Name → Name → Schema → ℕ → List ℕ → Outcome Schema
 rest-of target source new new-reverse s t rs =
     let ps : List Presence = presence-of target (filled s source t new) t ∷ map (λ r. presence-of target (filled s source r new-reverse) r) rs in
-    verdict ((11, names-taken s target (map (λ p. p .name) ps)) ∷ (14, presences-full s (length (t ∷ rs))) ∷ [])
+    verdict ((11 when names-taken s target (map (λ p. p .name) ps)) ∷ (14 when presences-full s (length (t ∷ rs))) ∷ [])
     (done t (getD rs 0 0) 0 (with-presences s (put-all presence-before ps (s .presences))))
 
 pub import-left : (target source : ℕ) (n new new-reverse : Name) (s : Schema) → Left (import target source n new new-reverse s)

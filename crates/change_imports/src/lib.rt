@@ -42,10 +42,10 @@ fn is_one_unknown(base: &[u8], target: usize, source: usize) -> bool
     requires { ⌜ length (now base) ≡ base-length ⌝ }
     ensures { λ r. ⌜ r ≡ unknown-sds (schema-of (now (base .entry))) target || unknown-sds (schema-of (now (base .entry))) source ⌝ }
 {
-    if !lookup::is_sds(base, target) {
+    if !lookup::sdss::is_sds(base, target) {
         return true;
     }
-    !lookup::is_sds(base, source)
+    !lookup::sdss::is_sds(base, source)
 }
 
 // A new name may be blank.
@@ -102,7 +102,7 @@ fn named_by(
     if is_one_malformed(name, new, new_reverse) {
         return refused(4);
     }
-    let t = working::find::type_in(base, source, name);
+    let t = lookup::named::type_in(base, source, name);
     if t == Limits::TYPES {
         return refused(6);
     }
@@ -130,7 +130,7 @@ fn filled(base: &[u8], source: usize, t: usize, new: &[u8]) -> [u8; Limits::NAME
 {
     let mut field: [u8; Limits::NAME] = [0; Limits::NAME];
     if new.len() == 0 {
-        let row = lookup::presence_row(base, source, t);
+        let row = lookup::presences::presence_row(base, source, t);
         rows::table::write(&mut field, 0, base::presence_field(base, row));
         return field;
     }
@@ -147,7 +147,7 @@ fn enter_one(base: &mut [u8], d: usize, name: &[u8], t: usize) -> Answer
     requires { ⌜ well-formed (now name) ≡ true ⌝ }
     ensures { λ a. ⌜ Kept (now (base .entry)) (enter d (presence-of d (now (name .entry)) t ∷ []) t 0) a (now (base .exit)) ⌝ }
 {
-    if working::find::type_in(base, d, name) != Limits::TYPES {
+    if lookup::named::type_in(base, d, name) != Limits::TYPES {
         return Answer::refused(11);
     }
     if Limits::PRESENCES <= base::used::presence_count(base) {
@@ -166,10 +166,10 @@ fn enter_both(base: &mut [u8], d: usize, name: &[u8], t: usize, other: &[u8], r:
     ensures { λ a. ⌜ Kept (now (base .entry))
         (enter d (presence-of d (now (name .entry)) t ∷ presence-of d (now (other .entry)) r ∷ []) t r) a (now (base .exit)) ⌝ }
 {
-    if working::find::type_in(base, d, name) != Limits::TYPES {
+    if lookup::named::type_in(base, d, name) != Limits::TYPES {
         return Answer::refused(11);
     }
-    if working::find::type_in(base, d, other) != Limits::TYPES {
+    if lookup::named::type_in(base, d, other) != Limits::TYPES {
         return Answer::refused(11);
     }
     if names::is_same(name, other) {

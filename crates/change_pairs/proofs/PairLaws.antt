@@ -86,11 +86,11 @@ two-names {b} d n m e =
 
 -- ---- what the tests say
 
-pub no-two : {b : List ℕ} {no t r : ℕ} → Tested b (room-refusals b) no → (no ≡ 0 → ⊥) → Pair-room b no t r
+pub no-two : {b : List ℕ} {no t r : ℕ} → Tested b (room-refusals b) no 0 → (no ≡ 0 → ⊥) → Pair-room b no t r
 no-two e z = record { told = e; two = λ q. absurd (z q) }
 
 module _ {b : List ℕ} {d : ℕ} {n m : Name} {c c′ no t r : ℕ} where
-  pub not-placed : Tested b (new-pair-refusals d n m c c′ (schema-of b)) no → (no ≡ 0 → ⊥) → Pair-placed b d n m c c′ no t r
+  pub not-placed : Tested b (new-pair-refusals d n m c c′ (schema-of b)) no 0 → (no ≡ 0 → ⊥) → Pair-placed b d n m c c′ no t r
   not-placed e z = record { told = e; ready = λ q. absurd (z q); two = λ q. absurd (z q) }
 
 -- ---- the rule

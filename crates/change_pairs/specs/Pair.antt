@@ -7,7 +7,7 @@ use lib.ListN.{length}
 use Rattle.rules.specs.03-Names.{Name, well-formed, same-name}
 use Rattle.rules.specs.04-Schema.{bears}
 use Rattle.rules.specs.07-Picture.{Sound}
-use Rattle.rules.specs.09-Refusals.{Refusals, types-full}
+use Rattle.rules.specs.09-Refusals.{_when_, Refusals, types-full}
 use Rattle.rules.specs.10-Changes.{new-type, second-new-type, new-pair-refusals}
 use Rattle.base.specs.Back.{schema-of}
 use Rattle.base.specs.Tested.{Tested}
@@ -22,10 +22,10 @@ pub record Two-free (b : List ℕ) (t r : ℕ) : Type 0 where
 
 -- its last refusal
 abbrev pub room-refusals : List ℕ → Refusals
-room-refusals b = (14, types-full (schema-of b) 2) ∷ []
+room-refusals b = (14 when types-full (schema-of b) 2) ∷ []
 
 pub record Pair-room (b : List ℕ) (no t r : ℕ) : Type 0 where
-  pub told : Tested b (room-refusals b) no
+  pub told : Tested b (room-refusals b) no 0
   pub two : no ≡ 0 → Two-free b t r
 
 -- neither name is borne, and they are two
@@ -43,6 +43,6 @@ pub record Pair-ready (b : List ℕ) (d : ℕ) (n m : Name) (c c′ : ℕ) : Typ
   pub names : Two-names b d n m
 
 pub record Pair-placed (b : List ℕ) (d : ℕ) (n m : Name) (c c′ no t r : ℕ) : Type 0 where
-  pub told : Tested b (new-pair-refusals d n m c c′ (schema-of b)) no
+  pub told : Tested b (new-pair-refusals d n m c c′ (schema-of b)) no 0
   pub ready : no ≡ 0 → Pair-ready b d n m c c′
   pub two : no ≡ 0 → Two-free b t r

@@ -44,10 +44,10 @@ fn are_taken(base: &[u8], d: usize, name: &[u8], reverse: &[u8]) -> bool
     requires { ⌜ Sound (now base) ⌝ }
     ensures { λ r. ⌜ r ≡ names-taken (schema-of (now (base .entry))) d (now (name .entry) ∷ now (reverse .entry) ∷ []) ⌝ }
 {
-    if working::find::type_in(base, d, name) != Limits::TYPES {
+    if lookup::named::type_in(base, d, name) != Limits::TYPES {
         return true;
     }
-    if working::find::type_in(base, d, reverse) != Limits::TYPES {
+    if lookup::named::type_in(base, d, reverse) != Limits::TYPES {
         return true;
     }
     names::is_same(name, reverse)
@@ -58,11 +58,11 @@ fn room_for_two(base: &[u8]) -> Places
     requires { ⌜ Sound (now base) ⌝ }
     ensures { λ r. ⌜ Pair-room (now (base .entry)) (r .no) (r .t) (r .r) ⌝ }
 {
-    let t = conditions::free_type(base, 0);
+    let t = lookup::types::free_type(base, 0);
     if Limits::TYPES <= t {
         return refused(14);
     }
-    let r = conditions::free_type(base, t + 1);
+    let r = lookup::types::free_type(base, t + 1);
     if Limits::TYPES <= r {
         return refused(14);
     }
@@ -85,7 +85,7 @@ fn places_for(
     if !sound::is_sound(base) {
         return refused(1);
     }
-    if !lookup::is_sds(base, sds) {
+    if !lookup::sdss::is_sds(base, sds) {
         return refused(2);
     }
     if sds == 0 {

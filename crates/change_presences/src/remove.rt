@@ -34,7 +34,7 @@ fn take_out(base: &mut [u8], d: usize, t: usize)
     requires { ⌜ Held-once (schema-of (now base)) d t ⌝ }
     ensures { λ _. ⌜ Shows (now (base .exit)) (less-presence d t (schema-of (now (base .entry)))) ⌝ }
 {
-    let row = lookup::presence_row(base, d, t);
+    let row = lookup::presences::presence_row(base, d, t);
     edit::take_presence(base, row);
 }
 
@@ -56,7 +56,7 @@ pub fn remove_type(base: &mut [u8], sds: usize, name: &[u8]) -> Answer
     if !sound::is_sound(base) {
         return Answer::refused(1);
     }
-    if !lookup::is_sds(base, sds) {
+    if !lookup::sdss::is_sds(base, sds) {
         return Answer::refused(2);
     }
     if sds == 0 {
@@ -65,7 +65,7 @@ pub fn remove_type(base: &mut [u8], sds: usize, name: &[u8]) -> Answer
     if !names::is_well_formed(name) {
         return Answer::refused(4);
     }
-    let t = working::find::type_in(base, sds, name);
+    let t = lookup::named::type_in(base, sds, name);
     if t == Limits::TYPES {
         return Answer::refused(6);
     }

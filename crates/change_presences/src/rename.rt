@@ -14,7 +14,7 @@ fn is_borne_by_another(base: &[u8], d: usize, t: usize, name: &[u8]) -> bool
     requires { ⌜ Sound (now base) × (d < 16) ⌝ }
     ensures { λ r. ⌜ r ≡ borne-by-another (schema-of (now (base .entry))) d t (now (name .entry)) ⌝ }
 {
-    let other = working::find::type_in(base, d, name);
+    let other = lookup::named::type_in(base, d, name);
     if other == Limits::TYPES {
         return false;
     }
@@ -28,7 +28,7 @@ pub fn rename(base: &mut [u8], sds: usize, name: &[u8], new: &[u8]) -> Answer
     if !sound::is_sound(base) {
         return Answer::refused(1);
     }
-    if !lookup::is_sds(base, sds) {
+    if !lookup::sdss::is_sds(base, sds) {
         return Answer::refused(2);
     }
     if sds == 0 {
@@ -40,14 +40,14 @@ pub fn rename(base: &mut [u8], sds: usize, name: &[u8], new: &[u8]) -> Answer
     if !names::is_well_formed(new) {
         return Answer::refused(4);
     }
-    let t = working::find::type_in(base, sds, name);
+    let t = lookup::named::type_in(base, sds, name);
     if t == Limits::TYPES {
         return Answer::refused(6);
     }
     if is_borne_by_another(base, sds, t, new) {
         return Answer::refused(11);
     }
-    let row = lookup::presence_row(base, sds, t);
+    let row = lookup::presences::presence_row(base, sds, t);
     edit::take_presence(base, row);
     edit::put_presence(base, sds, new, t);
     Answer::done(0, 0, 0)

@@ -13,12 +13,12 @@ use Rattle.rules.specs.03-Names.{Name, well-formed}
 use Rattle.rules.specs.04-Schema.{Schema, Kind, bears, presence-before}
 use Rattle.rules.specs.04-Schema.Kind.{attribute, designation}
 use Rattle.rules.specs.07-Picture.{picture}
-use Rattle.rules.specs.09-Refusals.{Outcome, Refusals, verdict, success, unknown-value-kind, presences-full, types-full, free-types}
+use Rattle.rules.specs.09-Refusals.{_when_, Outcome, Refusals, verdict, success, unknown-value-kind, presences-full, types-full, free-types}
 use Rattle.rules.specs.09-Refusals.Outcome.{done}
 use Rattle.rules.specs.10-Changes.{with-types, with-presences, with-type, new-type, new-attribute, new-designation}
 use Rattle.rules.specs.12-Contracts.{Kept}
 use Rattle.rules.proofs.Bools.{or-left, or-right}
-use Rattle.rules.proofs.09-Refusals.{Left, told}
+use Rattle.rules.proofs.09-Refusals.{Left}
 use Rattle.base.specs.Back.{schema-of, presence-count}
 use Rattle.base.specs.Stored.{Shows, Stored, Becomes}
 use Rattle.base.proofs.Kept.{kept-done}
@@ -31,11 +31,11 @@ use Rattle.change_types.specs.Create.{aim-refusals, room-refusals, one-r
 -- ---- what the tests of a call that makes one type say
 
 module _ {b : List ℕ} {d : ℕ} {n : Name} {no : ℕ} where
-  pub not-aimed : Tested b (aim-refusals (schema-of b) d n) no → (no ≡ 0 → ⊥) → Aimed b d n no
+  pub not-aimed : Tested b (aim-refusals (schema-of b) d n) no 0 → (no ≡ 0 → ⊥) → Aimed b d n no
   not-aimed r z = record { told = r; small = λ e. absurd (z e); formed = λ e. absurd (z e) }
 
   module _ {t : ℕ} where
-    pub no-room : Tested b (room-refusals (schema-of b) d n) no → (no ≡ 0 → ⊥) → Room b d n no t
+    pub no-room : Tested b (room-refusals (schema-of b) d n) no 0 → (no ≡ 0 → ⊥) → Room b d n no t
     no-room r z = record {
       told = r;
       free = λ e. absurd (z e);
@@ -44,12 +44,12 @@ module _ {b : List ℕ} {d : ℕ} {n : Name} {no : ℕ} where
       new = λ e. absurd (z e);
     }
 
-    pub not-placed : {unknown : Bool} → Tested b (one-refusals (schema-of b) d n unknown) no → (no ≡ 0 → ⊥) → Placed b d n unknown no t
+    pub not-placed : {unknown : Bool} → Tested b (one-refusals (schema-of b) d n unknown) no 0 → (no ≡ 0 → ⊥) → Placed b d n unknown no t
     not-placed r z = record { told = r; value-known = λ e. absurd (z e); ready = λ e. absurd (z e) }
 
 module _ {b : List ℕ} {d : ℕ} {n : Name} {no : ℕ} (a : Aimed b d n no) {no′ t : ℕ} {unknown : Bool} where
   pub aimed-stops : (no ≡ 0 → ⊥) → no′ ≡ no → Placed b d n unknown no′ t
-  aimed-stops z e = rw e (not-placed (tested-first ((5, unknown) ∷ room-refusals (schema-of b) d n) (a .told) z) z)
+  aimed-stops z e = rw e (not-placed (tested-first ((5 when unknown) ∷ room-refusals (schema-of b) d n) (a .told) z) z)
 
 -- of refusals that begin with those of the aim, the others are left
 pub come-aimed : {b : List ℕ} {d : ℕ} {n : Name} {no : ℕ} → Aimed b d n no → no ≡ 0 → (rest : Refusals)
@@ -72,11 +72,11 @@ module _ {b : List ℕ} {d : ℕ} {n : Name} {no : ℕ} (a : Aimed b d n no) (z 
   -- what stands between is a value kind
   module _ {unknown : Bool} where
     pub aimed-unknown : unknown ≡ true → no′ ≡ 5 → Placed b d n unknown no′ t
-    aimed-unknown e h = not-placed (come-stops (come-aimed a z ((5, unknown) ∷ room-refusals (schema-of b) d n)) e h) (λ w. omega arith)
+    aimed-unknown e h = not-placed (come-stops (come-aimed a z ((5 when unknown) ∷ room-refusals (schema-of b) d n)) e h) (λ w. omega arith)
 
     pub aimed-placed : unknown ≡ false → Room b d n no′ t → Placed b d n unknown no′ t
     aimed-placed e r = record {
-      told = come-rest (come-next (come-aimed a z ((5, unknown) ∷ room-refusals (schema-of b) d n)) e) (r .told);
+      told = come-rest (come-next (come-aimed a z ((5 when unknown) ∷ room-refusals (schema-of b) d n)) e) (r .told);
       value-known = λ _. e;
       ready = both-ready r;
     }

@@ -26,7 +26,7 @@ pub fn aimed(base: &[u8], sds: usize, name: &[u8]) -> usize
     if !sound::is_sound(base) {
         return 1;
     }
-    if !lookup::is_sds(base, sds) {
+    if !lookup::sdss::is_sds(base, sds) {
         return 2;
     }
     if sds == 0 {
@@ -43,10 +43,10 @@ pub fn room_for(base: &[u8], sds: usize, name: &[u8]) -> Place
     requires { ⌜ Sound (now base) ⌝ }
     ensures { λ r. ⌜ Room (now (base .entry)) sds (now (name .entry)) (r .no) (r .t) ⌝ }
 {
-    if working::find::type_in(base, sds, name) != Limits::TYPES {
+    if lookup::named::type_in(base, sds, name) != Limits::TYPES {
         return refused(11);
     }
-    let t = conditions::free_type(base, 0);
+    let t = lookup::types::free_type(base, 0);
     if Limits::TYPES <= t {
         return refused(14);
     }

@@ -16,7 +16,7 @@ use Rattle.rules.specs.04-Schema.Kind.{unused, object, attribute, designation, 
 use Rattle.rules.specs.07-Picture.{pad, sds-row, presence-row}
 use Rattle.rules.proofs.Bools.{or-cases, or-left, or-right, and-both, and-of}
 use Rattle.rules.proofs.01-Lists.{same-bytes-is, same-bytes-refl}
-use Rattle.rules.proofs.03-Names.{same-name-is, same-name-refl}
+use Rattle.rules.proofs.03-Names.{same-turned, same-long, Fits, formed-fits, blank-fits, pad-same}
 use Rattle.rules.proofs.07-Picture.{strip-blank}
 use Rattle.rules.specs.Read.{strip, read-kind}
 use Rattle.name_fields.specs.Field.{name-field, blank-field}
@@ -102,23 +102,31 @@ module _ (b : List ℕ) (long : length b ≡ 13312) where
 
   -- two fields are the same exactly where the names are
   module _ (fine : (d : ℕ) → d < 16 → fine-field b d ≡ true) where
-    same-fields : (d e : ℕ) → d < 16 → e < 16 → same-name (sds-name (schema-of b) d) (sds-name (schema-of b) e) ≡ true
-        → same-name (part b (sds-at d) 16) (part b (sds-at e) 16) ≡ true
+    fits : (d : ℕ) → d < 16 → Fits (sds-shown b d)
+    fits d h =
+        let f = part b (sds-at d) 16 in
+        ⊎-elim
+        (λ q. rw (blank-zeros f (field-long d h) q, strip-blank) blank-fits)
+        (λ q. formed-fits (strip f) (name-field-formed f q))
+        (or-cases (blank-field f) (name-field f) (fine d h))
+
+    same-fields : (d e : ℕ) → d < 16 → e < 16
+        → same-name (part b (sds-at d) 16) (part b (sds-at e) 16) ≡ same-name (sds-name (schema-of b) d) (sds-name (schema-of b) e)
     unfolding sds-row
-    same-fields d e h k q =
-        let n : sds-shown b d ≡ sds-shown b e = sym (sds-is b d h) ∙ same-name-is (sds-name (schema-of b) d) (sds-name (schema-of b) e) q ∙ sds-is b e k in
-        let f : part b (sds-at d) 16 ≡ part b (sds-at e) 16 = sym (fine-written d h (fine d h)) ∙ ap (pad 16) n ∙ fine-written e k (fine e k) in
-        rw f (same-name-refl (part b (sds-at e) 16))
+    same-fields d e h k =
+        rw (← fine-written d h (fine d h), ← fine-written e k (fine e k), sds-is b d h, sds-is b e k) (pad-same (fits d h) (fits e k))
 
     unique : ((d : ℕ) → d < 16 → Alone b d) → (d e : ℕ) → used-sds (schema-of b) d ≡ true → used-sds (schema-of b) e ≡ true
         → same-name (sds-name (schema-of b) d) (sds-name (schema-of b) e) ≡ true → d ≡ e
     unique a d e u v q = go (ltb d e) refl (ltb e d) refl
       where
         go : (x : Bool) → ltb d e ≡ x → (y : Bool) → ltb e d ≡ y → d ≡ e
-        go true l y m = absurd (a d (used-below b long d u) u e (used-below b long e v) (ltb-true d e l) (same-fields d e (used-below b long d u) (used-below b long e v) q))
+        go true l y m =
+            absurd (a d (used-below b long d u) u e (used-below b long e v) (ltb-true d e l)
+            (same-fields d e (used-below b long d u) (used-below b long e v) ∙ q))
         go false l true m =
             absurd (a e (used-below b long e v) v d (used-below b long d u) (ltb-true e d m)
-            (same-fields e d (used-below b long e v) (used-below b long d u) (rw (same-name-is (sds-name (schema-of b) d) (sds-name (schema-of b) e) q) (same-name-refl (sds-name (schema-of b) e)))))
+            (same-fields e d (used-below b long e v) (used-below b long d u) ∙ same-turned (sds-name (schema-of b) e) (sds-name (schema-of b) d) ∙ q))
         go false l false m = omega (arith, ltb-false d e l, ltb-false e d m)
 
   pub fields-of : Sdss-fine b → (d : ℕ) → d < 16 → fine-field b d ≡ true
@@ -127,9 +135,9 @@ module _ (b : List ℕ) (long : length b ≡ 13312) where
   pub alone-of : Sdss-fine b → (d : ℕ) → d < 16 → Alone b d
   unfolding used-sds
   alone-of s d h u e k l q =
-      let f : part b (sds-at d) 16 ≡ part b (sds-at e) 16 = same-name-is (part b (sds-at d) 16) (part b (sds-at e) 16) q in
-      let n : sds-name (schema-of b) d ≡ sds-name (schema-of b) e = sds-is b d h ∙ ap strip f ∙ sym (sds-is b e k) in
-      let same : d ≡ e = s .sdss .unique d e u (rw (← n) u) (rw n (same-name-refl (sds-name (schema-of b) e))) in
+      let n : same-name (sds-name (schema-of b) d) (sds-name (schema-of b) e) ≡ true = sym (same-fields (sdss-fine s) d e h k) ∙ q in
+      let v : not (blank (sds-name (schema-of b) e)) ≡ true = rw (same-long (sds-name (schema-of b) d) (sds-name (schema-of b) e) n) at u in
+      let same : d ≡ e = s .sdss .unique d e u v n in
       omega arith
 
   pub system-of : Sdss-fine b → (f : List ℕ) → f ≡ part b (sds-at 0) 16 → same-bytes f (pad 16 system-name) ≡ true

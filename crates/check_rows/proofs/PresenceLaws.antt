@@ -18,7 +18,7 @@ use Rattle.base.proofs.Shown.{presences-long, presence-in, presence-there}
 use Rattle.check_rows.specs.Fine.{Presences-fine}
 use Rattle.check_rows.specs.Named.{Row-named, System-first}
 use Rattle.check_rows.proofs.NamedLaws.{name-field-formed, name-field-padded, named-written, written-named}
-use Rattle.check_rows.proofs.OrderLaws.{front, front-once, rise-presences, rise-unique, presences-rise}
+use Rattle.check_rows.proofs.OrderLaws.{row-once, rise-presences, rise-unique, presences-rise}
 
 pub record Found (b : List ℕ) (n : ℕ) : Type 0 where
   pub rows : (i : ℕ) → i < n → Row-named b i
@@ -134,6 +134,6 @@ module _ (b : List ℕ) {n : ℕ} (long : length b ≡ 13312) (count : Counted (
       where
         no-second : 1 < n → getD b (presence-at 1) 0 ≡ 0 → presence-shown b 0 ≡ system-presence → ⊥
         no-second h e one =
-            let same : _≡_ {A = ℕ} 0 1 = front-once b (p .presence-rows) named-of rising 0 1 (omega (arith, count .is)) (omega (arith, count .is))
-            (ap front (one ∙ sym (zero-row 1 h e))) in
+            let same : _≡_ {A = ℕ} 0 1 = row-once b (p .presence-rows) named-of rising 0 1 (omega (arith, count .is)) (omega (arith, count .is))
+            (one ∙ sym (zero-row 1 h e)) in
             omega arith

@@ -1,50 +1,18 @@
--- The bytes of an end are the row of what they show exactly where the side is 0 or 1. Assumes nothing.
-use Prim.Native.Nat.{ℕ, zero, suc, _+_, _*_, _-_, _≤_, _<_}
+-- What the tests of the rows behind the presences find is what is asked of them. Assumes nothing.
+use Prim.Native.Nat.{ℕ, _+_, _*_, _-_, _≤_, _<_}
 use native.Mathlib.Omega.{arith}
-use mathlib.Core.Path.{_≡_, refl, sym, ap, _∙_}
-use mathlib.Core.List.{List, [], _∷_}
+use mathlib.Core.Path.{_≡_, refl}
+use mathlib.Core.List.{List}
 use lib.ListN.{length, getD, drop, replicate}
-use Rattle.rules.specs.04-Schema.{side-code}
 use Rattle.rules.specs.07-Picture.{end-row}
-use Rattle.rules.specs.Read.{read-side}
 use Rattle.rows.specs.Rows.{part, Rising, Counted}
-use Rattle.rows.proofs.Rows.{part-byte, filled-most}
-use Rattle.rows.proofs.Scan.{part-cons}
+use Rattle.rows.proofs.Rows.{filled-most}
 use Rattle.base.specs.Rows.{application-at, end-at}
 use Rattle.base.specs.Back.{application-count, end-count, end-shown}
 use Rattle.base.proofs.Shown.{applications-long, ends-long, used-application, used-end}
 use Rattle.check_rows.specs.Fine.{Rest-fine}
-use Rattle.check_rows.proofs.OrderLaws.{rise-applications, applications-rise, rise-ends, ends-rise}
-
-side-same : (x : ℕ) → x ≤ 1 → side-code (read-side x) ≡ x
-unfolding read-side
-side-same zero h = refl
-side-same (suc zero) h = refl
-side-same (suc (suc x)) h = absurd (omega arith)
-
-side-small : (x : ℕ) → side-code (read-side x) ≤ 1
-unfolding read-side
-side-small zero = omega arith
-side-small (suc x) = omega arith
-
-module _ (b : List ℕ) (i : ℕ) where
-  pub side-written : end-at i + 4 ≤ length b → getD b (end-at i + 2) 0 ≤ 1 → end-row (end-shown b i) ≡ part b (end-at i) 4
-  unfolding end-row
-  side-written h s =
-      let at = end-at i in
-      let two : at + 1 + 1 ≡ at + 2 = omega arith in
-      let three : at + 2 + 1 ≡ at + 3 = omega arith in
-      sym (part-cons b at 4 3 (omega arith) refl
-      ∙ ap (λ (l : List ℕ). getD b at 0 ∷ l) (part-cons b (at + 1) 3 2 (omega arith) refl
-      ∙ ap (λ (l : List ℕ). getD b (at + 1) 0 ∷ l) (rw (two, side-same (getD b (at + 2) 0) s) (part-cons b (at + 2) 2 1 (omega arith) refl
-      ∙ ap (λ (l : List ℕ). getD b (at + 2) 0 ∷ l) (rw three (part-cons b (at + 3) 1 0 (omega arith) refl))))))
-
-  pub written-side : end-row (end-shown b i) ≡ part b (end-at i) 4 → getD b (end-at i + 2) 0 ≤ 1
-  unfolding end-row
-  written-side e =
-      let same : side-code (read-side (getD b (end-at i + 2) 0)) ≡ getD b (end-at i + 2) 0
-      = ap (λ (l : List ℕ). getD l 2 0) e ∙ part-byte b (end-at i) 4 2 (omega arith) in
-      omega (arith, same, side-small (getD b (end-at i + 2) 0))
+use Rattle.check_rows.proofs.OrderLaws.{rise-applications, applications-rise}
+use Rattle.lookup.proofs.EndRows.{side-written, written-side, rise-ends, ends-rise}
 
 -- ---- what the tests find, with the counts that they found it with
 

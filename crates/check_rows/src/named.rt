@@ -3,7 +3,7 @@ ghost use mathlib.Core.Path.{_≡_};
 ghost use mathlib.Core.Bool.{true};
 ghost use Prim.Native.Nat.{ℕ, _≤_, _<_};
 ghost use lib.ListN.{length};
-ghost use Rattle.rules.specs.04-Schema.{used-sds, kind-of, is-used};
+ghost use Rattle.rules.specs.04-Schema.{kind-of, is-used};
 ghost use Rattle.rules.specs.07-Picture.{base-length};
 ghost use Rattle.rows.specs.Decides.{Decides};
 ghost use Rattle.base.specs.Back.{schema-of};
@@ -55,7 +55,7 @@ fn alone_if_used(base: &[u8], d: usize) -> bool
     requires { ⌜ (length (now base) ≡ base-length) × (d < 16) ⌝ }
     ensures { λ r. ⌜ Decides (Alone (now (base .entry)) d) r ⌝ }
 {
-    if !lookup::is_sds(base, d) {
+    if !lookup::sdss::is_sds(base, d) {
         return true;
     }
     alone_after(base, d)
@@ -111,7 +111,7 @@ fn presence_fine(base: &[u8], i: usize) -> bool
     if !name_fields::is_name_field(base::presence_field(base, i)) {
         return false;
     }
-    if !lookup::is_sds(base, base::presence_sds(base, i)) {
+    if !lookup::sdss::is_sds(base, base::presence_sds(base, i)) {
         return false;
     }
     is_type(base, base::presence_type(base, i))

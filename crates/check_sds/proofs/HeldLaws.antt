@@ -4,15 +4,14 @@ use native.Mathlib.Omega.{arith}
 use mathlib.Core.Path.{_≡_, refl, sym, ap, _∙_}
 use mathlib.Core.Logic.{⊎-elim}
 use mathlib.Core.List.{List}
-use mathlib.Core.Bool.{Bool, true, false, _&&_, _||_, true≢false, false≢true}
+use mathlib.Core.Bool.{Bool, true, false, _||_, true≢false}
 use lib.Dec.{ltb, eqb}
 use lib.ListN.{getD}
 use borrow.Author.Tests.{ltb-true, ltb-false, eqb-true, eq-eqb, ne-eqb}
-use Rattle.rules.proofs.Bools.{or-cases, or-left, or-right, and-both, and-of}
-use Rattle.rules.specs.04-Schema.{Side, End, kind-of, is-object, is-attribute, is-link, side-code, other-side, is-end, has-end}
-use Rattle.rules.specs.04-Schema.Kind.{designation, paired}
+use Rattle.rules.proofs.Bools.{or-cases, or-left, or-right, and-of}
+use Rattle.rules.specs.04-Schema.{kind-of, is-object, is-attribute, is-link, side-code, other-side, has-end}
+use Rattle.rules.specs.04-Schema.Kind.{paired}
 use Rattle.rules.specs.05-Descent.{Parent}
-use Rattle.rules.proofs.01-Lists.{any-at, any-where}
 use Rattle.rules.specs.Read.{read-side}
 use Rattle.rules.proofs.05-Descent.{child-object}
 use Rattle.rules.specs.Parts.{of-types}
@@ -20,13 +19,14 @@ use Rattle.rules.proofs.Parts.{parent-of, applied-held, ended-held}
 use Rattle.rules.proofs.Parts as part
 use Rattle.base.specs.Rows.{type-at, application-at, end-at, End-row}
 use Rattle.base.specs.Back.{schema-of, application-shown, end-shown}
-use Rattle.lookup.specs.Found.{End-found}
-use Rattle.lookup.proofs.FindLaws.{end-row-of}
-use Rattle.lookup.proofs.KindBytes.{object-byte, link-byte}
-use Rattle.base.proofs.Shown.{kind-is, kind-none, shows-designation, shows-paired, end-in, end-there}
-use Rattle.graph.specs.Graph.{Parental}
-use Rattle.graph.proofs.Rows.{parent-at, parent-place}
-use Rattle.check_sds.specs.Held.{type-in, parent-in, Closed-type, Applied, Ended, Row-where, Ends}
+use Rattle.lookup.specs.Found.{End-found, Ends}
+use Rattle.lookup.proofs.EndLaws.{end-row-of}
+use Rattle.lookup.proofs.EndRows.{has-row, row-has}
+use Rattle.lookup.proofs.KindBytes.{object-byte, link-byte, link-below, link-paired, paired-reverse}
+use Rattle.base.proofs.Shown.{kind-is, shows-paired}
+use Rattle.lookup.specs.Parents.{Parental}
+use Rattle.lookup.proofs.Parents.{parent-at, parent-place}
+use Rattle.check_sds.specs.Held.{type-in, parent-in, Closed-type, Applied, Ended, Row-where}
 
 -- ---- types gathered row by row
 
@@ -92,25 +92,6 @@ module _ (b : List ℕ) (set : ℕ → Bool) (i : ℕ) where
       ⊎-elim (λ h. true≢false (sym h ∙ o)) (λ h. true≢false (sym h ∙ l))
       (or-cases (is-object (kind-of (schema-of b) t)) (is-link (kind-of (schema-of b) t)) (rw (← e) at (x .to)))
 
--- the bytes of a link type that has a reverse, and of one that has none
-module _ (b : List ℕ) (t : ℕ) (h : t < 128) where
-  pub paired-reverse : (c r : ℕ) → kind-of (schema-of b) t ≡ paired c r → (getD b (type-at t + 1) 0 ≡ 4 → ⊥) × (r ≡ getD b (type-at t + 2) 0)
-  paired-reverse c r e =
-      let three : getD b (type-at t) 0 ≡ 3 = eqb-true (getD b (type-at t) 0) 3 (link-byte b t (getD b (type-at t) 0) h refl ∙ ap is-link e) in
-      let other : getD b (type-at t + 1) 0 ≡ 4 → ⊥ = λ f. apart (sym (shows-designation b t three f) ∙ sym (kind-is b t h) ∙ e) in
-      (other, reverse-same (sym e ∙ kind-is b t h ∙ shows-paired b t three other))
-    where
-      apart : designation ≡ paired c r → ⊥
-      apart q = let z : _≡_ {A = ℕ} 0 1 = cc in omega arith
-
-      reverse-same : paired c r ≡ paired (getD b (type-at t + 1) 0) (getD b (type-at t + 2) 0) → r ≡ getD b (type-at t + 2) 0
-      reverse-same q = cc
-
-  pub link-paired : is-link (kind-of (schema-of b) t) ≡ true → (getD b (type-at t + 1) 0 ≡ 4 → ⊥) → kind-of (schema-of b) t ≡ paired (getD b
-      (type-at t + 1) 0) (getD b (type-at t + 2) 0)
-  link-paired e n =
-      kind-is b t h ∙ shows-paired b t (eqb-true (getD b (type-at t) 0) 3 (link-byte b t (getD b (type-at t) 0) h refl ∙ e)) n
-
 -- ---- a type with its parents and its reverse, by the bytes of its row
 
 module _ {b : List ℕ} (parental : Parental b) (set : ℕ → Bool) (t : ℕ) (h : t < 128) where
@@ -158,58 +139,11 @@ module _ {b : List ℕ} (parental : Parental b) (set : ℕ → Bool) (t : ℕ) (
 
 -- ---- an end and its mirror
 
-pub side-same : (x : ℕ) → x ≤ 1 → side-code (read-side x) ≡ x
-unfolding read-side
-side-same zero h = refl
-side-same (suc zero) h = refl
-side-same (suc (suc x)) h = absurd (omega arith)
-
 other-code : (x : ℕ) → x ≤ 1 → side-code (other-side (read-side x)) ≡ 1 - x
 unfolding read-side
 other-code zero h = refl
 other-code (suc zero) h = refl
 other-code (suc (suc x)) h = absurd (omega arith)
-
-module _ {b : List ℕ} {n : ℕ} (ends : Ends b n) (d l : ℕ) (side : Side) (o : ℕ) where
-  pub has-row : has-end (schema-of b) d l side o ≡ true → End-row b n d l (side-code side) o
-  unfolding has-end
-  has-row h =
-      let (x, m, q) = any-where (is-end d l side o) ((schema-of b) .ends) h in
-      let (i, k, e) = end-in b x m in
-      let below : i < n = omega (arith, ends .counted .is) in
-      let (sd, r1) = and-both (eqb (x .sds) d) (eqb (x .link) l && (eqb (side-code (x .side)) (side-code side) && eqb (x .object) o)) q in
-      let (li, r2) = and-both (eqb (x .link) l) (eqb (side-code (x .side)) (side-code side) && eqb (x .object) o) r1 in
-      let (si, ob) = and-both (eqb (side-code (x .side)) (side-code side)) (eqb (x .object) o) r2 in
-      record {
-        place = i;
-        below = below;
-        sds = sym (ap (λ (y : End). y .sds) e) ∙ eqb-true (x .sds) d sd;
-        link = sym (ap (λ (y : End). y .link) e) ∙ eqb-true (x .link) l li;
-        turned = sym (side-same (getD b (end-at i + 2) 0) (ends .sides i below)) ∙ sym (ap (λ (y : End). side-code (y .side)) e) ∙ eqb-true (side-code
-            (x .side)) (side-code side) si;
-        object = sym (ap (λ (y : End). y .object) e) ∙ eqb-true (x .object) o ob;
-      }
-
-  pub row-has : End-row b n d l (side-code side) o → has-end (schema-of b) d l side o ≡ true
-  unfolding has-end
-  row-has x =
-      let i = x .place in
-      let below = x .below in
-      let e = end-shown b i in
-      any-at (is-end d l side o) (end-there b i (omega (arith, ends .counted .is)))
-      (and-of (eqb (e .sds) d) (eqb (e .link) l && (eqb (side-code (e .side)) (side-code side) && eqb (e .object) o)) (eq-eqb (e .sds) d (x .sds))
-      (and-of (eqb (e .link) l) (eqb (side-code (e .side)) (side-code side) && eqb (e .object) o) (eq-eqb (e .link) l (x .link))
-      (and-of (eqb (side-code (e .side)) (side-code side)) (eqb (e .object) o)
-      (eq-eqb (side-code (e .side)) (side-code side) (side-same (getD b (end-at i + 2) 0) (ends .sides i below) ∙ x .turned))
-      (eq-eqb (e .object) o (x .object)))))
-
--- a link type is below 128
-pub link-below : (b : List ℕ) (t : ℕ) → is-link (kind-of (schema-of b) t) ≡ true → t < 128
-link-below b t e = go (ltb t 128) refl
-  where
-    go : (x : Bool) → ltb t 128 ≡ x → t < 128
-    go true q = ltb-true t 128 q
-    go false q = absurd (true≢false (sym e ∙ ap is-link (kind-none b t (ltb-false t 128 q))))
 
 -- ---- one of n rows, or none
 

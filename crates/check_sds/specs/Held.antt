@@ -3,13 +3,11 @@ use Prim.Native.Nat.{ℕ, _+_, _≤_, _<_}
 use mathlib.Core.Path.{_≡_}
 use mathlib.Core.List.{List}
 use mathlib.Core.Bool.{Bool, true, false}
-use lib.ListN.{length, getD}
-use Rattle.rules.specs.07-Picture.{base-length}
+use lib.ListN.{getD}
 use Rattle.rules.specs.Parts.{Closed-under, Application-fits, End-fits, End-mirrored}
 use Rattle.type_set.specs.Set.{has}
-use Rattle.rows.specs.Rows.{Counted, Rising}
-use Rattle.base.specs.Rows.{type-at, presence-at, end-at}
-use Rattle.base.specs.Back.{schema-of, end-count, application-shown, end-shown}
+use Rattle.base.specs.Rows.{type-at, presence-at}
+use Rattle.base.specs.Back.{schema-of, application-shown, end-shown}
 use Rattle.check_sds.specs.declared.Held.{Held}
 
 abbrev pub type-in : List ℕ → ℕ → ℕ
@@ -42,10 +40,3 @@ pub record Ended (b : List ℕ) (set : ℕ → Bool) (i : ℕ) : Type 0 where
 pub record Row-where (P : Type 0) (n r : ℕ) : Type 0 where
   pub holds : r < n → P
   pub fails : n ≤ r → P → ⊥
-
--- n rows of ends, in order, with sides that are sides
-pub record Ends (b : List ℕ) (n : ℕ) : Type 0 where
-  pub long : length b ≡ base-length
-  pub counted : Counted (end-count b) 512 n
-  pub rise : Rising b 11264 4 4 n
-  pub sides : (i : ℕ) → i < n → getD b (end-at i + 2) 0 ≤ 1

@@ -7,8 +7,9 @@ ghost use lib.ListN.{length};
 ghost use Rattle.rules.specs.07-Picture.{base-length};
 ghost use Rattle.type_set.specs.Set.{has};
 ghost use Rattle.rows.specs.Decides.{Decides};
-ghost use Rattle.graph.specs.Graph.{Parental};
-ghost use Rattle.check_sds.specs.Held.{type-in, parent-in, Gathered, Closed-type, Applied, Ended, Row-where, Ends};
+ghost use Rattle.lookup.specs.Parents.{Parental};
+ghost use Rattle.check_sds.specs.Held.{type-in, parent-in, Gathered, Closed-type, Applied, Ended, Row-where};
+ghost use Rattle.lookup.specs.Found.{Ends};
 
 pub struct Held {
     pub types: TypeSet,
@@ -88,7 +89,7 @@ fn application_fine(base: &[u8], i: usize, set: TypeSet) -> bool
     ensures { λ r. ⌜ Decides (Applied (now (base .entry)) (has set) i) r ⌝ }
 {
     let attribute = base::application_attribute(base, i);
-    if !lookup::is_kind(base, attribute, 2) {
+    if !lookup::types::is_kind(base, attribute, 2) {
         return false;
     }
     if !set.holds(attribute) {
@@ -98,10 +99,10 @@ fn application_fine(base: &[u8], i: usize, set: TypeSet) -> bool
     if !set.holds(to) {
         return false;
     }
-    if lookup::is_kind(base, to, 1) {
+    if lookup::types::is_kind(base, to, 1) {
         return true;
     }
-    lookup::is_kind(base, to, 3)
+    lookup::types::is_kind(base, to, 3)
 }
 
 pub fn applications_fine(base: &[u8], from: usize, to: usize, set: TypeSet) -> bool
@@ -124,14 +125,14 @@ fn end_fine(base: &[u8], n: usize, near: usize, i: usize, set: TypeSet) -> usize
     ensures { λ r. ⌜ Row-where (Ended (now (base .entry)) (has set) i) n r ⌝ }
 {
     let link = base::end_link(base, i);
-    if !lookup::is_kind(base, link, 3) {
+    if !lookup::types::is_kind(base, link, 3) {
         return n;
     }
     if !set.holds(link) {
         return n;
     }
     let object = base::end_object(base, i);
-    if !lookup::is_kind(base, object, 1) {
+    if !lookup::types::is_kind(base, object, 1) {
         return n;
     }
     if !set.holds(object) {
@@ -141,7 +142,7 @@ fn end_fine(base: &[u8], n: usize, near: usize, i: usize, set: TypeSet) -> usize
         return i;
     }
     let side = base::end_side(base, i);
-    lookup::end_row(
+    lookup::ends::end_near(
         base,
         n,
         near,

@@ -20,13 +20,13 @@ use Rattle.base.specs.Rows.{type-at, presence-at, application-at, end-at}
 use Rattle.base.specs.Back.{schema-of, presence-count, application-count, end-count, presence-shown, application-shown, end-shown, kind-shown}
 use Rattle.base.proofs.Shown.{sds-none, kind-is, kind-none, presence-in, presence-there, application-in, application-there, end-in, end-there}
 use Rattle.base.proofs.Shown.{shows-unused}
-use Rattle.graph.specs.Graph.{Parental}
+use Rattle.lookup.specs.Parents.{Parental}
 use Rattle.check_sdss.specs.declared.Places.{Places}
 use Rattle.check_rows.specs.Fine.{Presences-fine, Rest-fine}
 use Rattle.check_sds.specs.Held.{type-in, Closed-type, Applied, Ended}
 use Rattle.check_sdss.specs.Sds.{Sds-closed, Sdss-closed, Ready}
-use Rattle.check_rows.proofs.OrderLaws.{front, front-once, presences-rise, applications-rise, ends-rise}
-use Rattle.check_rows.proofs.RestLaws.{written-side}
+use Rattle.check_rows.proofs.OrderLaws.{row-once, presences-rise, applications-rise}
+use Rattle.lookup.proofs.EndRows.{ends-rise, written-side}
 use Rattle.check_sdss.proofs.ClosedLaws.{alike}
 
 below-16 : (b : List ℕ) (d : ℕ) → used-sds (schema-of b) d ≡ true → d < 16
@@ -68,7 +68,7 @@ module _ {b : List ℕ} (pres : Presences-fine b) where
       once = λ i j h k s u e.
           let one : presence-shown b i ≡ presence-shown b j
           = c .once (presence-shown b i) (presence-shown b j) (presence-there b i h) (presence-there b j k) (s ∙ sym u) e in
-          front-once b (pres .presence-rows) named rise i j h k (ap front one);
+          row-once b (pres .presence-rows) named rise i j h k one;
       types = λ i h s. alike (held-shown b s) (λ p. Closed-type b p (type-in b i)) (c .closed (presence-shown b i) (presence-there b i h));
       applications = λ i h s. alike (held-shown b s) (λ p. Applied b p i) (c .applications (application-shown b i) (application-there b i h));
       ends = λ i h s. alike (held-shown b s) (λ p. Ended b p i) (record {

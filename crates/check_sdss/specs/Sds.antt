@@ -12,10 +12,11 @@ use Rattle.type_set.specs.Set.{has}
 use Rattle.rows.specs.Rows.{Counted, Rising, Split}
 use Rattle.base.specs.Rows.{presence-at, application-at, end-at}
 use Rattle.base.specs.Back.{schema-of, presence-count, application-count, end-count}
-use Rattle.graph.specs.Graph.{Parental}
+use Rattle.lookup.specs.Parents.{Parental}
 use Rattle.check_sdss.specs.declared.Places.{Places}
 use Rattle.check_sdss.specs.declared.Checked.{Checked}
-use Rattle.check_sds.specs.Held.{type-in, Closed-type, Applied, Ended, Ends}
+use Rattle.check_sds.specs.Held.{type-in, Closed-type, Applied, Ended}
+use Rattle.lookup.specs.Found.{Ends}
 
 -- the set is that of the types in SDS d
 abbrev pub Shows : List ℕ → ℕ → TypeSet → Type 0

@@ -7,7 +7,7 @@ ghost use Rattle.rules.specs.04-Schema.{kind-of, is-used};
 ghost use Rattle.type_set.specs.Set.{has};
 ghost use Rattle.rows.specs.Decides.{Decides};
 ghost use Rattle.base.specs.Back.{schema-of};
-ghost use Rattle.graph.specs.Graph.{Parental};
+ghost use Rattle.lookup.specs.Parents.{Parental};
 ghost use Rattle.check_rows.specs.Fine.{Presences-fine, Rest-fine};
 ghost use Rattle.check_sdss.specs.Sds.{Sdss-closed, Ready, At, Checks, Gone-through};
 

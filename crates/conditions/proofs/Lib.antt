@@ -1,3 +1,2 @@
-pub mod NameLaws
 pub mod ReverseLaws
 pub mod ConditionLaws

@@ -13,8 +13,7 @@ use Rattle.base.specs.Rows.{type-at}
 use Rattle.base.specs.Back.{schema-of}
 use Rattle.base.proofs.Back.{sound-good}
 use Rattle.base.proofs.Shown.{kind-is, shows-designation}
-use Rattle.lookup.proofs.KindBytes.{link-byte}
-use Rattle.check_sds.proofs.HeldLaws.{link-paired, link-below}
+use Rattle.lookup.proofs.KindBytes.{link-byte, link-paired, link-below}
 use Rattle.conditions.specs.Reverse.{one-or-none, Reverse-of}
 
 pub one-is : {r : ℕ} → r < 128 → one-or-none r ≡ r ∷ []

@@ -2,7 +2,6 @@
 -- type twice is no longer than there are types; and a set to which no round adds has every object type whose ways up end.
 -- Assumes nothing.
 use Prim.Native.Nat.{ℕ, zero, suc, _+_, _-_, _≤_, _<_}
-use native.Mathlib.Numerals.{add-one}
 use native.Mathlib.Omega.{arith}
 use mathlib.Core.Path.{_≡_, refl, sym, ap, _∙_}
 use mathlib.Core.Logic.{_⊎_, inl, inr, ⊎-elim}
@@ -23,24 +22,11 @@ use Rattle.rules.proofs.05-Descent.{past, descends-over, members-at-most, membe
 use Rattle.rules.proofs.Parts.{parent-in, parent-of}
 use Rattle.base.specs.Rows.{type-at}
 use Rattle.base.specs.Back.{schema-of}
-use Rattle.type_set.proofs.Members.{members-le, members-same}
-use Rattle.graph.specs.Graph.{object-in, Parental, Grounded, Ready, Settled, Round}
+use Rattle.type_set.proofs.Members.{members-le, members-same, types-taken, types-passed}
+use Rattle.graph.specs.Graph.{object-in, Grounded, Ready, Settled, Round}
+use Rattle.lookup.specs.Parents.{Parental}
 use Rattle.graph.specs.Graph.Grounded.{ground}
-use Rattle.graph.proofs.Rows.{object-below, parent-at, parent-place}
-
--- ---- the types from t on that pass: t and those behind it, or those alone
-
-module _ (p : ℕ → Bool) (t : ℕ) (h : t < 128) where
-  one : 128 - t ≡ suc (128 - (t + 1))
-  one = omega arith
-
-  pub types-taken : p t ≡ true → numbers t (128 - t) p ≡ t ∷ numbers (t + 1) (128 - (t + 1)) p
-  unfolding numbers
-  types-taken e = rw (one, e, add-one t)
-
-  pub types-passed : p t ≡ false → numbers t (128 - t) p ≡ numbers (t + 1) (128 - (t + 1)) p
-  unfolding numbers
-  types-passed e = rw (one, e, add-one t)
+use Rattle.lookup.proofs.Parents.{object-below, parent-at, parent-place}
 
 -- ---- how many numbers pass: n of those before t, and those from t on
 

@@ -1,7 +1,7 @@
 // Whether no type is its own ancestor, from the rows of types alone.
 
-use type_set::TypeSet;
 use rules::Limits;
+use type_set::TypeSet;
 ghost use mathlib.Core.Path.{_≡_};
 ghost use Prim.Native.Nat.{ℕ, _<_};
 ghost use lib.ListN.{length};
@@ -11,13 +11,14 @@ ghost use Rattle.rules.specs.07-Picture.{base-length};
 ghost use Rattle.rows.specs.Decides.{Decides};
 ghost use Rattle.base.specs.Back.{schema-of};
 ghost use Rattle.type_set.specs.Set.{has};
-ghost use Rattle.graph.specs.Graph.{object-in, Parental, Ready, Round};
+ghost use Rattle.graph.specs.Graph.{object-in, Ready, Round};
+ghost use Rattle.lookup.specs.Parents.{Parental};
 
 fn is_object(base: &[u8], t: usize) -> bool
     requires { ⌜ length (now base) ≡ base-length ⌝ }
     ensures { λ r. ⌜ r ≡ object-in (now (base .entry)) t ⌝ }
 {
-    lookup::is_kind(base, t, 1)
+    lookup::types::is_kind(base, t, 1)
 }
 
 // How many object types there are.

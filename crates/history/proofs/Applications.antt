@@ -49,7 +49,7 @@ unfolding unapply
 unapply-keeps d a n s g =
     verdict-keeps (λ o. Good (next s o)) (unapply-refusals d a n s)
     (done 0 0 0 (with-applications s (without (is-application d (type-named s d n) (type-named s d a)) (s .applications))))
-    (λ _. g)
+    (λ _ _. g)
     (λ _. with-applications-good g (fewer (parts-of g .applications) (is-application d (type-named s d n) (type-named s d a))))
 
 pub apply-keeps : (d : ℕ) (a n : Name) (s : Schema) → Good s → Good (next s (apply d a n s))
@@ -57,12 +57,12 @@ unfolding apply present applied applications-full no-attribute no-object no-link
 apply-keeps d a n s g =
     verdict-keeps (λ o. Good (next s o)) (apply-refusals d a n s)
     (done 0 0 0 (with-applications s (put application-before x (s .applications))))
-    (λ _. g)
+    (λ _ _. g)
     (λ passed.
-    let kinds = passed .1 .1 .1 .1 .0 in
+    let kinds = passed .fails 7 in
     with-applications-good g
-    (one-more (parts-of g .applications) x (room (passed .1 .1 .1 .1 .1 .1 .0))
-    (record { attribute = attribute kinds; to = to kinds; within = there (passed .1 .1 .1 .0) }) (aimed d (passed .1 .0)) (passed .1 .1 .1 .1 .1 .0)))
+    (one-more (parts-of g .applications) x (room (passed .fails 14))
+    (record { attribute = attribute kinds; to = to kinds; within = there (passed .fails 6) }) (aimed d (passed .fails 3)) (passed .fails 9)))
   where
     x : Application
     x = record { sds = d; to = type-named s d n; attribute = type-named s d a }

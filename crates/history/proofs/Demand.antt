@@ -22,7 +22,7 @@ use Rattle.history.proofs.Theorems.{list-whole}
 
 module _ {s : Schema} (g : Good s) {b : List ℕ} (shown : b ≡ picture s) where
   base-then : (o : Outcome Schema) → base-after b o ≡ picture (next s o)
-  base-then (refused n) = shown
+  base-then (refused n value) = shown
   base-then (done one two three s′) = refl
 
   -- whatever a function does within its contract, the bytes that it leaves are those of the schema that the rule gives

@@ -201,7 +201,7 @@ unfolding remove-end
 remove-end-keeps side d n m s g =
     verdict-keeps (λ o. Good (next s o)) (remove-end-refusals side d n m s)
     (done 0 0 0 (with-ends s (without (is-one-of (both-ends d (type-named s d n) side (type-named s d m) s)) (s .ends))))
-    (λ _. g)
+    (λ _ _. g)
     (λ _. with-ends-good g
     (fewer-ends (parts-of g .types) (parts-of g .ends) (both-ends d (type-named s d n) side (type-named s d m) s)
     (both-mirrored g (both s (record { sds = d; link = type-named s d n; side = side; object = type-named s d m })))))
@@ -211,14 +211,14 @@ unfolding add-end both-ends present has-end ends-full no-object no-link
 add-end-keeps side d n m s g =
     verdict-keeps (λ o. Good (next s o)) (add-end-refusals side d n m s)
     (done 0 0 0 (with-ends s (put-all end-before new (s .ends))))
-    (λ _. g)
+    (λ _ _. g)
     (λ passed.
-    let kinds = passed .1 .1 .1 .1 .0 in
+    let kinds = passed .fails 7 in
     let fit : Fit (s .types) (s .presences) a
-    = record { ended = record { link = link kinds; object = object-type kinds; within = there (passed .1 .1 .1 .0) }; outside = aimed d (passed .1 .0) } in
+    = record { ended = record { link = link kinds; object = object-type kinds; within = there (passed .fails 6) }; outside = aimed d (passed .fails 3) } in
     with-ends-good g
-    (more-ends (parts-of g .types) (parts-of g .ends) new (room (passed .1 .1 .1 .1 .1 .1 .0)) (both-fit g (both s a) fit) (both-different g (both s a))
-    (both-new g (both s a) (λ i. true≢false (sym (in-has (s .ends) a i) ∙ passed .1 .1 .1 .1 .1 .0))) (both-mirrored g (both s a))))
+    (more-ends (parts-of g .types) (parts-of g .ends) new (room (passed .fails 14)) (both-fit g (both s a) fit) (both-different g (both s a))
+    (both-new g (both s a) (λ i. true≢false (sym (in-has (s .ends) a i) ∙ passed .fails 9))) (both-mirrored g (both s a))))
   where
     a : End
     a = record { sds = d; link = type-named s d n; side = side; object = type-named s d m }

@@ -189,9 +189,9 @@ import-keeps target source n new new-reverse s g =
     let t = type-named s source n in
     verdict-keeps (λ o. Good (next s o)) (import-refusals target source n new new-reverse s)
     (done t (getD (reverse s t) 0 0) 0 (with-presences s (put-all presence-before (imported target source t new new-reverse s) (s .presences))))
-    (λ _. g)
+    (λ _ _. g)
     (λ passed.
-    let given = or-neither (malformed-new new) (malformed-new new-reverse) (or-neither (malformed n) (malformed-new new || malformed-new new-reverse) (passed .1 .1 .0) .1) in
-    comes target source t new new-reverse s g (or-neither (unknown-sds s target) (unknown-sds s source) (passed .0) .0) (passed .1 .0) (given .0) (given .1)
-    (named-present s source n (passed .1 .1 .1 .0)) (passed .1 .1 .1 .1 .1 .0) (passed .1 .1 .1 .1 .1 .1 .0) (passed .1 .1 .1 .1 .1 .1 .1 .0)
-    (passed .1 .1 .1 .1 .1 .1 .1 .1 .0))
+    let given = or-neither (malformed-new new) (malformed-new new-reverse) (or-neither (malformed n) (malformed-new new || malformed-new new-reverse) (passed .fails 4) .1) in
+    comes target source t new new-reverse s g (or-neither (unknown-sds s target) (unknown-sds s source) (passed .fails 2) .0) (passed .fails 3) (given .0) (given .1)
+    (named-present s source n (passed .fails 6)) (passed .fails 9) (passed .fails 10) (passed .fails 11)
+    (passed .fails 14))

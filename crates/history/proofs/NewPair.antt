@@ -145,15 +145,14 @@ unfolding new-pair
 new-pair-keeps d n m c c′ s g =
     verdict-keeps (λ o. Good (next s o)) (new-pair-refusals d n m c c′ s)
     (done (new-type s) (second-new-type s) 0 (with-pair (new-type s) (second-new-type s) d n m c c′ s))
-    (λ _. g)
+    (λ _ _. g)
     (λ passed.
-    let rest = passed .1 .1 .1 in
-    let (a, b) = or-neither (malformed n) (malformed m) (passed .1 .1 .0) in
-    let (free, free′, differ) = both-free s d n m (rest .1 .0) in
-    let (many, room) = types-room s 2 (rest .1 .1 .0) in
+    let (a, b) = or-neither (malformed n) (malformed m) (passed .fails 4) in
+    let (free, free′, differ) = both-free s d n m (passed .fails 11) in
+    let (many, room) = types-room s 2 (passed .fails 14) in
     let (low, unused-t) = free-number s 0 (omega arith) in
     let (reverse-low, unused-r) = free-number s 1 many in
-    one-pair g (new-type s) (second-new-type s) d n m c c′ low reverse-low (two-numbers s many) unused-t unused-r (categories c c′ (rest .0)) room
-    (row-fits s d (new-type s) n (passed .0) (passed .1 .0) (formed n a) free (unused-nowhere g d (new-type s) unused-t))
-    (row-fits s d (second-new-type s) m (passed .0) (passed .1 .0) (formed m b) free′ (unused-nowhere g d (second-new-type s) unused-r))
+    one-pair g (new-type s) (second-new-type s) d n m c c′ low reverse-low (two-numbers s many) unused-t unused-r (categories c c′ (passed .fails 5)) room
+    (row-fits s d (new-type s) n (passed .fails 2) (passed .fails 3) (formed n a) free (unused-nowhere g d (new-type s) unused-t))
+    (row-fits s d (second-new-type s) m (passed .fails 2) (passed .fails 3) (formed m b) free′ (unused-nowhere g d (second-new-type s) unused-r))
     differ)

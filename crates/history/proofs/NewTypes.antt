@@ -109,18 +109,18 @@ unfolding new-attribute unknown-value-kind
 new-attribute-keeps d n v s g =
     verdict-keeps (λ o. Good (next s o)) (new-attribute-refusals d n v s)
     (done (new-type s) 0 0 (with-type (new-type s) (attribute v) d n s))
-    (λ _. g)
+    (λ _ _. g)
     (λ passed.
-    lowest g (attribute v) d n (ltb-false 5 v (passed .1 .1 .1 .0)) (passed .0) (passed .1 .0) (passed .1 .1 .0) (passed .1 .1 .1 .1 .0)
-    (passed .1 .1 .1 .1 .1 .0))
+    lowest g (attribute v) d n (ltb-false 5 v (passed .fails 5)) (passed .fails 2) (passed .fails 3) (passed .fails 4) (passed .fails 11)
+    (passed .fails 14))
 
 pub new-designation-keeps : (d : ℕ) (n : Name) (s : Schema) → Good s → Good (next s (new-designation d n s))
 unfolding new-designation
 new-designation-keeps d n s g =
     verdict-keeps (λ o. Good (next s o)) (new-designation-refusals d n s)
     (done (new-type s) 0 0 (with-type (new-type s) designation d n s))
-    (λ _. g)
-    (λ passed. lowest g designation d n tt (passed .0) (passed .1 .0) (passed .1 .1 .0) (passed .1 .1 .1 .0) (passed .1 .1 .1 .1 .0))
+    (λ _ _. g)
+    (λ passed. lowest g designation d n tt (passed .fails 2) (passed .fails 3) (passed .fails 4) (passed .fails 11) (passed .fails 14))
 
 -- the parents that are named: 1 to 4, object types of that SDS, none twice
 named-fit : (s : Schema) (d : ℕ) (run : List ℕ) → not-1-to-4 (names-in run) ≡ false → any (no-such-name s d) (names-in run) ≡ false
@@ -154,9 +154,7 @@ unfolding new-object
 new-object-keeps d n run s g =
     verdict-keeps (λ o. Good (next s o)) (new-object-refusals d n run s)
     (done (new-type s) 0 0 (with-type (new-type s) (object (put-all ltb (parents-named s d run) [])) d n s))
-    (λ _. g)
+    (λ _ _. g)
     (λ passed.
-    let kinds = passed .1 .1 .1 in
-    let rest = kinds .1 .1 .1 .1 in
-    lowest g (object (put-all ltb (parents-named s d run) [])) d n (named-fit s d run (kinds .0) (kinds .1 .0) (kinds .1 .1 .0) (kinds .1 .1 .1 .0))
-    (passed .0) (passed .1 .0) (or-neither (malformed n) (any malformed (names-in run)) (passed .1 .1 .0) .0) (rest .0) (rest .1 .0))
+    lowest g (object (put-all ltb (parents-named s d run) [])) d n (named-fit s d run (passed .fails 5) (passed .fails 6) (passed .fails 7) (passed .fails 8))
+    (passed .fails 2) (passed .fails 3) (or-neither (malformed n) (any malformed (names-in run)) (passed .fails 4) .0) (passed .fails 11) (passed .fails 14))

@@ -26,7 +26,7 @@ no-of e = ap (λ (x : Answer). x .no) e
 
 -- a rule that refuses with higher numbers only does not answer 1
 not-1 : {Made : Type 0} (o : Outcome Made) → Beyond 1 o → (answer-of o) .no ≡ 1 → ⊥
-not-1 (refused n) h e = omega arith
+not-1 (refused n value) h e = omega arith
 not-1 (done one two three made) h e = omega arith
 
 change-beyond : (c : Change) (s : Schema) → Beyond 1 (change-rule c s)

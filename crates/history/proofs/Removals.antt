@@ -381,8 +381,8 @@ unfolding remove-type
 remove-type-keeps d n s g =
     verdict-keeps (λ o. Good (next s o)) (remove-type-refusals d n s)
     (done t 0 0 (less-gone (with-reverse s t) (with-presences s (without (goes d (with-reverse s t)) (s .presences)))))
-    (λ _. g)
-    (λ passed. removed-good g d t (aimed d (passed .1 .0)) (passed .1 .1 .1 .1 .0))
+    (λ _ _. g)
+    (λ passed. removed-good g d t (aimed d (passed .fails 3)) (passed .fails 12))
   where
     t : ℕ
     t = type-named s d n

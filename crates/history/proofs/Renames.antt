@@ -20,7 +20,7 @@ use Rattle.rules.specs.13-History.{next}
 use Rattle.rules.specs.Parts.{of-presences}
 use Rattle.rules.proofs.Bools.{or-neither, and-both, and-of, and-rest, fails}
 use Rattle.rules.proofs.01-Lists.{any-at, any-none}
-use Rattle.rules.proofs.03-Names.{same-name-is, same-name-refl}
+use Rattle.rules.proofs.03-Names.{same-asked}
 use Rattle.rules.proofs.Edits.{put-each, put-old, first-in, without-in, without-keeps, without-fewer}
 use Rattle.rules.proofs.09-Refusals.{verdict-keeps}
 use Rattle.rules.proofs.Parts.{presence-there, parts-of}
@@ -48,9 +48,8 @@ module _ (s : Schema) (g : Good s) (d : ℕ) (new : Name) (t : ℕ) where
       let (j, k) = first-in (holds-name d new) (record { sds = 0; name = []; type = 0 }) (s .presences) borne in
       let (a, b) = and-both (eqb (q .sds) d) (same-name (q .name) new) h in
       let (a′, b′) = and-both (eqb (p .sds) d) (same-name (p .name) new) k in
-      let names : q .name ≡ p .name = same-name-is (q .name) new b ∙ sym (same-name-is (p .name) new b′) in
       let one : q ≡ p = g .local-names-unique q p i j (eqb-true (q .sds) d a ∙ sym (eqb-true (p .sds) d a′))
-      (ap (λ (m : Name). same-name m (p .name)) names ∙ same-name-refl (p .name)) in
+      (same-asked (p .name) new b′ (q .name) ∙ b) in
       ap (λ r. r .type) one ∙ eqb-true (p .type) t (not-false (eqb (p .type) t) (and-rest (bears s d new) (not (eqb (p .type) t)) borne e))
 
   -- without it none of type t is left, nor one of the new name
@@ -109,7 +108,7 @@ rename-keeps d n new s g =
     (done 0 0 0
     (with-presences s (put presence-before (record { sds = d; name = new; type = type-named s d n })
     (without (holds-type d (type-named s d n)) (s .presences)))))
-    (λ _. g)
+    (λ _ _. g)
     (λ passed.
-    renamed s g d new (type-named s d n) (passed .0) (passed .1 .0) (or-neither (malformed n) (malformed new) (passed .1 .1 .0) .1)
-    (named-present s d n (passed .1 .1 .1 .0)) (passed .1 .1 .1 .1 .0))
+    renamed s g d new (type-named s d n) (passed .fails 2) (passed .fails 3) (or-neither (malformed n) (malformed new) (passed .fails 4) .1)
+    (named-present s d n (passed .fails 6)) (passed .fails 11))

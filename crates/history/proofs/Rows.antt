@@ -19,7 +19,7 @@ use Rattle.rules.specs.10-Changes.{with-presences}
 use Rattle.rules.specs.Parts.{of-sdss, of-presences, Presence-rows}
 use Rattle.rules.proofs.Bools.{and-of}
 use Rattle.rules.proofs.01-Lists.{any-at}
-use Rattle.rules.proofs.03-Names.{same-name-is, same-name-refl}
+use Rattle.rules.proofs.03-Names.{same-turned}
 use Rattle.rules.proofs.Edits.{put-long, put-each, put-none, put-in, put-new, put-old, without-in, without-keeps, without-long}
 use Rattle.rules.proofs.Parts.{presence-there, present-each, parts-of, whole, closed-over}
 use Rattle.history.proofs.Orders.{presence-order, put-rises, without-rises}
@@ -97,8 +97,8 @@ module _ {ns : List Name} {ps : List Presence} where
         named = λ p i. put-each presence-before i (λ q. well-formed (q .name) ≡ true) (f .named) (r .named p);
         unique = λ p q i j d e. both p q i j
             (λ k l. r .unique p q k l d e)
-            (λ h l. free q l (ap (λ r. r .sds) (sym h) ∙ d) (ap (λ r. r .name) (sym h) ∙ same-name-is (p .name) (q .name) e))
-            (λ k h. free p k (ap (λ r. r .sds) (sym h) ∙ sym d) (ap (λ r. r .name) (sym h) ∙ sym (same-name-is (p .name) (q .name) e)));
+            (λ h l. free q l (ap (λ r. r .sds) (sym h) ∙ d) (ap (λ r. same-name (q .name) (r .name)) (sym h) ∙ same-turned (q .name) (p .name) ∙ e))
+            (λ k h. free p k (ap (λ r. r .sds) (sym h) ∙ sym d) (ap (λ r. same-name (p .name) (r .name)) (sym h) ∙ e));
         system = put-old presence-before x ps (r .system);
         system-alone = λ p i. put-each presence-before i (λ q. q .sds ≡ 0 → q ≡ system-presence) (λ z. absurd (f .outside z)) (r .system-alone p);
         rises = put-rises presence-order x ps (r .rises) (λ i. new x i refl refl);
@@ -109,11 +109,10 @@ module _ {ns : List Name} {ps : List Presence} where
           (λ k h. new p k (ap (λ r. r .sds) (sym h) ∙ sym d) (ap (λ r. r .type) (sym h) ∙ sym e));
     }
       where
-        free : (q : Presence) → q ∈ ps → x .sds ≡ q .sds → x .name ≡ q .name → ⊥
+        free : (q : Presence) → q ∈ ps → x .sds ≡ q .sds → same-name (q .name) (x .name) ≡ true → ⊥
         free q i d n =
             true≢false (sym (any-at (holds-name (x .sds) (x .name)) i
-            (and-of (eqb (q .sds) (x .sds)) (same-name (q .name) (x .name)) (eq-eqb (q .sds) (x .sds) (sym d))
-            (ap (same-name (q .name)) n ∙ same-name-refl (q .name)))) ∙ f .free)
+            (and-of (eqb (q .sds) (x .sds)) (same-name (q .name) (x .name)) (eq-eqb (q .sds) (x .sds) (sym d)) n)) ∙ f .free)
 
         new : (q : Presence) → q ∈ ps → x .sds ≡ q .sds → x .type ≡ q .type → ⊥
         new q i d t =

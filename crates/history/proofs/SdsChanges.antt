@@ -21,7 +21,7 @@ use Rattle.rules.specs.13-History.{next}
 use Rattle.rules.specs.Parts.{of-sdss, Sdss}
 use Rattle.rules.proofs.Bools.{or-neither, and-of}
 use Rattle.rules.proofs.01-Lists.{any-at, place-in, numbers-in}
-use Rattle.rules.proofs.03-Names.{same-name-is, same-name-refl}
+use Rattle.rules.proofs.03-Names.{same-turned}
 use Rattle.rules.proofs.Edits.{set-either}
 use Rattle.rules.proofs.09-Refusals.{verdict-keeps}
 use Rattle.rules.proofs.Parts.{parts-of}
@@ -76,10 +76,10 @@ module _ {ns : List Name} (g : Sdss ns) (d : ℕ) (h : d < length ns) where
         ⊎-elim
         (λ p. ⊎-elim
         (λ r. p .0 ∙ sym (r .0))
-        (λ r. absurd (clash f (sym (used-alike (set ns d n) ns f (r .1)) ∙ v) (sym (same-name-is n (getD ns f []) (rw (p .1, r .1) at q)))))
+        (λ r. absurd (clash f (sym (used-alike (set ns d n) ns f (r .1)) ∙ v) (same-turned (getD ns f []) n ∙ (rw (p .1, r .1) at q))))
         (set-either ns d n [] h f))
         (λ p. ⊎-elim
-        (λ r. absurd (clash e (sym (used-alike (set ns d n) ns e (p .1)) ∙ u) (same-name-is (getD ns e []) n (rw (p .1, r .1) at q))))
+        (λ r. absurd (clash e (sym (used-alike (set ns d n) ns e (p .1)) ∙ u) (rw (p .1, r .1) at q)))
         (λ r. g .unique e f (sym (used-alike (set ns d n) ns e (p .1)) ∙ u) (sym (used-alike (set ns d n) ns f (r .1)) ∙ v) (rw (p .1, r .1) at q))
         (set-either ns d n [] h f))
         (set-either ns d n [] h e);
@@ -89,10 +89,10 @@ module _ {ns : List Name} (g : Sdss ns) (d : ℕ) (h : d < length ns) where
         (set-either ns d n [] h 0);
   }
     where
-      clash : (e : ℕ) → used-sds (of-sdss ns) e ≡ true → getD ns e [] ≡ n → ⊥
+      clash : (e : ℕ) → used-sds (of-sdss ns) e ≡ true → same-name (getD ns e []) n ≡ true → ⊥
       clash e u q =
           true≢false (sym (any-at (λ m. not (blank m) && same-name m n) (place-in [] ns e (used-inside ns e u))
-          (and-of (not (blank (getD ns e []))) (same-name (getD ns e []) n) (sym (name-used ns e (getD ns e []) refl) ∙ u) (rw q (same-name-refl n)))) ∙ new)
+          (and-of (not (blank (getD ns e []))) (same-name (getD ns e []) n) (sym (name-used ns e (getD ns e []) refl) ∙ u) q)) ∙ new)
 
 -- ---- the calls
 
@@ -100,8 +100,8 @@ pub remove-sds-keeps : (d : ℕ) (s : Schema) → Good s → Good (next s (remov
 unfolding remove-sds unknown-sds holds-presence
 remove-sds-keeps d s g =
     verdict-keeps (λ o. Good (next s o)) (remove-sds-refusals d s) (done 0 0 0 (with-sdss s (set (s .sdss) d [])))
-    (λ _. g)
-    (λ passed. with-sdss-good g (less-sds (parts-of g .sdss) d (inside (passed .0)) (aimed d (passed .1 .0))) (still (passed .1 .1 .0)))
+    (λ _ _. g)
+    (λ passed. with-sdss-good g (less-sds (parts-of g .sdss) d (inside (passed .fails 2)) (aimed d (passed .fails 3))) (still (passed .fails 12)))
   where
     inside : unknown-sds s d ≡ false → d < length (s .sdss)
     inside e = omega (arith, leb-false (limits .sdss) d (or-neither (leb (limits .sdss) d) (not (used-sds s d)) e .0), g .sds-room)
@@ -116,10 +116,10 @@ pub new-sds-keeps : (n : Name) (s : Schema) → Good s → Good (next s (new-sds
 unfolding new-sds sds-name-taken no-free-sds free-sdss used-sds
 new-sds-keeps n s g =
     verdict-keeps (λ o. Good (next s o)) (new-sds-refusals n s) (done (new-sds-number s) 0 0 (with-sdss s (set (s .sdss) (new-sds-number s) n)))
-    (λ _. g)
+    (λ _ _. g)
     (λ passed.
-    let (inside, free) = lowest (passed .1 .1 .0) in
-    with-sdss-good g (more-sds (parts-of g .sdss) (new-sds-number s) inside n free (formed n (passed .0)) (passed .1 .0)) (still inside free))
+    let (inside, free) = lowest (passed .fails 14) in
+    with-sdss-good g (more-sds (parts-of g .sdss) (new-sds-number s) inside n free (formed n (passed .fails 4)) (passed .fails 11)) (still inside free))
   where
     lowest : no-free-sds s ≡ false → (new-sds-number s < length (s .sdss)) × (used-sds (of-sdss (s .sdss)) (new-sds-number s) ≡ false)
     lowest e =

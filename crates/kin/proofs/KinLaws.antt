@@ -25,12 +25,11 @@ use Rattle.type_set.specs.declared.TypeSet.{TypeSet}
 use Rattle.type_set.specs.Set.{has}
 use Rattle.type_set.specs.Round.{grow-to}
 use Rattle.type_set.proofs.Set.{has-past}
-use Rattle.type_set.proofs.Members.{members-same}
+use Rattle.type_set.proofs.Members.{members-same, types-taken, types-passed}
 use Rattle.type_set.proofs.Round.{grow-cases, grow-taken}
-use Rattle.graph.specs.Graph.{Parental}
+use Rattle.lookup.specs.Parents.{Parental}
 use Rattle.kin.specs.Kin.{parents-of, children-of, ancestors-of, descendants-of, next-of, line-of}
-use Rattle.graph.proofs.Rows.{object-below, parent-below, parents-count, parents-place}
-use Rattle.graph.proofs.Laws.{types-taken, types-passed}
+use Rattle.lookup.proofs.Parents.{object-below, parent-below, parents-count, parents-place}
 
 -- ---- tests
 

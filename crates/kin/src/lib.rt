@@ -1,6 +1,6 @@
 // The kin of a set of types, from the rows of types alone: parents, children, ancestors, descendants; and the depth of a type.
-use type_set::TypeSet;
 use rules::Limits;
+use type_set::TypeSet;
 ghost use mathlib.Core.Path.{_≡_};
 ghost use mathlib.Core.Bool.{true, _||_};
 ghost use Prim.Native.Nat.{ℕ, _<_};
@@ -9,7 +9,7 @@ ghost use Rattle.rules.specs.05-Descent.{depth};
 ghost use Rattle.rules.specs.07-Picture.{Sound};
 ghost use Rattle.base.specs.Back.{schema-of};
 ghost use Rattle.type_set.specs.Set.{has};
-ghost use Rattle.graph.specs.Graph.{Parental};
+ghost use Rattle.lookup.specs.Parents.{Parental};
 ghost use Rattle.kin.specs.Kin.{parents-of, children-of, ancestors-of, descendants-of, next-of, line-of};
 
 // `s` with the parents of `t`.

@@ -3,7 +3,7 @@ use Prim.Native.Nat.{ℕ, _+_, _≤_, _<_}
 use native.Mathlib.Omega.{arith}
 use mathlib.Core.Path.{_≡_, refl, sym, ap, _∙_, subst}
 use mathlib.Core.List.{List, [], _∷_}
-use mathlib.Core.Bool.{Bool, true, false, not}
+use mathlib.Core.Bool.{Bool, true, false, not, true≢false}
 use lib.Dec.{ltb, eqb}
 use lib.ListN.{length, getD, take, drop, length-take, length-drop}
 use lib.Seq.{drop-drop, getD-drop}
@@ -16,7 +16,7 @@ use Rattle.rows.specs.Rows.{part}
 use Rattle.rows.proofs.Rows.{part-byte}
 use Rattle.base.specs.Rows.{type-at}
 use Rattle.base.specs.Back.{schema-of, kind-shown}
-use Rattle.lookup.specs.Kinds.{kind-code}
+use Rattle.rules.specs.04-Schema.{kind-code}
 use Rattle.base.proofs.Back.{sound-canonical}
 use Rattle.base.proofs.Shown.{kind-is, kind-none, shows-attribute, shows-designation, shows-paired, shows-unused}
 
@@ -225,3 +225,33 @@ sound-code {b} s t h =
     ap (λ (n : ℕ). getD b n 0) (omega arith) ∙ sym (part-byte b (type-at t) 8 0 (omega arith))
     ∙ ap (λ (r : List ℕ). getD r 0 0) (sym (sound-canonical s .type-rows t h)) ∙ written-code (kind-shown b t)
     ∙ ap kind-code (sym (kind-is b t h))
+
+pub used-byte : {b : List ℕ} → Sound b → (t x : ℕ) → t < 128 → x ≡ getD b (type-at t) 0 → not (eqb x 0) ≡ is-used (kind-of (schema-of b) t)
+used-byte {b} s t x h e = ap (λ (n : ℕ). not (eqb n 0)) (e ∙ sound-code s t h) ∙ used-code (kind-of (schema-of b) t)
+
+-- the bytes of a link type that has a reverse, and of one that has none
+module _ (b : List ℕ) (t : ℕ) (h : t < 128) where
+  pub paired-reverse : (c r : ℕ) → kind-of (schema-of b) t ≡ paired c r → (getD b (type-at t + 1) 0 ≡ 4 → ⊥) × (r ≡ getD b (type-at t + 2) 0)
+  paired-reverse c r e =
+      let three : getD b (type-at t) 0 ≡ 3 = eqb-true (getD b (type-at t) 0) 3 (link-byte b t (getD b (type-at t) 0) h refl ∙ ap is-link e) in
+      let other : getD b (type-at t + 1) 0 ≡ 4 → ⊥ = λ f. apart (sym (shows-designation b t three f) ∙ sym (kind-is b t h) ∙ e) in
+      (other, reverse-same (sym e ∙ kind-is b t h ∙ shows-paired b t three other))
+    where
+      apart : designation ≡ paired c r → ⊥
+      apart q = let z : _≡_ {A = ℕ} 0 1 = cc in omega arith
+
+      reverse-same : paired c r ≡ paired (getD b (type-at t + 1) 0) (getD b (type-at t + 2) 0) → r ≡ getD b (type-at t + 2) 0
+      reverse-same q = cc
+
+  pub link-paired : is-link (kind-of (schema-of b) t) ≡ true → (getD b (type-at t + 1) 0 ≡ 4 → ⊥) → kind-of (schema-of b) t ≡ paired (getD b
+      (type-at t + 1) 0) (getD b (type-at t + 2) 0)
+  link-paired e n =
+      kind-is b t h ∙ shows-paired b t (eqb-true (getD b (type-at t) 0) 3 (link-byte b t (getD b (type-at t) 0) h refl ∙ e)) n
+
+-- a link type is below 128
+pub link-below : (b : List ℕ) (t : ℕ) → is-link (kind-of (schema-of b) t) ≡ true → t < 128
+link-below b t e = go (ltb t 128) refl
+  where
+    go : (x : Bool) → ltb t 128 ≡ x → t < 128
+    go true q = ltb-true t 128 q
+    go false q = absurd (true≢false (sym e ∙ ap is-link (kind-none b t (ltb-false t 128 q))))

@@ -14,7 +14,7 @@ use Rattle.rules.specs.09-Refusals.{unknown-sds, sds-name-taken, holds-presence
 use Rattle.rules.specs.10-Changes.{new-sds-number}
 use Rattle.rules.proofs.Bools.{and-of, or-right}
 use Rattle.rules.proofs.01-Lists.{any-at, any-none, at-place, place-in, numbers-first, numbers-none}
-use Rattle.rules.proofs.03-Names.{same-name-is}
+use Rattle.rules.proofs.03-Names.{formed-long, same-long}
 use Rattle.rules.specs.Read.{strip}
 use Rattle.rows.specs.Rows.{part}
 use Rattle.rows.proofs.Scan.{length-part}
@@ -57,10 +57,6 @@ module _ (b : List ℕ) (long : length b ≡ 13312) where
 
 -- ---- the name of an SDS is taken
 
-formed-filled : (n : Name) → well-formed n ≡ true → n ≡ [] → ⊥
-unfolding well-formed
-formed-filled n w e = false≢true (rw e at w)
-
 -- some SDS has the name
 pub taken-at : (b : List ℕ) (d : ℕ) (n m : Name) → d < 16 → m ≡ sds-name (schema-of b) d → well-formed n ≡ true → same-name m n ≡ true
     → true ≡ sds-name-taken (schema-of b) n
@@ -68,12 +64,8 @@ unfolding sds-name-taken
 taken-at b d n m h e w q =
     sym (any-at (λ x. not (blank x) && same-name x n) (place-in [] ((schema-of b) .sdss) d (omega (arith, sdss-long b)))
     (and-of (not (blank (sds-name (schema-of b) d))) (same-name (sds-name (schema-of b) d) n)
-    (filled (sds-name (schema-of b) d) (λ z. formed-filled n w (sym (same-name-is m n q) ∙ e ∙ z)))
+    (ap not (ne-eqb (length (sds-name (schema-of b) d)) 0 (λ z. omega (arith, formed-long n w .0, same-long m n q, ap length e))))
     (ap (λ (x : Name). same-name x n) (sym e) ∙ q)))
-  where
-    filled : (x : Name) → (x ≡ [] → ⊥) → not (blank x) ≡ true
-    filled [] z = absurd (z refl)
-    filled (c ∷ x) z = ap not (eqb·suc-zero (length x))
 
 -- no SDS has
 pub taken-nowhere : (b : List ℕ) (n : Name) → ((d : ℕ) → d < 16 → same-name (sds-name (schema-of b) d) n ≡ false) → false ≡ sds-name-taken (schema-of b) n

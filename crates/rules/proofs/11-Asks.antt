@@ -10,7 +10,7 @@ use mathlib.Core.Bool.{Bool, true, false, not, cond, _&&_, true≢false, false�
 use lib.Arith.{digits-mod, digits-div}
 use lib.ListN.{length, getD, take, drop}
 use lib.Pow.{shr-shr}
-use Rattle.rules.specs.01-Lists.{any, first}
+use Rattle.rules.specs.01-Lists.{any, all, first}
 use Rattle.rules.specs.03-Names.{Name}
 use Rattle.rules.specs.04-Schema.{Schema, Presence, system-presence, holds-type, present, local-name}
 use Rattle.rules.specs.05-Descent.{descends, members}
@@ -25,7 +25,7 @@ use Rattle.rules.proofs.01-Lists.{place-in}
 use Rattle.rules.proofs.03-Names.{formed-long}
 use Rattle.rules.proofs.07-Picture.{length-table, wide-sds, wide-type, name-stretch}
 use Rattle.rules.proofs.08-Working.{shown-in, shown-of}
-use Rattle.rules.proofs.09-Refusals.{verdict-keeps}
+use Rattle.rules.proofs.09-Refusals.{verdict-keeps, untold-at}
 
 -- ---- the stretch that a name call tells of holds the local name
 
@@ -69,10 +69,11 @@ name-start-is s k = omega (arith, length-table 16 sds-row wide-sds 16 (s .sdss),
 
 -- the stretch lies within the base
 pub name-within : {s : Schema} → Good s → (d t : ℕ) → (answer-of (name d t s)) .one + (answer-of (name d t s)) .two ≤ 13312
-unfolding name not-present
+unfolding name not-present all
 name-within {s} good d t =
-    verdict-keeps (λ (o : Outcome (List ℕ)). (answer-of o) .one + (answer-of o) .two ≤ 13312) (name-refusals d t s) _ (λ n. omega arith)
-    (λ w. let (u, f) = local-at s d t (shown (present s d t) (w .1 .0)) in
+    verdict-keeps (λ (o : Outcome (List ℕ)). (answer-of o) .one + (answer-of o) .two ≤ 13312) (name-refusals d t s) _
+    (λ r i. omega (arith, untold-at (name-refusals d t s) refl i))
+    (λ w. let (u, f) = local-at s d t (shown (present s d t) (w .fails 6)) in
     let long = formed-long _ (good .presence-named _ (place-in system-presence (s .presences) (place (holds-type d t) (s .presences)) u)) .1 in
     omega (arith, good .presence-room, name-start-is s (place (holds-type d t) (s .presences)), ap length f))
   where

@@ -8,6 +8,7 @@ pub mod Parts
 pub mod 07-Picture
 pub mod 08-Working
 pub mod 09-Refusals
+pub mod NameTests
 pub mod 11-Asks
 pub mod 12-Contracts
 pub mod 15-Cases

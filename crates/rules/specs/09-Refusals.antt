@@ -14,30 +14,45 @@ use Rattle.rules.specs.04-Schema.{present, bears, type-named}
 use Rattle.rules.specs.05-Descent.{members}
 use Rattle.rules.specs.08-Working.{listed-sdss, visible}
 
--- what a call comes to: refused by a number, or done, with its values and what it makes: of a changing call the next schema, of an
--- asking call the list that it puts down
+-- what a call comes to: refused by a number, with a value that it tells; or done, with its values and what it makes: of a changing
+-- call the next schema, of an asking call the list that it puts down
 pub data Outcome (Made : Type 0) : Type 0 where
-  refused : ℕ → Outcome Made
+  refused : ℕ → ℕ → Outcome Made
   done : ℕ → ℕ → ℕ → Made → Outcome Made
 
+-- a row of 01's table, as it stands in a call: the number, whether its condition holds, and what it tells
+pub record Refusal : Type 0 where
+  pub no : ℕ
+  pub holds : Bool
+  pub value : ℕ
+
+infix 5 _when_
+-- "It returns its number and zeros": so all refusals of 01
+abbrev pub _when_ : ℕ → Bool → Refusal
+n when condition = record { no = n; holds = condition; value = 0 }
+
 abbrev pub Refusals : Type 0
-Refusals = List (ℕ × Bool)
+Refusals = List Refusal
 
 -- the first condition that holds refuses by its number; where none does, the effect
 unfoldable pub verdict : {Made : Type 0} → Refusals → Outcome Made → Outcome Made
 verdict [] effect = effect
-verdict (c ∷ cs) effect = cond (c .1) (refused (c .0)) (verdict cs effect)
+verdict (r ∷ rs) effect = cond (r .holds) (refused (r .no) (r .value)) (verdict rs effect)
+
+-- the answer of a refusal: its number, what it tells, and zeros
+abbrev pub telling : ℕ → ℕ → Answer
+telling n value = record { no = n; one = value; two = 0; three = 0 }
 
 -- "It returns its number and zeros"
 abbrev pub refusal : ℕ → Answer
-refusal n = record { no = n; one = 0; two = 0; three = 0 }
+refusal n = telling n 0
 
 -- "0 is done"
 abbrev pub success : ℕ → ℕ → ℕ → Answer
 success one two three = record { no = 0; one = one; two = two; three = three }
 
 abbrev pub answer-of : {Made : Type 0} → Outcome Made → Answer
-answer-of (refused n) = refusal n
+answer-of (refused n value) = telling n value
 answer-of (done one two three made) = success one two three
 
 -- ---- 2 "an SDS number over 15 or unused"

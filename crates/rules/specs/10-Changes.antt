@@ -11,7 +11,7 @@ use Rattle.rules.specs.04-Schema.{local-name, holds-type, applied, is-ap
 use Rattle.rules.specs.04-Schema.{application-before, end-before}
 use Rattle.rules.specs.04-Schema.Kind.{unused, object, attribute, designation, paired}
 use Rattle.rules.specs.04-Schema.Side.{origin, destination}
-use Rattle.rules.specs.09-Refusals.{Outcome, Refusals, verdict, unknown-sds, system-sds, malformed, malformed-new, unknown-value-kind}
+use Rattle.rules.specs.09-Refusals.{Outcome, Refusals, _when_, verdict, unknown-sds, system-sds, malformed, malformed-new, unknown-value-kind}
 use Rattle.rules.specs.09-Refusals.{no-pair, not-1-to-4, no-such-name, no-object, no-attribute, no-link, idle-reverse-name}
 use Rattle.rules.specs.09-Refusals.{missing-parent, sds-name-taken, names-taken, borne-by-another, holds-presence, still-used}
 use Rattle.rules.specs.09-Refusals.{no-free-sds, presences-full, applications-full, ends-full, types-full, free-sdss, free-types}
@@ -43,9 +43,9 @@ put-all before (a ∷ more) rs = put-all before more (put before a rs)
 
 abbrev pub new-sds-refusals : Name → Schema → Refusals
 new-sds-refusals n s =
-    (4, malformed n)
-    ∷ (11, sds-name-taken s n)
-    ∷ (14, no-free-sds s)
+    (4 when malformed n)
+    ∷ (11 when sds-name-taken s n)
+    ∷ (14 when no-free-sds s)
     ∷ []
 
 -- "New SDS and type numbers are the lowest unused"
@@ -57,9 +57,9 @@ new-sds n s = verdict (new-sds-refusals n s) (done (new-sds-number s) 0 0 (with-
 
 abbrev pub remove-sds-refusals : ℕ → Schema → Refusals
 remove-sds-refusals d s =
-    (2, unknown-sds s d)
-    ∷ (3, system-sds d)
-    ∷ (12, holds-presence s d)
+    (2 when unknown-sds s d)
+    ∷ (3 when system-sds d)
+    ∷ (12 when holds-presence s d)
     ∷ []
 
 unfoldable pub remove-sds : ℕ → Schema → Outcome Schema
@@ -85,15 +85,15 @@ parents-named s d run = map (type-named s d) (names-in run)
 
 abbrev pub new-object-refusals : ℕ → Name → List ℕ → Schema → Refusals
 new-object-refusals d n run s =
-    (2, unknown-sds s d)
-    ∷ (3, system-sds d)
-    ∷ (4, malformed n || any malformed (names-in run))
-    ∷ (5, not-1-to-4 (names-in run))
-    ∷ (6, any (no-such-name s d) (names-in run))
-    ∷ (7, any (no-object s) (parents-named s d run))
-    ∷ (8, repeated (parents-named s d run))
-    ∷ (11, names-taken s d (n ∷ []))
-    ∷ (14, types-full s 1)
+    (2 when unknown-sds s d)
+    ∷ (3 when system-sds d)
+    ∷ (4 when malformed n || any malformed (names-in run))
+    ∷ (5 when not-1-to-4 (names-in run))
+    ∷ (6 when any (no-such-name s d) (names-in run))
+    ∷ (7 when any (no-object s) (parents-named s d run))
+    ∷ (8 when repeated (parents-named s d run))
+    ∷ (11 when names-taken s d (n ∷ []))
+    ∷ (14 when types-full s 1)
     ∷ []
 
 -- the parents are kept rising
@@ -105,12 +105,12 @@ new-object d n run s =
 -- "New attribute type: SDS, name, value kind."
 abbrev pub new-attribute-refusals : ℕ → Name → ℕ → Schema → Refusals
 new-attribute-refusals d n v s =
-    (2, unknown-sds s d)
-    ∷ (3, system-sds d)
-    ∷ (4, malformed n)
-    ∷ (5, unknown-value-kind v)
-    ∷ (11, names-taken s d (n ∷ []))
-    ∷ (14, types-full s 1)
+    (2 when unknown-sds s d)
+    ∷ (3 when system-sds d)
+    ∷ (4 when malformed n)
+    ∷ (5 when unknown-value-kind v)
+    ∷ (11 when names-taken s d (n ∷ []))
+    ∷ (14 when types-full s 1)
     ∷ []
 
 unfoldable pub new-attribute : ℕ → Name → ℕ → Schema → Outcome Schema
@@ -119,11 +119,11 @@ new-attribute d n v s = verdict (new-attribute-refusals d n v s) (done (new-type
 -- "New designation link type: SDS, name."
 abbrev pub new-designation-refusals : ℕ → Name → Schema → Refusals
 new-designation-refusals d n s =
-    (2, unknown-sds s d)
-    ∷ (3, system-sds d)
-    ∷ (4, malformed n)
-    ∷ (11, names-taken s d (n ∷ []))
-    ∷ (14, types-full s 1)
+    (2 when unknown-sds s d)
+    ∷ (3 when system-sds d)
+    ∷ (4 when malformed n)
+    ∷ (11 when names-taken s d (n ∷ []))
+    ∷ (14 when types-full s 1)
     ∷ []
 
 unfoldable pub new-designation : ℕ → Name → Schema → Outcome Schema
@@ -132,12 +132,12 @@ new-designation d n s = verdict (new-designation-refusals d n s) (done (new-type
 -- "New pair: SDS, two names, two categories from 0 to 3; the forward type takes the lower number."
 abbrev pub new-pair-refusals : ℕ → Name → Name → ℕ → ℕ → Schema → Refusals
 new-pair-refusals d n m c c′ s =
-    (2, unknown-sds s d)
-    ∷ (3, system-sds d)
-    ∷ (4, malformed n || malformed m)
-    ∷ (5, no-pair c c′)
-    ∷ (11, names-taken s d (n ∷ m ∷ []))
-    ∷ (14, types-full s 2)
+    (2 when unknown-sds s d)
+    ∷ (3 when system-sds d)
+    ∷ (4 when malformed n || malformed m)
+    ∷ (5 when no-pair c c′)
+    ∷ (11 when names-taken s d (n ∷ m ∷ []))
+    ∷ (14 when types-full s 2)
     ∷ []
 
 abbrev pub with-pair : ℕ → ℕ → ℕ → Name → Name → ℕ → ℕ → Schema → Schema
@@ -163,15 +163,15 @@ imported target source t new new-reverse s =
 abbrev pub import-refusals : ℕ → ℕ → Name → Name → Name → Schema → Refusals
 import-refusals target source n new new-reverse s =
     let t = type-named s source n in
-    (2, unknown-sds s target || unknown-sds s source)
-    ∷ (3, system-sds target)
-    ∷ (4, malformed n || (malformed-new new || malformed-new new-reverse))
-    ∷ (6, no-such-name s source n)
-    ∷ (7, idle-reverse-name s t new-reverse)
-    ∷ (9, present s target t)
-    ∷ (10, missing-parent s target t)
-    ∷ (11, names-taken s target (map (λ p. p .name) (imported target source t new new-reverse s)))
-    ∷ (14, presences-full s (length (with-reverse s t)))
+    (2 when unknown-sds s target || unknown-sds s source)
+    ∷ (3 when system-sds target)
+    ∷ (4 when malformed n || (malformed-new new || malformed-new new-reverse))
+    ∷ (6 when no-such-name s source n)
+    ∷ (7 when idle-reverse-name s t new-reverse)
+    ∷ (9 when present s target t)
+    ∷ (10 when missing-parent s target t)
+    ∷ (11 when names-taken s target (map (λ p. p .name) (imported target source t new new-reverse s)))
+    ∷ (14 when presences-full s (length (with-reverse s t)))
     ∷ []
 
 -- "Applications and ends don't come along."
@@ -186,18 +186,18 @@ import target source n new new-reverse s =
 
 abbrev pub application-refusals : ℕ → Name → Name → Schema → Refusals
 application-refusals d a n s =
-    (2, unknown-sds s d)
-    ∷ (3, system-sds d)
-    ∷ (4, malformed a || malformed n)
-    ∷ (6, no-such-name s d a || no-such-name s d n)
-    ∷ (7, no-attribute s (type-named s d a) || (no-object s (type-named s d n) && no-link s (type-named s d n)))
+    (2 when unknown-sds s d)
+    ∷ (3 when system-sds d)
+    ∷ (4 when malformed a || malformed n)
+    ∷ (6 when no-such-name s d a || no-such-name s d n)
+    ∷ (7 when no-attribute s (type-named s d a) || (no-object s (type-named s d n) && no-link s (type-named s d n)))
     ∷ []
 
 abbrev pub apply-refusals : ℕ → Name → Name → Schema → Refusals
 apply-refusals d a n s =
     application-refusals d a n s
-    ++ ((9, applied s d (type-named s d n) (type-named s d a))
-    ∷ (14, applications-full s 1)
+    ++ ((9 when applied s d (type-named s d n) (type-named s d a))
+    ∷ (14 when applications-full s 1)
     ∷ [])
 
 unfoldable pub apply : ℕ → Name → Name → Schema → Outcome Schema
@@ -210,7 +210,7 @@ apply d a n s =
 abbrev pub unapply-refusals : ℕ → Name → Name → Schema → Refusals
 unapply-refusals d a n s =
     application-refusals d a n s
-    ++ ((13, not (applied s d (type-named s d n) (type-named s d a)))
+    ++ ((13 when not (applied s d (type-named s d n) (type-named s d a)))
     ∷ [])
 
 unfoldable pub unapply : ℕ → Name → Name → Schema → Outcome Schema
@@ -228,19 +228,19 @@ both-ends d l side o s =
 
 abbrev pub end-refusals : ℕ → Name → Name → Schema → Refusals
 end-refusals d n m s =
-    (2, unknown-sds s d)
-    ∷ (3, system-sds d)
-    ∷ (4, malformed n || malformed m)
-    ∷ (6, no-such-name s d n || no-such-name s d m)
-    ∷ (7, no-link s (type-named s d n) || no-object s (type-named s d m))
+    (2 when unknown-sds s d)
+    ∷ (3 when system-sds d)
+    ∷ (4 when malformed n || malformed m)
+    ∷ (6 when no-such-name s d n || no-such-name s d m)
+    ∷ (7 when no-link s (type-named s d n) || no-object s (type-named s d m))
     ∷ []
 
 -- "A reversed link needs two ends, a designation type one."
 abbrev pub add-end-refusals : Side → ℕ → Name → Name → Schema → Refusals
 add-end-refusals side d n m s =
     end-refusals d n m s
-    ++ ((9, has-end s d (type-named s d n) side (type-named s d m))
-    ∷ (14, ends-full s (length (with-reverse s (type-named s d n))))
+    ++ ((9 when has-end s d (type-named s d n) side (type-named s d m))
+    ∷ (14 when ends-full s (length (with-reverse s (type-named s d n))))
     ∷ [])
 
 unfoldable pub add-end : Side → ℕ → Name → Name → Schema → Outcome Schema
@@ -251,7 +251,7 @@ add-end side d n m s =
 abbrev pub remove-end-refusals : Side → ℕ → Name → Name → Schema → Refusals
 remove-end-refusals side d n m s =
     end-refusals d n m s
-    ++ ((13, not (has-end s d (type-named s d n) side (type-named s d m)))
+    ++ ((13 when not (has-end s d (type-named s d n) side (type-named s d m)))
     ∷ [])
 
 abbrev pub is-one-of : List End → End → Bool
@@ -279,11 +279,11 @@ remove-destination = remove-end destination
 -- "A link type goes with its reverse, and the test covers both."
 abbrev pub remove-type-refusals : ℕ → Name → Schema → Refusals
 remove-type-refusals d n s =
-    (2, unknown-sds s d)
-    ∷ (3, system-sds d)
-    ∷ (4, malformed n)
-    ∷ (6, no-such-name s d n)
-    ∷ (12, any (still-used s d) (with-reverse s (type-named s d n)))
+    (2 when unknown-sds s d)
+    ∷ (3 when system-sds d)
+    ∷ (4 when malformed n)
+    ∷ (6 when no-such-name s d n)
+    ∷ (12 when any (still-used s d) (with-reverse s (type-named s d n)))
     ∷ []
 
 -- "A type with no presence left is gone.": of the types ts those that are present nowhere
@@ -302,11 +302,11 @@ remove-type d n s =
 
 abbrev pub rename-refusals : ℕ → Name → Name → Schema → Refusals
 rename-refusals d n new s =
-    (2, unknown-sds s d)
-    ∷ (3, system-sds d)
-    ∷ (4, malformed n || malformed new)
-    ∷ (6, no-such-name s d n)
-    ∷ (11, borne-by-another s d (type-named s d n) new)
+    (2 when unknown-sds s d)
+    ∷ (3 when system-sds d)
+    ∷ (4 when malformed n || malformed new)
+    ∷ (6 when no-such-name s d n)
+    ∷ (11 when borne-by-another s d (type-named s d n) new)
     ∷ []
 
 unfoldable pub rename : ℕ → Name → Name → Schema → Outcome Schema

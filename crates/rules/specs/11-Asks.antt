@@ -9,8 +9,8 @@ use Rattle.rules.specs.03-Names.{Name}
 use Rattle.rules.specs.04-Schema.{Schema, bears, holds-type, type-named, local-name}
 use Rattle.rules.specs.05-Descent.{descends, depth, members}
 use Rattle.rules.specs.07-Picture.{name-start}
-use Rattle.rules.specs.08-Working.{listed-sdss, visible, shown, object-scans, link-scans}
-use Rattle.rules.specs.09-Refusals.{Outcome, Refusals, verdict, unknown-sds, malformed, unknown-object-scan, unknown-link-scan}
+use Rattle.rules.specs.08-Working.{listed-sdss, visible, shown, object-scans, link-scans, ancestor, attribute-all, link-origin-all}
+use Rattle.rules.specs.09-Refusals.{Outcome, Refusals, _when_, verdict, unknown-sds, malformed, unknown-object-scan, unknown-link-scan}
 use Rattle.rules.specs.09-Refusals.{no-name-listed, not-visible, not-present, no-object, no-link, short-output}
 use Rattle.rules.specs.09-Refusals.Outcome.{done}
 
@@ -22,12 +22,12 @@ object-scan-list w t code s = shown s w (getD (object-scans s w t) code (λ k. f
 
 abbrev pub scan-object-refusals : List ℕ → ℕ → ℕ → ℕ → Schema → Refusals
 scan-object-refusals w t code room s =
-    (2, any (unknown-sds s) w)
-    ∷ (5, unknown-object-scan code)
-    ∷ (6, not-visible s w t)
-    ∷ (7, no-object s t)
-    ∷ (8, repeated w)
-    ∷ (15, short-output room (length (object-scan-list w t code s)))
+    (2 when any (unknown-sds s) w)
+    ∷ (5 when unknown-object-scan code)
+    ∷ (6 when not-visible s w t)
+    ∷ (7 when no-object s t)
+    ∷ (8 when repeated w)
+    ∷ (15 when short-output room (length (object-scan-list w t code s)))
     ∷ []
 
 -- "A scan gives its count"
@@ -41,12 +41,12 @@ link-scan-list w t code s = shown s w (getD (link-scans s w t) code (λ k. false
 
 abbrev pub scan-link-refusals : List ℕ → ℕ → ℕ → ℕ → Schema → Refusals
 scan-link-refusals w t code room s =
-    (2, any (unknown-sds s) w)
-    ∷ (5, unknown-link-scan code)
-    ∷ (6, not-visible s w t)
-    ∷ (7, no-link s t)
-    ∷ (8, repeated w)
-    ∷ (15, short-output room (length (link-scan-list w t code s)))
+    (2 when any (unknown-sds s) w)
+    ∷ (5 when unknown-link-scan code)
+    ∷ (6 when not-visible s w t)
+    ∷ (7 when no-link s t)
+    ∷ (8 when repeated w)
+    ∷ (15 when short-output room (length (link-scan-list w t code s)))
     ∷ []
 
 unfoldable pub scan-link : List ℕ → ℕ → ℕ → ℕ → Schema → Outcome (List ℕ)
@@ -56,13 +56,13 @@ scan-link w t code room s =
 -- ---- 11 "Profile of an object type: ancestors, then attribute-all, then link-origin-all, each list put down straight after the last"
 
 abbrev pub profile-ancestors : List ℕ → ℕ → Schema → List ℕ
-profile-ancestors w t s = object-scan-list w t 3 s
+profile-ancestors w t s = object-scan-list w t ancestor s
 
 abbrev pub profile-attributes : List ℕ → ℕ → Schema → List ℕ
-profile-attributes w t s = object-scan-list w t 5 s
+profile-attributes w t s = object-scan-list w t attribute-all s
 
 abbrev pub profile-links : List ℕ → ℕ → Schema → List ℕ
-profile-links w t s = object-scan-list w t 7 s
+profile-links w t s = object-scan-list w t link-origin-all s
 
 unfoldable pub profile-list : List ℕ → ℕ → Schema → List ℕ
 profile-list w t s = profile-ancestors w t s ++ (profile-attributes w t s ++ profile-links w t s)
@@ -70,11 +70,11 @@ profile-list w t s = profile-ancestors w t s ++ (profile-attributes w t s ++ pro
 -- "(profile: the three together)"
 abbrev pub profile-refusals : List ℕ → ℕ → ℕ → Schema → Refusals
 profile-refusals w t room s =
-    (2, any (unknown-sds s) w)
-    ∷ (6, not-visible s w t)
-    ∷ (7, no-object s t)
-    ∷ (8, repeated w)
-    ∷ (15, short-output room (length (profile-list w t s)))
+    (2 when any (unknown-sds s) w)
+    ∷ (6 when not-visible s w t)
+    ∷ (7 when no-object s t)
+    ∷ (8 when repeated w)
+    ∷ (15 when short-output room (length (profile-list w t s)))
     ∷ []
 
 -- "with three counts"
@@ -87,10 +87,10 @@ profile w t room s =
 
 abbrev pub find-refusals : List ℕ → Name → Schema → Refusals
 find-refusals w n s =
-    (2, any (unknown-sds s) w)
-    ∷ (4, malformed n)
-    ∷ (6, no-name-listed s w n)
-    ∷ (8, repeated w)
+    (2 when any (unknown-sds s) w)
+    ∷ (4 when malformed n)
+    ∷ (6 when no-name-listed s w n)
+    ∷ (8 when repeated w)
     ∷ []
 
 unfoldable pub find : List ℕ → Name → Schema → Outcome (List ℕ)
@@ -99,10 +99,10 @@ find w n s = verdict (find-refusals w n s) (done (type-named s (first (λ d. bea
 -- "Depth of an object type." Call 13 asks the same of its inputs.
 abbrev pub object-refusals : List ℕ → ℕ → Schema → Refusals
 object-refusals w t s =
-    (2, any (unknown-sds s) w)
-    ∷ (6, not-visible s w t)
-    ∷ (7, no-object s t)
-    ∷ (8, repeated w)
+    (2 when any (unknown-sds s) w)
+    ∷ (6 when not-visible s w t)
+    ∷ (7 when no-object s t)
+    ∷ (8 when repeated w)
     ∷ []
 
 unfoldable pub depth-of : List ℕ → ℕ → Schema → Outcome (List ℕ)
@@ -111,8 +111,8 @@ depth-of w t s = verdict (object-refusals w t s) (done (depth s t) 0 0 [])
 -- "Name: for an SDS and a type number, the stretch of the lent base that holds its local name."
 abbrev pub name-refusals : ℕ → ℕ → Schema → Refusals
 name-refusals d t s =
-    (2, unknown-sds s d)
-    ∷ (6, not-present s d t)
+    (2 when unknown-sds s d)
+    ∷ (6 when not-present s d t)
     ∷ []
 
 -- how many elements stand before the first that passes

@@ -13,7 +13,7 @@ use Rattle.rules.specs.09-Refusals.Outcome.{refused, done}
 
 -- "changes nothing lent"
 abbrev pub base-after : List ℕ → Outcome Schema → List ℕ
-base-after before (refused n) = before
+base-after before (refused n value) = before
 base-after before (done one two three next) = picture next
 
 -- "an entry is two bytes, low byte first"
@@ -27,7 +27,7 @@ room out = length out / 2
 
 -- "Output beyond the count is unchanged."
 abbrev pub output-after : List ℕ → Outcome (List ℕ) → List ℕ
-output-after before (refused n) = before
+output-after before (refused n value) = before
 output-after before (done one two three list) = entries list ++ drop (length (entries list)) before
 
 -- a changing call: on the picture of a good schema answer and base are what the rule gives; on any other bytes the answer is 1

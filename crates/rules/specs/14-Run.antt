@@ -9,6 +9,7 @@ use Rattle.rules.specs.01-Lists.{bytes, same-bytes, any, numbers}
 use Rattle.rules.specs.02-Limits.{limits}
 use Rattle.rules.specs.03-Names.{Name, blank, same-name, parted}
 use Rattle.rules.specs.04-Schema.{Schema, sds-name, used-sds}
+use Rattle.rules.specs.08-Working.{descendant}
 use Rattle.rules.specs.09-Refusals.{Outcome}
 use Rattle.rules.specs.09-Refusals.Outcome.{refused, done}
 use Rattle.rules.specs.10-Changes.{new-sds, import, new-object, remove-type}
@@ -34,11 +35,11 @@ printed (n ∷ m ∷ ns) = decimal 20 n ++ (32 ∷ printed (m ∷ ns))
 
 -- "prints a line for each: the number, then" the values; "A refusal prints its number alone."
 abbrev pub changed : Schema → Outcome Schema → Reply
-changed s (refused n) = record { line = printed (n ∷ []); next = s }
+changed s (refused n value) = record { line = printed (n ∷ []); next = s }
 changed s (done one two three s′) = record { line = printed (0 ∷ one ∷ []); next = s′ }
 
 abbrev pub asked : (ℕ → List ℕ → List ℕ) → Schema → Outcome (List ℕ) → Reply
-asked values s (refused n) = record { line = printed (n ∷ []); next = s }
+asked values s (refused n value) = record { line = printed (n ∷ []); next = s }
 asked values s (done one two three list) = record { line = printed (0 ∷ values one list); next = s }
 
 -- ---- the words of a line
@@ -88,14 +89,14 @@ obey-remove ws s = changed s (remove-type (sds-word ws 1 s) (word ws 2) s)
 
 -- "desc and depth list the one SDS named", and name the type there
 abbrev pub about-type : Outcome (List ℕ) → (ℕ → Outcome (List ℕ)) → Outcome (List ℕ)
-about-type (refused n) question = refused n
+about-type (refused n value) question = refused n value
 about-type (done t two three list) question = question t
 
 -- "for `desc` the count and the list"
 unfoldable pub obey-desc : List Name → Schema → Reply
 obey-desc ws s =
     let listed : List ℕ = sds-word ws 1 s ∷ [] in
-    asked (λ one list. one ∷ list) s (about-type (find listed (word ws 2) s) (λ t. scan-object listed t 1 (limits .types) s))
+    asked (λ one list. one ∷ list) s (about-type (find listed (word ws 2) s) (λ t. scan-object listed t descendant (limits .types) s))
 
 -- "for `depth` the depth"
 unfoldable pub obey-depth : List Name → Schema → Reply

@@ -33,7 +33,7 @@ abbrev same-answer : Answer → Answer → Bool
 same-answer a b = eqb (a .no) (b .no) && (eqb (a .one) (b .one) && (eqb (a .two) (b .two) && eqb (a .three) (b .three)))
 
 abbrev list-of : Outcome (List ℕ) → List ℕ
-list-of (refused n) = []
+list-of (refused n value) = []
 list-of (done one two three list) = list
 
 -- the call answers as the step says

@@ -13,10 +13,10 @@ fn is_called(base: &[u8], d: usize, name: &[u8]) -> bool
     requires { ⌜ (length (now base) ≡ base-length) × (d < 16) ⌝ }
     ensures { λ r. ⌜ r ≡ called (schema-of (now (base .entry))) (now (name .entry)) d ⌝ }
 {
-    if !lookup::is_sds(base, d) {
+    if !lookup::sdss::is_sds(base, d) {
         return false;
     }
-    names::is_same(lookup::sds_name(base, d), name)
+    names::is_same(lookup::sdss::sds_name(base, d), name)
 }
 
 // The number of the SDS that bears the name, 16 where none does.

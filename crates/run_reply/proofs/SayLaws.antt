@@ -8,7 +8,7 @@ use lib.Dec.{ltb}
 use lib.ListN.{length, drop}
 use borrow.Author.Tests.{ltb-true, ltb-false}
 use Rattle.rules.specs.declared.Answer.{Answer}
-use Rattle.rules.specs.01-Lists.{bytes}
+use Rattle.rules.specs.01-Lists.{bytes, all}
 use Rattle.rules.specs.04-Schema.{Schema}
 use Rattle.rules.specs.07-Picture.{Sound, picture, base-length}
 use Rattle.rules.specs.08-Working.{shown}
@@ -18,7 +18,7 @@ use Rattle.rules.specs.11-Asks.{scan-object, scan-object-refusals, object-scan-
 use Rattle.rules.specs.12-Contracts.{Kept, Listed, Answered, base-after, output-after, entries}
 use Rattle.rules.specs.14-Run.{Reply, decimal, printed, changed, asked, about-type, unreadable}
 use Rattle.rules.proofs.05-Descent.{members-most}
-use Rattle.rules.proofs.09-Refusals.{Beyond, verdict-keeps}
+use Rattle.rules.proofs.09-Refusals.{Beyond, verdict-keeps, untold-at}
 use Rattle.base.specs.Back.{schema-of}
 use Rattle.base.proofs.Back.{sound-good}
 use Rattle.base.proofs.StoredLaws.{sound-stored}
@@ -35,11 +35,11 @@ said-of a = spoken (a .no) (a .one ∷ [])
 
 changed-line : (s : Schema) (o : Outcome Schema) → Beyond 0 o → said-of (answer-of o) ≡ (changed s o) .line
 unfolding spoken
-changed-line s (refused n) p = spoken-refused n (0 ∷ []) (λ e. omega (arith, p, e))
+changed-line s (refused n value) p = spoken-refused n (value ∷ []) (λ e. omega (arith, p, e))
 changed-line s (done one two three next) p = refl
 
 changed-next : (s : Schema) (o : Outcome Schema) (b : List ℕ) → b ≡ picture s → base-after b o ≡ picture ((changed s o) .next)
-changed-next s (refused n) b e = e
+changed-next s (refused n value) b e = e
 changed-next s (done one two three next) b e = refl
 
 pub says-changed : {target : Schema → Reply} {rule : Schema → Outcome Schema} {a : Answer} {b b′ out out′ : List ℕ} {r : ℕ}
@@ -61,12 +61,12 @@ says-changed {target} {rule} {a} {b} {b′} {out} {out′} {r} k t pos long p = 
 -- ---- a question about the type that is found
 
 -- the answer of a question that is refused, and of one that is done
-refused-by : {a : Answer} (o : Outcome (List ℕ)) → a ≡ answer-of o → (a .no ≡ 0 → ⊥) → o ≡ refused (a .no)
-refused-by (refused n) e h = ap (λ (x : Answer). refused (x .no)) (sym e)
+refused-by : {a : Answer} (o : Outcome (List ℕ)) → a ≡ answer-of o → (a .no ≡ 0 → ⊥) → o ≡ refused (a .no) (a .one)
+refused-by (refused n value) e h = ap (λ (x : Answer). refused (x .no) (x .one)) (sym e)
 refused-by (done one two three list) e h = absurd (h (ap (λ (x : Answer). x .no) e))
 
 done-by : {a : Answer} (o : Outcome (List ℕ)) → Beyond 0 o → a ≡ answer-of o → a .no ≡ 0 → (q : ℕ → Outcome (List ℕ)) → about-type o q ≡ q (a .one)
-done-by (refused n) p e z q = absurd (omega (arith, p, sym (ap (λ (x : Answer). x .no) e) ∙ z))
+done-by (refused n value) p e z q = absurd (omega (arith, p, sym (ap (λ (x : Answer). x .no) e) ∙ z))
 done-by (done one two three list) p e z q = ap (λ (x : Answer). q (x .one)) (sym e)
 
 -- the rule's answer on a sound base
@@ -74,7 +74,7 @@ pub answer-is : {b : List ℕ} {rule : Schema → Outcome (List ℕ)} {a : Answe
 answer-is {b} k sound = k .kept (schema-of b) (sound-good sound) (sound-stored sound .shown)
 
 asked-next : (values : ℕ → List ℕ → List ℕ) (s : Schema) (o : Outcome (List ℕ)) → s ≡ (asked values s o) .next
-asked-next values s (refused n) = refl
+asked-next values s (refused n value) = refl
 asked-next values s (done one two three list) = refl
 
 module _ {b : List ℕ} {found : Answer} {find : Schema → Outcome (List ℕ)} (target : Schema → Reply) (values : ℕ → List ℕ → List ℕ)
@@ -99,7 +99,7 @@ module _ {b : List ℕ} {found : Answer} {find : Schema → Outcome (List ℕ)} 
 
   pub says-not-found : {out out′ : List ℕ} {r : ℕ} → (found .no ≡ 0 → ⊥) → Printed out 0 (decimal 20 (found .no)) out′ r → Says target b b out out′ r
   says-not-found h p =
-      says-asked (refused (found .no))
+      says-asked (refused (found .no) (found .one))
       (λ sound. ap (λ (o : Outcome (List ℕ)). about-type o (λ t. question t s)) (refused-by (find s) (answer-is f sound) h))
       (λ sound. sym (printed-one (found .no))) p
 
@@ -113,24 +113,25 @@ module _ {b : List ℕ} {found : Answer} {find : Schema → Outcome (List ℕ)} 
 -- one value
 value-said : (s : Schema) (o : Outcome (List ℕ)) → Beyond 0 o → said-of (answer-of o) ≡ (asked (λ one list. one ∷ []) s o) .line
 unfolding spoken
-value-said s (refused n) p = spoken-refused n (0 ∷ []) (λ e. omega (arith, p, e))
+value-said s (refused n value) p = spoken-refused n (value ∷ []) (λ e. omega (arith, p, e))
 value-said s (done one two three list) p = refl
 
 pub value-line : {a : Answer} (s : Schema) (o : Outcome (List ℕ)) → Beyond 0 o → a ≡ answer-of o → said-of a ≡ (asked (λ one list. one ∷ []) s o) .line
 value-line s o p is = ap (λ (x : Answer). said-of x) is ∙ value-said s o p
 
--- a scan's value is the length of its list, and there are no more than 128 types
+-- a scan's value is the length of its list, there are no more than 128 types, and a refusal tells 0
 abbrev Counted : Outcome (List ℕ) → Type 0
-Counted (refused n) = Unit {0}
+Counted (refused n value) = value ≡ 0
 Counted (done one two three list) = (one ≡ length list) × (length list ≤ 128)
 
 scan-counted : (w : List ℕ) (t code room : ℕ) (s : Schema) → Counted (scan-object w t code room s)
-unfolding scan-object object-scan-list shown
+unfolding scan-object object-scan-list shown all
 scan-counted w t code room s =
-    verdict-keeps Counted (scan-object-refusals w t code room s) _ (λ n. tt) (λ _. (refl, members-most _))
+    verdict-keeps Counted (scan-object-refusals w t code room s) _
+    (λ r i. untold-at (scan-object-refusals w t code room s) refl i) (λ _. (refl, members-most _))
 
 counted-few : (o : Outcome (List ℕ)) → Counted o → (answer-of o) .one ≤ 128
-counted-few (refused n) c = omega arith
+counted-few (refused n value) c = omega (arith, c)
 counted-few (done one two three list) c = omega (arith, c .0, c .1)
 
 -- on any base: one that is not sound is refused
@@ -148,12 +149,12 @@ scan-few {b} {a = a} w t code room k = go (ltb 128 (a .one)) refl
 
 -- the count and the list
 refused-line : (s : Schema) (o : Outcome (List ℕ)) → ((answer-of o) .no ≡ 0 → ⊥) → said-of (answer-of o) ≡ (asked (λ one list. one ∷ list) s o) .line
-refused-line s (refused n) h = spoken-refused n (0 ∷ []) h
+refused-line s (refused n value) h = spoken-refused n (value ∷ []) h
 refused-line s (done one two three list) h = absurd (h refl)
 
 list-line : (s : Schema) (o : Outcome (List ℕ)) (before : List ℕ) → Beyond 0 o → Counted o → (answer-of o) .no ≡ 0
     → said-of (answer-of o) ++ spaced (read-entries (output-after before o) ((answer-of o) .one)) ≡ (asked (λ one list. one ∷ list) s o) .line
-list-line s (refused n) before p c z = absurd (omega (arith, p, z))
+list-line s (refused n value) before p c z = absurd (omega (arith, p, z))
 list-line s (done one two three list) before p c z =
     let rest = drop (length (entries list)) before in
     let read : read-entries (entries list ++ rest) one ≡ list = ap (read-entries (entries list ++ rest)) (c .0) ∙ read-all list rest in

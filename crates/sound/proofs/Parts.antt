@@ -3,14 +3,16 @@
 use Prim.Native.Nat.{ℕ}
 use mathlib.Core.Path.{_≡_}
 use mathlib.Core.List.{List}
+use mathlib.Core.Bool.{true}
 use lib.ListN.{length}
+use Rattle.rules.specs.04-Schema.{Schema, kind-of, is-object}
+use Rattle.rules.specs.05-Descent.{Parent}
 use Rattle.rules.specs.07-Picture.{Sound, base-length}
 use Rattle.rules.specs.Parts.{Parents, Reverses, Acyclic, Parts}
 use Rattle.rules.proofs.Parts.{parent-in, parts-of, whole}
 use Rattle.base.specs.Back.{schema-of, Canonical}
 use Rattle.base.proofs.Back.{sound-canonical, sound-good, is-sound}
 use Rattle.base.proofs.Shown.{presence-read, end-read}
-use Rattle.graph.specs.Graph.{Parental}
 use Rattle.check_types.specs.TypeRows.{KindsFine}
 use Rattle.check_rows.specs.Fine.{Sdss-fine, Presences-fine, Rest-fine}
 use Rattle.check_sdss.specs.Sds.{Sdss-closed}
@@ -27,13 +29,9 @@ pub record Whole (b : List ℕ) : Type 0 where
   pub rest : Rest-fine b
   pub closed : Sdss-closed b
 
--- the first three that need each other
-pub parental-of : {b : List ℕ} → length b ≡ base-length → KindsFine b → Parents ((schema-of b) .types) → Parental b
-parental-of long kinds parents = record {
-  long = long;
-  type-rows = kinds .type-rows;
-  parents-objects = λ t a by. parents .objects t a (parent-in t a by);
-}
+-- as the later checks ask for it
+pub parents-objects : {s : Schema} → Parents (s .types) → (t a : ℕ) → Parent s t a → is-object (kind-of s a) ≡ true
+parents-objects p t a by = p .objects t a (parent-in t a by)
 
 pub whole-of : {b : List ℕ} → Sound b → Whole b
 whole-of {b} s =

@@ -3,11 +3,11 @@ use Prim.Native.Nat.{ℕ, _<_}
 use native.Mathlib.Omega.{arith}
 use mathlib.Core.Path.{_≡_, sym, ap, _∙_}
 use mathlib.Core.Bool.{not, false}
-use lib.ListN.{drop}
 use borrow.Author.Tests.{not-true, not-false}
 use Rattle.rules.specs.07-Picture.{Sound}
 use Rattle.rules.specs.09-Refusals.{success, no-name-listed}
 use Rattle.rules.specs.11-Asks.{find, find-refusals}
+use Rattle.base.specs.Tested.{onward}
 use Rattle.rules.proofs.09-Refusals.{Left, passes, stops, ends}
 use Rattle.base.specs.Back.{schema-of}
 use Rattle.base.proofs.Kept.{sound-long, answered-spoiled, answered-as}
@@ -21,13 +21,13 @@ sound-1 c = c .before .is-sound .ensures .holds (not-false _ (c .if1 .left))
 
 left-2 : (c : tie.Else2) → let x = c .before .before .before .before .before .before .before .args in Left
     (find (x .schema .now) (x .name .now) (schema-of (x .base .now)))
-    (drop 1 (find-refusals (x .schema .now) (x .name .now) (schema-of (x .base .now))))
+    (onward 4 (find-refusals (x .schema .now) (x .name .now) (schema-of (x .base .now))))
     (find-effect (x .schema .now) (x .name .now) (schema-of (x .base .now)))
 left-2 c = passes (find-left _ _ _) (sym (c .before .has-unknown .ensures) ∙ c .if2 .left)
 
 left-3 : (c : tie.Else3) → let x = c .before .before .before .before .before .before .before .before .before .args in Left
     (find (x .schema .now) (x .name .now) (schema-of (x .base .now)))
-    (drop 2 (find-refusals (x .schema .now) (x .name .now) (schema-of (x .base .now))))
+    (onward 6 (find-refusals (x .schema .now) (x .name .now) (schema-of (x .base .now))))
     (find-effect (x .schema .now) (x .name .now) (schema-of (x .base .now)))
 left-3 c = passes (left-2 (c .before .before)) (well-named _ (sym (c .before .is-well-formed .ensures) ∙ not-false _ (c .if3 .left)))
 
@@ -38,7 +38,7 @@ some c = named (c .before .type-named .ensures) (c .if4 .left)
 
 left-4 : (c : tie.Else4) → let x = c .before .before .before .before .before .before .before .before .before .before .before .args in Left
     (find (x .schema .now) (x .name .now) (schema-of (x .base .now)))
-    (drop 3 (find-refusals (x .schema .now) (x .name .now) (schema-of (x .base .now))))
+    (onward 8 (find-refusals (x .schema .now) (x .name .now) (schema-of (x .base .now))))
     (find-effect (x .schema .now) (x .name .now) (schema-of (x .base .now)))
 left-4 c = passes (left-3 (c .before .before)) (some c)
 

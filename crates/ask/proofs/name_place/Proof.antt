@@ -3,11 +3,11 @@ use Prim.Native.Nat.{ℕ, _<_}
 use native.Mathlib.Omega.{arith}
 use mathlib.Core.Path.{sym, _∙_}
 use mathlib.Core.List.{List}
-use lib.ListN.{drop}
 use borrow.Author.Tests.{not-true, not-false}
 use Rattle.rules.specs.07-Picture.{Sound}
 use Rattle.rules.specs.09-Refusals.{success}
 use Rattle.rules.specs.11-Asks.{name, name-refusals}
+use Rattle.base.specs.Tested.{onward}
 use Rattle.rules.proofs.09-Refusals.{Left, passes, stops, ends}
 use Rattle.base.specs.Back.{schema-of, presence-count}
 use Rattle.lookup.proofs.SdsShown.{known, unknown}
@@ -21,7 +21,7 @@ sound-1 c = c .before .is-sound .ensures .holds (not-false _ (c .if1 .left))
 
 -- what the test of the SDS leaves
 abbrev Known : List ℕ → ℕ → ℕ → Type 0
-Known b d t = Left (name d t (schema-of b)) (drop 1 (name-refusals d t (schema-of b))) (name-effect d t (schema-of b))
+Known b d t = Left (name d t (schema-of b)) (onward 6 (name-refusals d t (schema-of b))) (name-effect d t (schema-of b))
 
 left-2 : (c : tie.Else2) → Known (c .before .before .before .before .before .args .base .now)
     (c .before .before .before .before .before .args .sds) (c .before .before .before .before .before .args .t)

@@ -8,31 +8,31 @@ use Rattle.rules.specs.03-Names.{well-formed}
 use Rattle.rules.specs.04-Schema.{used-sds, bears, type-named}
 use Rattle.rules.specs.10-Changes.{application-refusals}
 use Rattle.base.specs.Back.{schema-of}
-use Rattle.base.specs.Tested.Tested.{spoiled}
 use Rattle.lookup.proofs.SdsShown.{used-below, known, unknown}
 use Rattle.base.proofs.Kept.{sound-long}
-use Rattle.base.proofs.TestedLaws.{Past, come-first, come-next, come-stops, come-through}
+use Rattle.base.proofs.TestedLaws.{come-spoiled, Past, come-first, come-next, come-stops, come-through}
 use Rattle.change_applications.specs.Applying.{wrong-kind}
-use Rattle.conditions.proofs.NameLaws.{formed-passes, malformed-stops, system-stops, system-passes, one-malformed, other-malformed, none-malformed}
-use Rattle.conditions.proofs.NameLaws.{both-there, one-missing, other-missing, borne, not-borne}
+use Rattle.rules.proofs.NameTests.{formed-passes, malformed-stops, system-stops, system-passes, one-malformed, other-malformed, none-malformed}
+use Rattle.rules.proofs.NameTests.{both-there, one-missing, other-missing}
+use Rattle.lookup.proofs.NamedLaws.{borne, not-borne}
 use Rattle.change_applications.proofs.ApplyLaws.{not-aimed, wrong-named}
 use Rattle.change_applications.proofs.tested.Statement.{statement}
 use Rattle.change_applications.proofs.tested.Tie as tie
 
-past-0 : (c : tie.Else1) → let x = c .before .before .before .before .before .args in
-    Past (x .base .now) (application-refusals (x .sds) (x .attribute .now) (x .to .now) (schema-of (x .base .now))) 0
-past-0 c = come-first (c .before .is-sound .ensures .holds (not-false _ (c .if1 .left)))
+at-2 : (c : tie.Else1) → let x = c .before .before .before .before .before .args in
+    Past (x .base .now) (application-refusals (x .sds) (x .attribute .now) (x .to .now) (schema-of (x .base .now))) 2
+at-2 c = come-first (c .before .is-sound .ensures .holds (not-false _ (c .if1 .left)))
 
 used-2 : (c : tie.Else2) → let x = c .before .before .before .before .before .before .before .args in used-sds (schema-of (x .base .now)) (x .sds) ≡ true
 used-2 c = sym (c .before .is-sds .ensures) ∙ not-false _ (c .if2 .left)
 
-past-1 : (c : tie.Else2) → let x = c .before .before .before .before .before .before .before .args in
-    Past (x .base .now) (application-refusals (x .sds) (x .attribute .now) (x .to .now) (schema-of (x .base .now))) 1
-past-1 c = let p = past-0 (c .before .before) in come-next p (known _ (sound-long (p .sound)) _ (used-2 c))
+at-3 : (c : tie.Else2) → let x = c .before .before .before .before .before .before .before .args in
+    Past (x .base .now) (application-refusals (x .sds) (x .attribute .now) (x .to .now) (schema-of (x .base .now))) 3
+at-3 c = let p = at-2 (c .before .before) in come-next p (known _ (sound-long (p .sound)) _ (used-2 c))
 
-past-2 : (c : tie.Else3) → let x = c .before .before .before .before .before .before .before .before .args in
-    Past (x .base .now) (application-refusals (x .sds) (x .attribute .now) (x .to .now) (schema-of (x .base .now))) 2
-past-2 c = come-next (past-1 (c .before)) (system-passes _ (c .if3 .left))
+at-4 : (c : tie.Else3) → let x = c .before .before .before .before .before .before .before .before .args in
+    Past (x .base .now) (application-refusals (x .sds) (x .attribute .now) (x .to .now) (schema-of (x .base .now))) 4
+at-4 c = come-next (at-3 (c .before)) (system-passes _ (c .if3 .left))
 
 formed-4 : (c : tie.Else4) → well-formed (c .before .before .before .before .before .before .before .before .before .before .args .attribute .now) ≡ true
 formed-4 c = sym (c .before .is-well-formed .ensures) ∙ not-false _ (c .if4 .left)
@@ -40,9 +40,9 @@ formed-4 c = sym (c .before .is-well-formed .ensures) ∙ not-false _ (c .if4 .l
 formed-5 : (c : tie.Else5) → well-formed (c .before .before .before .before .before .before .before .before .before .before .before .before .args .to .now) ≡ true
 formed-5 c = sym (c .before .is-well-formed2 .ensures) ∙ not-false _ (c .if5 .left)
 
-past-3 : (c : tie.Else5) → let x = c .before .before .before .before .before .before .before .before .before .before .before .before .args in
-    Past (x .base .now) (application-refusals (x .sds) (x .attribute .now) (x .to .now) (schema-of (x .base .now))) 3
-past-3 c = come-next (past-2 (c .before .before .before .before)) (none-malformed _ _ (formed-passes _ (formed-4 (c .before .before))) (formed-passes _ (formed-5 c)))
+at-6 : (c : tie.Else5) → let x = c .before .before .before .before .before .before .before .before .before .before .before .before .args in
+    Past (x .base .now) (application-refusals (x .sds) (x .attribute .now) (x .to .now) (schema-of (x .base .now))) 6
+at-6 c = come-next (at-4 (c .before .before .before .before)) (none-malformed _ _ (formed-passes _ (formed-4 (c .before .before))) (formed-passes _ (formed-5 c)))
 
 bears-6 : (c : tie.Else6) → let x =
     c .before .before .before .before .before .before .before .before .before .before .before .before .before .before .args in bears
@@ -64,10 +64,10 @@ type-7 : (c : tie.Else7) → let x =
     c .before .type-in2 .result in (t < 128) × (t ≡ type-named (schema-of (x .base .now)) (x .sds) (x .to .now))
 type-7 c = c .before .type-in2 .ensures .found (bears-7 c)
 
-past-4 : (c : tie.Else7) → let x =
+at-7 : (c : tie.Else7) → let x =
     c .before .before .before .before .before .before .before .before .before .before .before .before .before .before .before .before .args in
-    Past (x .base .now) (application-refusals (x .sds) (x .attribute .now) (x .to .now) (schema-of (x .base .now))) 4
-past-4 c = come-next (past-3 (c .before .before .before .before)) (both-there _ _ _ _ (bears-6 (c .before .before)) (bears-7 c))
+    Past (x .base .now) (application-refusals (x .sds) (x .attribute .now) (x .to .now) (schema-of (x .base .now))) 7
+at-7 c = come-next (at-6 (c .before .before .before .before)) (both-there _ _ _ _ (bears-6 (c .before .before)) (bears-7 c))
 
 -- the kinds were tested of the types that are named
 kinds-8 : (c : tie.After-is-wrong-kind) → let x =
@@ -84,18 +84,18 @@ refused-requires c κs = search needs
 
 returns : tie.Need-returns
 returns c =
-    not-aimed (spoiled (c .before .before .is-sound .ensures .fails (not-true _ (c .before .if1 .taken))) (c .refused .ensures))
+    not-aimed (come-spoiled (c .before .before .is-sound .ensures .fails (not-true _ (c .before .if1 .taken))) (c .refused .ensures))
     (λ z. omega (arith, c .refused .ensures))
 
 is-sds-requires : tie.Need-is-sds-requires
-is-sds-requires c κs = sound-long (past-0 c .sound)
+is-sds-requires c κs = sound-long (at-2 c .sound)
 
 refused-requires-2 : tie.Need-refused-requires-2
 refused-requires-2 c κs = search needs
 
 returns-2 : tie.Need-returns-2
 returns-2 c =
-    let p = past-0 (c .before .before .before) in
+    let p = at-2 (c .before .before .before) in
     not-aimed (come-stops p (unknown _ (sound-long (p .sound)) _ (sym (c .before .before .is-sds .ensures) ∙ not-true _ (c .before .if2 .taken))) (c .refused2 .ensures))
     (λ z. omega (arith, c .refused2 .ensures))
 
@@ -103,7 +103,7 @@ refused-requires-3 : tie.Need-refused-requires-3
 refused-requires-3 c κs = search needs
 
 returns-3 : tie.Need-returns-3
-returns-3 c = not-aimed (come-stops (past-1 (c .before .before)) (system-stops _ (c .before .if3 .taken)) (c .refused3 .ensures))
+returns-3 c = not-aimed (come-stops (at-3 (c .before .before)) (system-stops _ (c .before .if3 .taken)) (c .refused3 .ensures))
     (λ z. omega (arith, c .refused3 .ensures))
 
 is-well-formed-requires : tie.Need-is-well-formed-requires
@@ -114,7 +114,7 @@ refused-requires-4 c κs = search needs
 
 returns-4 : tie.Need-returns-4
 returns-4 c =
-    not-aimed (come-stops (past-2 (c .before .before .before)) (one-malformed _ _
+    not-aimed (come-stops (at-4 (c .before .before .before)) (one-malformed _ _
     (malformed-stops _ (sym (c .before .before .is-well-formed .ensures) ∙ not-true _ (c .before .if4 .taken)))) (c .refused4 .ensures))
     (λ z. omega (arith, c .refused4 .ensures))
 
@@ -126,45 +126,45 @@ refused-requires-5 c κs = search needs
 
 returns-5 : tie.Need-returns-5
 returns-5 c =
-    not-aimed (come-stops (past-2 (c .before .before .before .before .before))
+    not-aimed (come-stops (at-4 (c .before .before .before .before .before))
     (other-malformed _ _ (malformed-stops _ (sym (c .before .before .is-well-formed2 .ensures) ∙ not-true _ (c .before .if5 .taken)))) (c .refused5 .ensures))
     (λ z. omega (arith, c .refused5 .ensures))
 
 type-in-requires : tie.Need-type-in-requires
-type-in-requires c κs = past-3 c .sound
+type-in-requires c κs = at-6 c .sound
 
 refused-requires-6 : tie.Need-refused-requires-6
 refused-requires-6 c κs = search needs
 
 returns-6 : tie.Need-returns-6
-returns-6 c = not-aimed (come-stops (past-3 (c .before .before .before))
+returns-6 c = not-aimed (come-stops (at-6 (c .before .before .before))
     (one-missing _ _ _ _ (not-borne (c .before .before .type-in .ensures) (c .before .if6 .taken))) (c .refused6 .ensures))
     (λ z. omega (arith, c .refused6 .ensures))
 
 type-in-requires-2 : tie.Need-type-in-requires-2
-type-in-requires-2 c κs = past-3 (c .before .before) .sound
+type-in-requires-2 c κs = at-6 (c .before .before) .sound
 
 refused-requires-7 : tie.Need-refused-requires-7
 refused-requires-7 c κs = search needs
 
 returns-7 : tie.Need-returns-7
-returns-7 c = not-aimed (come-stops (past-3 (c .before .before .before .before .before))
+returns-7 c = not-aimed (come-stops (at-6 (c .before .before .before .before .before))
     (other-missing _ _ _ _ (not-borne (c .before .before .type-in2 .ensures) (c .before .if7 .taken))) (c .refused7 .ensures))
     (λ z. omega (arith, c .refused7 .ensures))
 
 is-wrong-kind-requires : tie.Need-is-wrong-kind-requires
-is-wrong-kind-requires c κs = sound-long (past-4 c .sound)
+is-wrong-kind-requires c κs = sound-long (at-7 c .sound)
 
 refused-requires-8 : tie.Need-refused-requires-8
 refused-requires-8 c κs = search needs
 
 returns-8 : tie.Need-returns-8
-returns-8 c = not-aimed (come-stops (past-4 (c .before .before .before)) (sym (kinds-8 (c .before .before)) ∙ c .before .if8 .taken) (c .refused8 .ensures))
+returns-8 c = not-aimed (come-stops (at-7 (c .before .before .before)) (sym (kinds-8 (c .before .before)) ∙ c .before .if8 .taken) (c .refused8 .ensures))
     (λ z. omega (arith, c .refused8 .ensures))
 
 returns-9 : tie.Need-returns-9
 returns-9 c =
-    let p = past-4 (c .before .before) in
+    let p = at-7 (c .before .before) in
     record {
       told = come-through (come-next p (sym (kinds-8 (c .before)) ∙ c .if8 .left));
       both = λ _. record {

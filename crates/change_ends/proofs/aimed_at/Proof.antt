@@ -10,29 +10,28 @@ use Rattle.rules.specs.10-Changes.{end-refusals}
 use Rattle.base.specs.Back.{schema-of}
 use Rattle.lookup.proofs.SdsShown.{known, unknown}
 use Rattle.base.proofs.Kept.{sound-long}
-use Rattle.conditions.proofs.NameLaws.{formed-passes, malformed-stops, system-stops, system-passes, one-malformed, other-malformed, none-malformed}
-use Rattle.conditions.proofs.NameLaws.{both-there, one-missing, other-missing, borne, not-borne}
-use Rattle.base.specs.Tested.Tested.{spoiled}
-use Rattle.base.proofs.TestedLaws.{Past, come-first, come-next, come-stops, come-through}
-use Rattle.change_ends.proofs.EndLaws.{not-aimed}
-use Rattle.change_ends.proofs.EndLaws.{link-is, no-link-there, no-object-there, both-kinds}
+use Rattle.rules.proofs.NameTests.{formed-passes, malformed-stops, system-stops, system-passes, one-malformed, other-malformed, none-malformed}
+use Rattle.rules.proofs.NameTests.{both-there, one-missing, other-missing}
+use Rattle.lookup.proofs.NamedLaws.{borne, not-borne}
+use Rattle.base.proofs.TestedLaws.{come-spoiled, Past, come-first, come-next, come-stops, come-through}
+use Rattle.change_ends.proofs.EndLaws.{not-aimed, link-is, no-link-there, no-object-there, both-kinds}
 use Rattle.change_ends.proofs.aimed_at.Statement.{statement}
 use Rattle.change_ends.proofs.aimed_at.Tie as tie
 
-past-0 : (c : tie.Else1) → let x = c .before .before .before .before .before .args in
-    Past (x .base .now) (end-refusals (x .sds) (x .link .now) (x .object .now) (schema-of (x .base .now))) 0
-past-0 c = come-first (c .before .is-sound .ensures .holds (not-false _ (c .if1 .left)))
+at-2 : (c : tie.Else1) → let x = c .before .before .before .before .before .args in
+    Past (x .base .now) (end-refusals (x .sds) (x .link .now) (x .object .now) (schema-of (x .base .now))) 2
+at-2 c = come-first (c .before .is-sound .ensures .holds (not-false _ (c .if1 .left)))
 
 used-2 : (c : tie.Else2) → let x = c .before .before .before .before .before .before .before .args in used-sds (schema-of (x .base .now)) (x .sds) ≡ true
 used-2 c = sym (c .before .is-sds .ensures) ∙ not-false _ (c .if2 .left)
 
-past-1 : (c : tie.Else2) → let x = c .before .before .before .before .before .before .before .args in
-    Past (x .base .now) (end-refusals (x .sds) (x .link .now) (x .object .now) (schema-of (x .base .now))) 1
-past-1 c = come-next (past-0 (c .before .before)) (known _ (sound-long (past-0 (c .before .before) .sound)) _ (used-2 c))
+at-3 : (c : tie.Else2) → let x = c .before .before .before .before .before .before .before .args in
+    Past (x .base .now) (end-refusals (x .sds) (x .link .now) (x .object .now) (schema-of (x .base .now))) 3
+at-3 c = come-next (at-2 (c .before .before)) (known _ (sound-long (at-2 (c .before .before) .sound)) _ (used-2 c))
 
-past-2 : (c : tie.Else3) → let x = c .before .before .before .before .before .before .before .before .args in
-    Past (x .base .now) (end-refusals (x .sds) (x .link .now) (x .object .now) (schema-of (x .base .now))) 2
-past-2 c = come-next (past-1 (c .before)) (system-passes _ (c .if3 .left))
+at-4 : (c : tie.Else3) → let x = c .before .before .before .before .before .before .before .before .args in
+    Past (x .base .now) (end-refusals (x .sds) (x .link .now) (x .object .now) (schema-of (x .base .now))) 4
+at-4 c = come-next (at-3 (c .before)) (system-passes _ (c .if3 .left))
 
 formed-4 : (c : tie.Else4) → well-formed (c .before .before .before .before .before .before .before .before .before .before .args .link .now) ≡ true
 formed-4 c = sym (c .before .is-well-formed .ensures) ∙ not-false _ (c .if4 .left)
@@ -40,9 +39,9 @@ formed-4 c = sym (c .before .is-well-formed .ensures) ∙ not-false _ (c .if4 .l
 formed-5 : (c : tie.Else5) → well-formed (c .before .before .before .before .before .before .before .before .before .before .before .before .args .object .now) ≡ true
 formed-5 c = sym (c .before .is-well-formed2 .ensures) ∙ not-false _ (c .if5 .left)
 
-past-3 : (c : tie.Else5) → let x = c .before .before .before .before .before .before .before .before .before .before .before .before .args in
-    Past (x .base .now) (end-refusals (x .sds) (x .link .now) (x .object .now) (schema-of (x .base .now))) 3
-past-3 c = come-next (past-2 (c .before .before .before .before)) (none-malformed _ _ (formed-passes _ (formed-4 (c .before .before))) (formed-passes _ (formed-5 c)))
+at-6 : (c : tie.Else5) → let x = c .before .before .before .before .before .before .before .before .before .before .before .before .args in
+    Past (x .base .now) (end-refusals (x .sds) (x .link .now) (x .object .now) (schema-of (x .base .now))) 6
+at-6 c = come-next (at-4 (c .before .before .before .before)) (none-malformed _ _ (formed-passes _ (formed-4 (c .before .before))) (formed-passes _ (formed-5 c)))
 
 bears-6 : (c : tie.Else6) → let x =
     c .before .before .before .before .before .before .before .before .before .before .before .before .before .before .args in bears
@@ -64,10 +63,10 @@ type-7 : (c : tie.Else7) → let x =
     (c .before .type-in2 .result < 128) × (c .before .type-in2 .result ≡ type-named (schema-of (x .base .now)) (x .sds) (x .object .now))
 type-7 c = c .before .type-in2 .ensures .found (bears-7 c)
 
-past-4 : (c : tie.Else7) → let x =
+at-7 : (c : tie.Else7) → let x =
     c .before .before .before .before .before .before .before .before .before .before .before .before .before .before .before .before .args in
-    Past (x .base .now) (end-refusals (x .sds) (x .link .now) (x .object .now) (schema-of (x .base .now))) 4
-past-4 c = come-next (past-3 (c .before .before .before .before)) (both-there _ _ _ _ (bears-6 (c .before .before)) (bears-7 c))
+    Past (x .base .now) (end-refusals (x .sds) (x .link .now) (x .object .now) (schema-of (x .base .now))) 7
+at-7 c = come-next (at-6 (c .before .before .before .before)) (both-there _ _ _ _ (bears-6 (c .before .before)) (bears-7 c))
 
 is-sound-requires : tie.Need-is-sound-requires
 is-sound-requires c κs = search needs
@@ -77,18 +76,18 @@ refused-requires c κs = search needs
 
 returns : tie.Need-returns
 returns c =
-    not-aimed (spoiled (c .before .before .is-sound .ensures .fails (not-true _ (c .before .if1 .taken))) (c .refused .ensures))
+    not-aimed (come-spoiled (c .before .before .is-sound .ensures .fails (not-true _ (c .before .if1 .taken))) (c .refused .ensures))
     (λ z. omega (arith, c .refused .ensures))
 
 is-sds-requires : tie.Need-is-sds-requires
-is-sds-requires c κs = sound-long (past-0 c .sound)
+is-sds-requires c κs = sound-long (at-2 c .sound)
 
 refused-requires-2 : tie.Need-refused-requires-2
 refused-requires-2 c κs = search needs
 
 returns-2 : tie.Need-returns-2
-returns-2 c = not-aimed (come-stops (past-0 (c .before .before .before))
-    (unknown _ (sound-long (past-0 (c .before .before .before) .sound)) _
+returns-2 c = not-aimed (come-stops (at-2 (c .before .before .before))
+    (unknown _ (sound-long (at-2 (c .before .before .before) .sound)) _
     (sym (c .before .before .is-sds .ensures) ∙ not-true _ (c .before .if2 .taken))) (c .refused2 .ensures))
     (λ z. omega (arith, c .refused2 .ensures))
 
@@ -96,7 +95,7 @@ refused-requires-3 : tie.Need-refused-requires-3
 refused-requires-3 c κs = search needs
 
 returns-3 : tie.Need-returns-3
-returns-3 c = not-aimed (come-stops (past-1 (c .before .before)) (system-stops _ (c .before .if3 .taken)) (c .refused3 .ensures))
+returns-3 c = not-aimed (come-stops (at-3 (c .before .before)) (system-stops _ (c .before .if3 .taken)) (c .refused3 .ensures))
     (λ z. omega (arith, c .refused3 .ensures))
 
 is-well-formed-requires : tie.Need-is-well-formed-requires
@@ -106,7 +105,7 @@ refused-requires-4 : tie.Need-refused-requires-4
 refused-requires-4 c κs = search needs
 
 returns-4 : tie.Need-returns-4
-returns-4 c = not-aimed (come-stops (past-2 (c .before .before .before))
+returns-4 c = not-aimed (come-stops (at-4 (c .before .before .before))
     (one-malformed _ _ (malformed-stops _ (sym (c .before .before .is-well-formed .ensures) ∙ not-true _ (c .before .if4 .taken)))) (c .refused4 .ensures))
     (λ z. omega (arith, c .refused4 .ensures))
 
@@ -117,34 +116,34 @@ refused-requires-5 : tie.Need-refused-requires-5
 refused-requires-5 c κs = search needs
 
 returns-5 : tie.Need-returns-5
-returns-5 c = not-aimed (come-stops (past-2 (c .before .before .before .before .before))
+returns-5 c = not-aimed (come-stops (at-4 (c .before .before .before .before .before))
     (other-malformed _ _ (malformed-stops _ (sym (c .before .before .is-well-formed2 .ensures) ∙ not-true _ (c .before .if5 .taken)))) (c .refused5 .ensures))
     (λ z. omega (arith, c .refused5 .ensures))
 
 type-in-requires : tie.Need-type-in-requires
-type-in-requires c κs = past-3 c .sound
+type-in-requires c κs = at-6 c .sound
 
 refused-requires-6 : tie.Need-refused-requires-6
 refused-requires-6 c κs = search needs
 
 returns-6 : tie.Need-returns-6
-returns-6 c = not-aimed (come-stops (past-3 (c .before .before .before))
+returns-6 c = not-aimed (come-stops (at-6 (c .before .before .before))
     (one-missing _ _ _ _ (not-borne (c .before .before .type-in .ensures) (c .before .if6 .taken))) (c .refused6 .ensures))
     (λ z. omega (arith, c .refused6 .ensures))
 
 type-in-requires-2 : tie.Need-type-in-requires-2
-type-in-requires-2 c κs = past-3 (c .before .before) .sound
+type-in-requires-2 c κs = at-6 (c .before .before) .sound
 
 refused-requires-7 : tie.Need-refused-requires-7
 refused-requires-7 c κs = search needs
 
 returns-7 : tie.Need-returns-7
-returns-7 c = not-aimed (come-stops (past-3 (c .before .before .before .before .before))
+returns-7 c = not-aimed (come-stops (at-6 (c .before .before .before .before .before))
     (other-missing _ _ _ _ (not-borne (c .before .before .type-in2 .ensures) (c .before .if7 .taken))) (c .refused7 .ensures))
     (λ z. omega (arith, c .refused7 .ensures))
 
 kind-requires : tie.Need-kind-requires
-kind-requires c κs = (sound-long (past-4 c .sound), type-6 (c .before .before) .0)
+kind-requires c κs = (sound-long (at-7 c .sound), type-6 (c .before .before) .0)
 
 refused-requires-8 : tie.Need-refused-requires-8
 refused-requires-8 c κs = search needs
@@ -152,11 +151,11 @@ refused-requires-8 c κs = search needs
 returns-8 : tie.Need-returns-8
 returns-8 c =
     let (h, e) = type-6 (c .before .before .before .before .before) in
-    not-aimed (come-stops (past-4 (c .before .before .before)) (no-link-there _ _ _ _ h e (c .before .before .kind .ensures) (c .before .if8 .taken)) (c .refused8 .ensures))
+    not-aimed (come-stops (at-7 (c .before .before .before)) (no-link-there _ _ _ _ h e (c .before .before .kind .ensures) (c .before .if8 .taken)) (c .refused8 .ensures))
     (λ z. omega (arith, c .refused8 .ensures))
 
 kind-requires-2 : tie.Need-kind-requires-2
-kind-requires-2 c κs = (sound-long (past-4 (c .before .before) .sound), type-7 (c .before .before) .0)
+kind-requires-2 c κs = (sound-long (at-7 (c .before .before) .sound), type-7 (c .before .before) .0)
 
 refused-requires-9 : tie.Need-refused-requires-9
 refused-requires-9 c κs = search needs
@@ -164,7 +163,7 @@ refused-requires-9 c κs = search needs
 returns-9 : tie.Need-returns-9
 returns-9 c =
     let (h, e) = type-7 (c .before .before .before .before .before) in
-    not-aimed (come-stops (past-4 (c .before .before .before .before .before))
+    not-aimed (come-stops (at-7 (c .before .before .before .before .before))
     (no-object-there _ _ _ _ h e (c .before .before .kind2 .ensures) (c .before .if9 .taken)) (c .refused9 .ensures))
     (λ z. omega (arith, c .refused9 .ensures))
 
@@ -172,7 +171,7 @@ returns-10 : tie.Need-returns-10
 returns-10 c =
     let l = type-6 (c .before .before .before .before .before .before) in
     let o = type-7 (c .before .before .before .before) in
-    let past = past-4 (c .before .before .before .before) in
+    let past = at-7 (c .before .before .before .before) in
     record {
       told = come-through (come-next past (both-kinds _ _ _ _ l o (c .before .before .before .kind .ensures) (c .before .before .if8 .left)
           (c .before .kind2 .ensures) (c .if9 .left)));

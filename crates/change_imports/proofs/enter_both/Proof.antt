@@ -13,9 +13,9 @@ use Rattle.base.specs.Back.{schema-of, presence-count}
 use Rattle.base.proofs.Kept.{sound-long, kept-refused, kept-done}
 use Rattle.base.proofs.Shown.{presences-long}
 use Rattle.base.proofs.StoredLaws.{sound-stored, shows-stored}
-use Rattle.conditions.proofs.NameLaws.{borne, not-borne, first-taken, second-taken, two-alike, both-free}
-use Rattle.change_imports.proofs.ImportLaws.{enter-left, no-room, some-room}
-use Rattle.change_imports.proofs.ImportLaws.{room-second, free-second, entered-both}
+use Rattle.rules.proofs.NameTests.{first-taken, second-taken, two-alike, both-free}
+use Rattle.lookup.proofs.NamedLaws.{borne, not-borne}
+use Rattle.change_imports.proofs.ImportLaws.{enter-left, no-room, some-room, room-second, free-second, entered-both}
 use Rattle.change_imports.proofs.enter_both.Statement.{statement}
 use Rattle.change_imports.proofs.enter_both.Tie as tie
 

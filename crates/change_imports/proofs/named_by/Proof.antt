@@ -8,40 +8,39 @@ use borrow.Author.Tests.{not-true, not-false}
 use Rattle.rules.specs.04-Schema.{present, bears, type-named}
 use Rattle.rules.specs.09-Refusals.{unknown-sds, malformed, malformed-new, missing-parent}
 use Rattle.base.specs.Back.{schema-of}
-use Rattle.base.proofs.Back.{sound-good}
 use Rattle.base.proofs.Kept.{sound-long}
-use Rattle.base.specs.Tested.Tested.{spoiled}
-use Rattle.conditions.proofs.NameLaws.{system-stops, system-passes, name-there, name-missing, borne, not-borne}
-use Rattle.base.proofs.TestedLaws.{Past, come-first, come-next, come-stops, come-through}
+use Rattle.rules.proofs.NameTests.{system-stops, system-passes, name-there, name-missing}
+use Rattle.lookup.proofs.NamedLaws.{borne, not-borne}
+use Rattle.base.proofs.TestedLaws.{come-spoiled, Past, come-first, come-next, come-stops, come-through}
 use Rattle.change_imports.specs.Import.{first-refusals}
 use Rattle.change_imports.proofs.ImportLaws.{not-chosen, first-below, idle-is, of-named, new-formed}
-use Rattle.change_presences.proofs.HeldLaws.{held-named}
+use Rattle.rules.proofs.08-Working.{named-present}
 use Rattle.change_imports.proofs.named_by.Statement.{statement}
 use Rattle.change_imports.proofs.named_by.Tie as tie
 
-past-0 : (c : tie.Else1) → let x = c .before .before .before .before .before .before .args in
-    Past (x .base .now) (first-refusals (x .target) (x .source) (x .name .now) (x .new .now) (x .new-reverse .now) (schema-of (x .base .now))) 0
-past-0 c = come-first (c .before .is-sound .ensures .holds (not-false _ (c .if1 .left)))
+at-2 : (c : tie.Else1) → let x = c .before .before .before .before .before .before .args in
+    Past (x .base .now) (first-refusals (x .target) (x .source) (x .name .now) (x .new .now) (x .new-reverse .now) (schema-of (x .base .now))) 2
+at-2 c = come-first (c .before .is-sound .ensures .holds (not-false _ (c .if1 .left)))
 
 known-2 : (c : tie.Else2) → let x = c .before .before .before .before .before .before .before .before .args in
     unknown-sds (schema-of (x .base .now)) (x .target) || unknown-sds (schema-of (x .base .now)) (x .source) ≡ false
 known-2 c = sym (c .before .is-one-unknown .ensures) ∙ c .if2 .left
 
-past-1 : (c : tie.Else2) → let x = c .before .before .before .before .before .before .before .before .args in
-    Past (x .base .now) (first-refusals (x .target) (x .source) (x .name .now) (x .new .now) (x .new-reverse .now) (schema-of (x .base .now))) 1
-past-1 c = come-next (past-0 (c .before .before)) (known-2 c)
+at-3 : (c : tie.Else2) → let x = c .before .before .before .before .before .before .before .before .args in
+    Past (x .base .now) (first-refusals (x .target) (x .source) (x .name .now) (x .new .now) (x .new-reverse .now) (schema-of (x .base .now))) 3
+at-3 c = come-next (at-2 (c .before .before)) (known-2 c)
 
-past-2 : (c : tie.Else3) → let x = c .before .before .before .before .before .before .before .before .before .args in
-    Past (x .base .now) (first-refusals (x .target) (x .source) (x .name .now) (x .new .now) (x .new-reverse .now) (schema-of (x .base .now))) 2
-past-2 c = come-next (past-1 (c .before)) (system-passes _ (c .if3 .left))
+at-4 : (c : tie.Else3) → let x = c .before .before .before .before .before .before .before .before .before .args in
+    Past (x .base .now) (first-refusals (x .target) (x .source) (x .name .now) (x .new .now) (x .new-reverse .now) (schema-of (x .base .now))) 4
+at-4 c = come-next (at-3 (c .before)) (system-passes _ (c .if3 .left))
 
 formed-4 : (c : tie.Else4) → let x = c .before .before .before .before .before .before .before .before .before .before .before .args in
     malformed (x .name .now) || (malformed-new (x .new .now) || malformed-new (x .new-reverse .now)) ≡ false
 formed-4 c = sym (c .before .is-one-malformed .ensures) ∙ c .if4 .left
 
-past-3 : (c : tie.Else4) → let x = c .before .before .before .before .before .before .before .before .before .before .before .args in
-    Past (x .base .now) (first-refusals (x .target) (x .source) (x .name .now) (x .new .now) (x .new-reverse .now) (schema-of (x .base .now))) 3
-past-3 c = come-next (past-2 (c .before .before)) (formed-4 c)
+at-6 : (c : tie.Else4) → let x = c .before .before .before .before .before .before .before .before .before .before .before .args in
+    Past (x .base .now) (first-refusals (x .target) (x .source) (x .name .now) (x .new .now) (x .new-reverse .now) (schema-of (x .base .now))) 6
+at-6 c = come-next (at-4 (c .before .before)) (formed-4 c)
 
 bears-5 : (c : tie.Else5) → let x = c .before .before .before .before .before .before .before .before .before .before .before .before .before .args in
     bears (schema-of (x .base .now)) (x .source) (x .name .now) ≡ true
@@ -51,32 +50,32 @@ type-5 : (c : tie.Else5) → let x = c .before .before .before .before .before .
     (c .before .type-in .result < 128) × (c .before .type-in .result ≡ type-named (schema-of (x .base .now)) (x .source) (x .name .now))
 type-5 c = c .before .type-in .ensures .found (bears-5 c)
 
-past-4 : (c : tie.Else5) → let x = c .before .before .before .before .before .before .before .before .before .before .before .before .before .args in
-    Past (x .base .now) (first-refusals (x .target) (x .source) (x .name .now) (x .new .now) (x .new-reverse .now) (schema-of (x .base .now))) 4
-past-4 c = come-next (past-3 (c .before .before)) (name-there _ _ _ (bears-5 c))
+at-7 : (c : tie.Else5) → let x = c .before .before .before .before .before .before .before .before .before .before .before .before .before .args in
+    Past (x .base .now) (first-refusals (x .target) (x .source) (x .name .now) (x .new .now) (x .new-reverse .now) (schema-of (x .base .now))) 7
+at-7 c = come-next (at-6 (c .before .before)) (name-there _ _ _ (bears-5 c))
 
-past-5 : (c : tie.Else6) → let x = c .before .before .before .before .before .before .before .before .before .before .before .before .before .before .before .before .args in
-    Past (x .base .now) (first-refusals (x .target) (x .source) (x .name .now) (x .new .now) (x .new-reverse .now) (schema-of (x .base .now))) 5
-past-5 c =
+at-9 : (c : tie.Else6) → let x = c .before .before .before .before .before .before .before .before .before .before .before .before .before .before .before .before .args in
+    Past (x .base .now) (first-refusals (x .target) (x .source) (x .name .now) (x .new .now) (x .new-reverse .now) (schema-of (x .base .now))) 9
+at-9 c =
     let x = c .before .before .before .before .before .before .before .before .before .before .before .before .before .before .before .before .args in
-    come-next (past-4 (c .before .before .before))
+    come-next (at-7 (c .before .before .before))
     (idle-is (x .new-reverse .now) (type-5 (c .before .before .before) .1) (c .before .before .reverse-of .ensures) (c .before .is-idle .ensures) ∙ c .if6 .left)
 
-past-6 : (c : tie.Else7) → let x = c .before .before .before .before .before .before .before .before .before .before .before .before .before .before
+at-10 : (c : tie.Else7) → let x = c .before .before .before .before .before .before .before .before .before .before .before .before .before .before
     .before .before .before .before .args in
-    Past (x .base .now) (first-refusals (x .target) (x .source) (x .name .now) (x .new .now) (x .new-reverse .now) (schema-of (x .base .now))) 6
-past-6 c =
+    Past (x .base .now) (first-refusals (x .target) (x .source) (x .name .now) (x .new .now) (x .new-reverse .now) (schema-of (x .base .now))) 10
+at-10 c =
     let x = c .before .before .before .before .before .before .before .before .before .before .before .before .before .before .before .before .before .before .args in
-    come-next (past-5 (c .before .before))
+    come-next (at-9 (c .before .before))
     (of-named (present (schema-of (x .base .now)) (x .target)) (type-5 (c .before .before .before .before .before) .1) (c .before .is-present .ensures) ∙ c .if7 .left)
 
-past-7 : (c : tie.Else8) → let x = c .before .before .before .before .before .before .before .before .before .before .before .before .before .before
+at-11 : (c : tie.Else8) → let x = c .before .before .before .before .before .before .before .before .before .before .before .before .before .before
     .before .before .before .before .before .before .args in
-    Past (x .base .now) (first-refusals (x .target) (x .source) (x .name .now) (x .new .now) (x .new-reverse .now) (schema-of (x .base .now))) 7
-past-7 c =
+    Past (x .base .now) (first-refusals (x .target) (x .source) (x .name .now) (x .new .now) (x .new-reverse .now) (schema-of (x .base .now))) 11
+at-11 c =
     let x = c .before .before .before .before .before .before .before .before .before .before .before .before .before .before .before .before .before
     .before .before .before .args in
-    come-next (past-6 (c .before .before))
+    come-next (at-10 (c .before .before))
     (of-named (missing-parent (schema-of (x .base .now)) (x .target)) (type-5 (c .before .before .before .before .before .before .before) .1)
     (c .before .is-parent-missing .ensures) ∙ c .if8 .left)
 
@@ -87,23 +86,23 @@ refused-requires : tie.Need-refused-requires
 refused-requires c κs = search needs
 
 returns : tie.Need-returns
-returns c = not-chosen (spoiled (c .before .before .is-sound .ensures .fails (not-true _ (c .before .if1 .taken))) (c .refused .ensures)) (λ z. omega (arith, c .refused .ensures))
+returns c = not-chosen (come-spoiled (c .before .before .is-sound .ensures .fails (not-true _ (c .before .if1 .taken))) (c .refused .ensures)) (λ z. omega (arith, c .refused .ensures))
 
 is-one-unknown-requires : tie.Need-is-one-unknown-requires
-is-one-unknown-requires c κs = sound-long (past-0 c .sound)
+is-one-unknown-requires c κs = sound-long (at-2 c .sound)
 
 refused-requires-2 : tie.Need-refused-requires-2
 refused-requires-2 c κs = search needs
 
 returns-2 : tie.Need-returns-2
-returns-2 c = not-chosen (come-stops (past-0 (c .before .before .before)) (sym (c .before .before .is-one-unknown .ensures) ∙ c .before .if2 .taken) (c .refused2 .ensures))
+returns-2 c = not-chosen (come-stops (at-2 (c .before .before .before)) (sym (c .before .before .is-one-unknown .ensures) ∙ c .before .if2 .taken) (c .refused2 .ensures))
     (λ z. omega (arith, c .refused2 .ensures))
 
 refused-requires-3 : tie.Need-refused-requires-3
 refused-requires-3 c κs = search needs
 
 returns-3 : tie.Need-returns-3
-returns-3 c = not-chosen (come-stops (past-1 (c .before .before)) (system-stops _ (c .before .if3 .taken)) (c .refused3 .ensures)) (λ z. omega (arith, c .refused3 .ensures))
+returns-3 c = not-chosen (come-stops (at-3 (c .before .before)) (system-stops _ (c .before .if3 .taken)) (c .refused3 .ensures)) (λ z. omega (arith, c .refused3 .ensures))
 
 is-one-malformed-requires : tie.Need-is-one-malformed-requires
 is-one-malformed-requires c κs = search needs
@@ -112,22 +111,22 @@ refused-requires-4 : tie.Need-refused-requires-4
 refused-requires-4 c κs = search needs
 
 returns-4 : tie.Need-returns-4
-returns-4 c = not-chosen (come-stops (past-2 (c .before .before .before)) (sym (c .before .before .is-one-malformed .ensures) ∙ c .before .if4 .taken) (c .refused4 .ensures))
+returns-4 c = not-chosen (come-stops (at-4 (c .before .before .before)) (sym (c .before .before .is-one-malformed .ensures) ∙ c .before .if4 .taken) (c .refused4 .ensures))
     (λ z. omega (arith, c .refused4 .ensures))
 
 type-in-requires : tie.Need-type-in-requires
-type-in-requires c κs = past-3 c .sound
+type-in-requires c κs = at-6 c .sound
 
 refused-requires-5 : tie.Need-refused-requires-5
 refused-requires-5 c κs = search needs
 
 returns-5 : tie.Need-returns-5
-returns-5 c = not-chosen (come-stops (past-3 (c .before .before .before)) (name-missing _ _ _ (not-borne (c .before .before .type-in .ensures)
+returns-5 c = not-chosen (come-stops (at-6 (c .before .before .before)) (name-missing _ _ _ (not-borne (c .before .before .type-in .ensures)
     (c .before .if5 .taken))) (c .refused5 .ensures))
     (λ z. omega (arith, c .refused5 .ensures))
 
 reverse-of-requires : tie.Need-reverse-of-requires
-reverse-of-requires c κs = (past-4 c .sound, type-5 c .0)
+reverse-of-requires c κs = (at-7 c .sound, type-5 c .0)
 
 is-idle-requires : tie.Need-is-idle-requires
 is-idle-requires c κs = search needs
@@ -138,13 +137,13 @@ refused-requires-6 c κs = search needs
 returns-6 : tie.Need-returns-6
 returns-6 c =
     let x = c .before .before .before .before .before .before .before .before .before .before .before .before .before .before .before .before .before .args in
-    not-chosen (come-stops (past-4 (c .before .before .before .before))
+    not-chosen (come-stops (at-7 (c .before .before .before .before))
     (idle-is (x .new-reverse .now) (type-5 (c .before .before .before .before) .1) (c .before .before .before .reverse-of .ensures)
     (c .before .before .is-idle .ensures) ∙ c .before .if6 .taken) (c .refused6 .ensures))
     (λ z. omega (arith, c .refused6 .ensures))
 
 is-present-requires : tie.Need-is-present-requires
-is-present-requires c κs = sound-long (past-5 c .sound)
+is-present-requires c κs = sound-long (at-9 c .sound)
 
 refused-requires-7 : tie.Need-refused-requires-7
 refused-requires-7 c κs = search needs
@@ -152,14 +151,14 @@ refused-requires-7 c κs = search needs
 returns-7 : tie.Need-returns-7
 returns-7 c =
     let x = c .before .before .before .before .before .before .before .before .before .before .before .before .before .before .before .before .before .before .before .args in
-    not-chosen (come-stops (past-5 (c .before .before .before))
+    not-chosen (come-stops (at-9 (c .before .before .before))
     (of-named (present (schema-of (x .base .now)) (x .target)) (type-5 (c .before .before .before .before .before .before) .1)
     (c .before .before .is-present .ensures) ∙ c .before .if7 .taken)
     (c .refused7 .ensures))
     (λ z. omega (arith, c .refused7 .ensures))
 
 is-parent-missing-requires : tie.Need-is-parent-missing-requires
-is-parent-missing-requires c κs = (past-6 c .sound, type-5 (c .before .before .before .before .before) .0)
+is-parent-missing-requires c κs = (at-10 c .sound, type-5 (c .before .before .before .before .before) .0)
 
 refused-requires-8 : tie.Need-refused-requires-8
 refused-requires-8 c κs = search needs
@@ -168,7 +167,7 @@ returns-8 : tie.Need-returns-8
 returns-8 c =
     let x = c .before .before .before .before .before .before .before .before .before .before .before .before .before .before .before .before .before
     .before .before .before .before .args in
-    not-chosen (come-stops (past-6 (c .before .before .before))
+    not-chosen (come-stops (at-10 (c .before .before .before))
     (of-named (missing-parent (schema-of (x .base .now)) (x .target)) (type-5
     (c .before .before .before .before .before .before .before .before) .1) (c .before .before .is-parent-missing .ensures) ∙ c .before .if8 .taken)
     (c .refused8 .ensures))
@@ -178,7 +177,7 @@ returns-9 : tie.Need-returns-9
 returns-9 c =
     let x = c .before .before .before .before .before .before .before .before .before .before .before .before .before .before .before .before .before
     .before .before .before .args in
-    let p = past-7 c in
+    let p = at-11 c in
     let t = type-5 (c .before .before .before .before .before .before .before) in
     let formed = new-formed (x .name .now) (x .new .now) (x .new-reverse .now) (formed-4 (c .before .before .before .before .before .before .before .before .before)) in
     record {
@@ -188,7 +187,7 @@ returns-9 c =
         small = first-below _ _ _ (known-2 (c .before .before .before .before .before .before .before .before .before .before .before .before));
         below = t .0;
         named = t .1;
-        there = held-named (sound-good (p .sound)) _ (bears-5 (c .before .before .before .before .before .before .before)) (t .1) .there;
+        there = named-present _ _ _ (bears-5 (c .before .before .before .before .before .before .before)) (t .1);
         reversed = c .before .before .before .before .before .before .reverse-of .ensures;
         formed = formed .0;
         formed-reverse = formed .1;

@@ -1,6 +1,6 @@
 use borrow.Author.Needs.{needs}
 use mathlib.Core.Path.{_∙_}
-use Rattle.conditions.proofs.NameLaws.{borne, not-borne}
+use Rattle.lookup.proofs.NamedLaws.{borne, not-borne}
 use Rattle.change_pairs.proofs.PairLaws.{forward-borne, reverse-borne, neither-borne}
 use Rattle.change_pairs.proofs.are_taken.Statement.{statement}
 use Rattle.change_pairs.proofs.are_taken.Tie as tie

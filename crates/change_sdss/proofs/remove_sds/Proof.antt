@@ -14,7 +14,7 @@ use Rattle.base.specs.Back.{schema-of}
 use Rattle.lookup.proofs.SdsShown.{used-below, known, unknown}
 use Rattle.base.proofs.Kept.{sound-long, kept-spoiled, kept-refused, kept-done, sds-changed}
 use Rattle.change_sdss.proofs.Laws.{remove-sds-effect, remove-sds-left}
-use Rattle.conditions.proofs.NameLaws.{system-stops, system-passes}
+use Rattle.rules.proofs.NameTests.{system-stops, system-passes}
 use Rattle.change_sdss.proofs.remove_sds.Statement.{statement}
 use Rattle.change_sdss.proofs.remove_sds.Tie as tie
 

@@ -8,8 +8,9 @@ use Rattle.rules.specs.04-Schema.{bears}
 use Rattle.base.specs.Back.{schema-of}
 use Rattle.base.proofs.Kept.{sound-long}
 use Rattle.base.proofs.Shown.{presences-long}
-use Rattle.conditions.proofs.NameLaws.{borne, not-borne, one-taken, one-free}
-use Rattle.conditions.proofs.ConditionLaws.{new-type-is, room-for-one, no-room-for}
+use Rattle.rules.proofs.NameTests.{one-taken, one-free}
+use Rattle.lookup.proofs.NamedLaws.{borne, not-borne}
+use Rattle.lookup.proofs.FreeLaws.{new-type-is, room-for-one, no-room-for}
 use Rattle.base.proofs.TestedLaws.{Past, come-first, come-next, come-stops, come-through}
 use Rattle.change_types.specs.Create.{room-refusals}
 use Rattle.change_types.proofs.CreateLaws.{no-room, numbers-short, presences-short, both-fit}
@@ -19,8 +20,8 @@ use Rattle.change_types.proofs.room_for.Tie as tie
 free-1 : (c : tie.Else1) → let x = c .before .before .before .before .args in bears (schema-of (x .base .now)) (x .sds) (x .name .now) ≡ false
 free-1 c = not-borne (c .before .type-in .ensures) (c .if1 .left)
 
-past-1 : (c : tie.Else1) → let x = c .before .before .before .before .args in Past (x .base .now) (room-refusals (schema-of (x .base .now)) (x .sds) (x .name .now)) 1
-past-1 c = come-next (come-first (c .before .before .before .before .pre)) (one-free _ _ _ (free-1 c))
+at-14 : (c : tie.Else1) → let x = c .before .before .before .before .args in Past (x .base .now) (room-refusals (schema-of (x .base .now)) (x .sds) (x .name .now)) 14
+at-14 c = come-next (come-first (c .before .before .before .before .pre)) (one-free _ _ _ (free-1 c))
 
 type-in-requires : tie.Need-type-in-requires
 type-in-requires c κs = search needs
@@ -39,7 +40,7 @@ refused-requires-2 : tie.Need-refused-requires-2
 refused-requires-2 c κs = search needs
 
 returns-2 : tie.Need-returns-2
-returns-2 c = no-room (come-stops (past-1 (c .before .before .before)) (numbers-short _ 1 (no-room-for (c .before .before .free-type .ensures) 1 (omega arith) (c .before .if2 .taken)))
+returns-2 c = no-room (come-stops (at-14 (c .before .before .before)) (numbers-short _ 1 (no-room-for (c .before .before .free-type .ensures) 1 (omega arith) (c .before .if2 .taken)))
     (c .refused2 .ensures)) (λ z. omega (arith, c .refused2 .ensures))
 
 presence-count-requires : tie.Need-presence-count-requires
@@ -49,7 +50,7 @@ refused-requires-3 : tie.Need-refused-requires-3
 refused-requires-3 c κs = search needs
 
 returns-3 : tie.Need-returns-3
-returns-3 c = no-room (come-stops (past-1 (c .before .before .before .before .before))
+returns-3 c = no-room (come-stops (at-14 (c .before .before .before .before .before))
     (presences-short _ 1 (let h = c .before .if3 .taken in omega (arith, c .before .before .presence-count .ensures .is)))
     (c .refused3 .ensures)) (λ z. omega (arith, c .refused3 .ensures))
 
@@ -59,7 +60,7 @@ returns-4 c =
     let below : c .before .before .before .free-type .result < 128 = let h = c .before .before .if2 .left in omega arith in
     let h = c .if3 .left in
     record {
-      told = come-through (come-next (past-1 (c .before .before .before .before)) (both-fit _ 1 (room-for-one f below) (omega (arith, c .before .presence-count .ensures .is))));
+      told = come-through (come-next (at-14 (c .before .before .before .before)) (both-fit _ 1 (room-for-one f below) (omega (arith, c .before .presence-count .ensures .is))));
       free = λ _. free-1 (c .before .before .before .before);
       room = λ _. omega (arith, c .before .presence-count .ensures .is, presences-long (c .before .before .before .before .before .before .before .before .args .base .now));
       below = λ _. below;

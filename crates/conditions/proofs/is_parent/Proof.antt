@@ -6,7 +6,7 @@ use lib.ListN.{getD}
 use borrow.Author.Count.{below-none, below-more}
 use Rattle.base.specs.Rows.{type-at}
 use Rattle.base.proofs.Kept.{sound-long}
-use Rattle.graph.proofs.Rows.{good-parental, count-few}
+use Rattle.lookup.proofs.Parents.{good-parental, count-few}
 use Rattle.conditions.proofs.ConditionLaws.{parent-here, parent-nowhere}
 use Rattle.conditions.proofs.is_parent.Statement.{statement}
 use Rattle.conditions.proofs.is_parent.Tie as tie

@@ -11,7 +11,7 @@ use Rattle.rules.specs.04-Schema.{present}
 use Rattle.base.specs.Rows.{type-at}
 use Rattle.base.specs.Back.{schema-of}
 use Rattle.base.proofs.Kept.{sound-long}
-use Rattle.graph.proofs.Rows.{good-parental, count-few}
+use Rattle.lookup.proofs.Parents.{good-parental, count-few}
 use Rattle.conditions.proofs.ConditionLaws.{missing-here, missing-nowhere}
 use Rattle.conditions.proofs.is_parent_missing.Statement.{statement}
 use Rattle.conditions.proofs.is_parent_missing.Tie as tie

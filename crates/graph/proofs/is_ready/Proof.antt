@@ -10,7 +10,7 @@ use borrow.Author.Tests.{not-true, not-false}
 use Rattle.rows.proofs.Decides.{decides-no, decides-yes}
 use Rattle.base.specs.Rows.{type-at}
 use Rattle.type_set.specs.Set.{has}
-use Rattle.graph.proofs.Rows.{count-few, parent-at, parent-below}
+use Rattle.lookup.proofs.Parents.{count-few, parent-at, parent-below}
 use Rattle.graph.proofs.Laws.{lacks-parent, has-parents}
 use Rattle.graph.proofs.is_ready.Statement.{statement}
 use Rattle.graph.proofs.is_ready.Tie as tie

@@ -1,6 +1,6 @@
 -- `uses::is_application_with` meets its contract. Assumes nothing.
 use borrow.Author.Needs.{needs}
-use Rattle.conditions.proofs.ConditionLaws.{differs, agrees, the-one, the-other, last-one}
+use Rattle.rules.proofs.Bools.{differs, agrees, the-one, the-other, last-one}
 use Rattle.in_use.proofs.is_application_with.Statement.{statement}
 use Rattle.in_use.proofs.is_application_with.Tie as tie
 

@@ -7,8 +7,8 @@ use Rattle.rules.specs.04-Schema.{is-parent}
 use Rattle.rows.proofs.Rows.{filled-most}
 use Rattle.base.specs.Back.{schema-of}
 use Rattle.base.proofs.Kept.{sound-long}
-use Rattle.visible.proofs.ShownLaws.{presence-small}
-use Rattle.conditions.proofs.ConditionLaws.{differs, agrees}
+use Rattle.lookup.proofs.RowBytes.{presence-small}
+use Rattle.rules.proofs.Bools.{differs, agrees}
 use Rattle.in_use.proofs.is_child.Statement.{statement}
 use Rattle.in_use.proofs.is_child.Tie as tie
 

@@ -2,7 +2,7 @@
 use borrow.Author.Needs.{needs}
 use Rattle.rules.specs.09-Refusals.{still-used}
 use Rattle.base.proofs.Kept.{sound-long}
-use Rattle.conditions.proofs.ConditionLaws.{or-first, or-next}
+use Rattle.rules.proofs.Bools.{or-first, or-next}
 use Rattle.in_use.proofs.is_still_used.Statement.{statement}
 use Rattle.in_use.proofs.is_still_used.Tie as tie
 

@@ -2,7 +2,7 @@
 use borrow.Author.Needs.{needs}
 use borrow.Author.Tests.{not-true, not-false}
 use Rattle.rows.proofs.Decides.{decides-no}
-use Rattle.sound.proofs.Parts.{parental-of, whole-of, whole-sound}
+use Rattle.sound.proofs.Parts.{parents-objects, whole-of, whole-sound}
 use Rattle.sound.proofs.is_sound.Statement.{statement}
 use Rattle.sound.proofs.is_sound.Tie as tie
 
@@ -39,9 +39,11 @@ returns-5 c = decides-no (λ s. c .before .reverses-fine .ensures .fails (not-tr
 
 is-acyclic-requires : tie.Need-is-acyclic-requires
 is-acyclic-requires c κs =
-    parental-of (c .before .before .before .before .before .before .before .before .if1 .left)
-    (c .before .before .before .before .before .kinds-fine .ensures .holds (not-false _ (c .before .before .before .before .if3 .left)))
-    (c .before .before .before .parents-fine .ensures .holds (not-false _ (c .before .before .if4 .left)))
+    record {
+      long = c .before .before .before .before .before .before .before .before .if1 .left;
+      type-rows = c .before .before .before .before .before .kinds-fine .ensures .holds (not-false _ (c .before .before .before .before .if3 .left)) .type-rows;
+      parents-objects = parents-objects (c .before .before .before .parents-fine .ensures .holds (not-false _ (c .before .before .if4 .left)));
+    }
 
 returns-6 : tie.Need-returns-6
 returns-6 c = decides-no (λ s. c .before .is-acyclic .ensures .fails (not-true _ (c .if6 .taken)) (whole-of s .acyclic))
@@ -60,11 +62,13 @@ returns-8 c = decides-no (λ s. c .before .rest-fine .ensures .fails (not-true _
 
 closed-fine-requires : tie.Need-closed-fine-requires
 closed-fine-requires c κs = (
-  parental-of (c .before .before .before .before .before .before .before .before .before .before .before .before .before .before .if1 .left)
-      (c .before .before .before .before .before .before .before .before .before .before .before .kinds-fine .ensures .holds
-      (not-false _ (c .before .before .before .before .before .before .before .before .before .before .if3 .left)))
-      (c .before .before .before .before .before .before .before .before .before .parents-fine .ensures .holds
-      (not-false _ (c .before .before .before .before .before .before .before .before .if4 .left))),
+  record {
+    long = c .before .before .before .before .before .before .before .before .before .before .before .before .before .before .if1 .left;
+    type-rows = c .before .before .before .before .before .before .before .before .before .before .before .kinds-fine .ensures .holds (not-false _
+        (c .before .before .before .before .before .before .before .before .before .before .if3 .left)) .type-rows;
+    parents-objects = parents-objects (c .before .before .before .before .before .before .before .before .before .parents-fine .ensures .holds
+        (not-false _ (c .before .before .before .before .before .before .before .before .if4 .left)));
+  },
   (
     c .before .before .before .presences-fine .ensures .holds (not-false _ (c .before .before .if7 .left)),
     c .before .rest-fine .ensures .holds (not-false _ (c .if8 .left)),

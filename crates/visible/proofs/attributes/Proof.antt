@@ -6,13 +6,13 @@ use mathlib.Core.Logic.{⊎-elim}
 use mathlib.Core.Bool.{_&&_, _||_}
 use lib.Dec.{eqb}
 use lib.ListN.{getD}
-use Rattle.rules.specs.04-Schema.{side-code}
-use Rattle.base.specs.Rows.{presence-at, application-at, end-at}
+use Rattle.base.specs.Rows.{application-at}
 use Rattle.base.specs.Back.{application-count}
 use Rattle.base.proofs.Kept.{sound-long}
 use Rattle.type_set.specs.declared.TypeSet.{TypeSet}
 use Rattle.type_set.specs.Set.{has}
-use Rattle.visible.proofs.ShownLaws.{Gathers, gathers-none, gathers-more, gathers-skip, application-small, all-applications}
+use Rattle.visible.proofs.ShownLaws.{Gathers, gathers-none, gathers-more, gathers-skip, all-applications}
+use Rattle.lookup.proofs.RowBytes.{application-small}
 use Rattle.visible.proofs.attributes.Statement.{statement}
 use Rattle.visible.proofs.attributes.Tie as tie
 

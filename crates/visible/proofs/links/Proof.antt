@@ -7,12 +7,13 @@ use mathlib.Core.Bool.{_&&_, _||_}
 use lib.Dec.{eqb}
 use lib.ListN.{getD}
 use Rattle.rules.specs.04-Schema.{side-code}
-use Rattle.base.specs.Rows.{presence-at, application-at, end-at}
+use Rattle.base.specs.Rows.{end-at}
 use Rattle.base.specs.Back.{end-count, end-shown}
 use Rattle.base.proofs.Kept.{sound-long}
 use Rattle.type_set.specs.declared.TypeSet.{TypeSet}
 use Rattle.type_set.specs.Set.{has}
-use Rattle.visible.proofs.ShownLaws.{Gathers, gathers-none, gathers-more, gathers-skip, end-small, all-ends}
+use Rattle.visible.proofs.ShownLaws.{Gathers, gathers-none, gathers-more, gathers-skip, all-ends}
+use Rattle.lookup.proofs.RowBytes.{end-small}
 use Rattle.visible.proofs.links.Statement.{statement}
 use Rattle.visible.proofs.links.Tie as tie
 

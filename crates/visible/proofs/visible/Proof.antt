@@ -3,16 +3,16 @@ use Prim.Native.Nat.{ℕ, _+_, _-_, _≤_}
 use native.Mathlib.Omega.{arith}
 use mathlib.Core.Path.{_≡_, sym, ap, _∙_}
 use mathlib.Core.Logic.{⊎-elim}
-use mathlib.Core.Bool.{_&&_, _||_}
+use mathlib.Core.Bool.{_||_}
 use lib.Dec.{eqb}
 use lib.ListN.{getD}
-use Rattle.rules.specs.04-Schema.{side-code}
-use Rattle.base.specs.Rows.{presence-at, application-at, end-at}
+use Rattle.base.specs.Rows.{presence-at}
 use Rattle.base.specs.Back.{presence-count}
 use Rattle.base.proofs.Kept.{sound-long}
 use Rattle.type_set.specs.declared.TypeSet.{TypeSet}
 use Rattle.type_set.specs.Set.{has}
-use Rattle.visible.proofs.ShownLaws.{Gathers, gathers-none, gathers-more, gathers-skip, presence-small, all-presences}
+use Rattle.visible.proofs.ShownLaws.{Gathers, gathers-none, gathers-more, gathers-skip, all-presences}
+use Rattle.lookup.proofs.RowBytes.{presence-small}
 use Rattle.visible.proofs.visible.Statement.{statement}
 use Rattle.visible.proofs.visible.Tie as tie
 

@@ -6,9 +6,8 @@ use mathlib.Core.Bool.{not}
 use borrow.Author.Tests.{not-true, not-false}
 use Rattle.rules.specs.08-Working.{visible}
 use Rattle.base.specs.Back.{schema-of}
-use Rattle.base.specs.Tested.Tested.{spoiled}
 use Rattle.base.proofs.Kept.{sound-long}
-use Rattle.base.proofs.TestedLaws.{Past, come-first, come-next, come-stops, come-through}
+use Rattle.base.proofs.TestedLaws.{come-spoiled, Past, come-first, come-next, come-stops, come-through}
 use Rattle.type_set.specs.Set.{has}
 use Rattle.visible.proofs.Rules.{visible-are}
 use Rattle.ask_scans.specs.View.{type-refusals}
@@ -16,33 +15,33 @@ use Rattle.ask_scans.proofs.ViewLaws.{not-viewed, visible-below, listed
 use Rattle.ask_scans.proofs.view.of.Statement.{statement}
 use Rattle.ask_scans.proofs.view.of.Tie as tie
 
-past-0 : (c : tie.Else1) → let x = c .before .before .before .before .args in
-    Past (x .base .now) (type-refusals (schema-of (x .base .now)) (x .schema .now) (x .t) (x .link) (x .known)) 0
-past-0 c = come-first (c .before .is-sound .ensures .holds (not-false _ (c .if1 .left)))
-
-past-1 : (c : tie.Else2) → let x = c .before .before .before .before .before .before .args in
-    Past (x .base .now) (type-refusals (schema-of (x .base .now)) (x .schema .now) (x .t) (x .link) (x .known)) 1
-past-1 c = come-next (past-0 (c .before .before)) (sym (c .before .has-unknown .ensures) ∙ c .if2 .left)
-
-past-2 : (c : tie.Else3) → let x = c .before .before .before .before .before .before .before .args in
+at-2 : (c : tie.Else1) → let x = c .before .before .before .before .args in
     Past (x .base .now) (type-refusals (schema-of (x .base .now)) (x .schema .now) (x .t) (x .link) (x .known)) 2
-past-2 c = come-next (past-1 (c .before)) (c .if3 .left)
+at-2 c = come-first (c .before .is-sound .ensures .holds (not-false _ (c .if1 .left)))
+
+at-5 : (c : tie.Else2) → let x = c .before .before .before .before .before .before .args in
+    Past (x .base .now) (type-refusals (schema-of (x .base .now)) (x .schema .now) (x .t) (x .link) (x .known)) 5
+at-5 c = come-next (at-2 (c .before .before)) (sym (c .before .has-unknown .ensures) ∙ c .if2 .left)
+
+at-6 : (c : tie.Else3) → let x = c .before .before .before .before .before .before .before .args in
+    Past (x .base .now) (type-refusals (schema-of (x .base .now)) (x .schema .now) (x .t) (x .link) (x .known)) 6
+at-6 c = come-next (at-5 (c .before)) (c .if3 .left)
 
 -- the set that was gathered is what is visible
 shown : (c : tie.After-visible) → let x = c .before .before .before .before .before .before .before .before .before in (k : ℕ) → has
     (c .visible .result) k ≡ visible (schema-of (x .args .base .now)) (x .args .schema .now) k
 shown c k = c .visible .ensures k ∙ visible-are _ _ _ (c .before .listed .ensures) k
 
-past-3 : (c : tie.Else4) → let x = c .before .before .before .before .before .before .before .before .before .before .before .args in
-    Past (x .base .now) (type-refusals (schema-of (x .base .now)) (x .schema .now) (x .t) (x .link) (x .known)) 3
-past-3 c = come-next (past-2 (c .before .before .before .before)) (seen _ _ _ (c .before .holds .ensures ∙ shown (c .before .before) _) (c .if4 .left))
+at-7 : (c : tie.Else4) → let x = c .before .before .before .before .before .before .before .before .before .before .before .args in
+    Past (x .base .now) (type-refusals (schema-of (x .base .now)) (x .schema .now) (x .t) (x .link) (x .known)) 7
+at-7 c = come-next (at-6 (c .before .before .before .before)) (seen _ _ _ (c .before .holds .ensures ∙ shown (c .before .before) _) (c .if4 .left))
 
 below : (c : tie.Else4) → c .before .before .before .before .before .before .before .before .before .before .before .args .t < 128
-below c = visible-below (past-3 c .sound) _ _ (sym (c .before .holds .ensures ∙ shown (c .before .before) _) ∙ not-false _ (c .if4 .left))
+below c = visible-below (at-7 c .sound) _ _ (sym (c .before .holds .ensures ∙ shown (c .before .before) _) ∙ not-false _ (c .if4 .left))
 
-past-4 : (c : tie.Else5) → let x = c .before .before .before .before .before .before .before .before .before .before .before .before .before .args in
-    Past (x .base .now) (type-refusals (schema-of (x .base .now)) (x .schema .now) (x .t) (x .link) (x .known)) 4
-past-4 c = come-next (past-3 (c .before .before)) (ap not (sym (c .before .is-of-kind .ensures)) ∙ c .if5 .left)
+at-8 : (c : tie.Else5) → let x = c .before .before .before .before .before .before .before .before .before .before .before .before .before .args in
+    Past (x .base .now) (type-refusals (schema-of (x .base .now)) (x .schema .now) (x .t) (x .link) (x .known)) 8
+at-8 c = come-next (at-7 (c .before .before)) (ap not (sym (c .before .is-of-kind .ensures)) ∙ c .if5 .left)
 
 is-sound-requires : tie.Need-is-sound-requires
 is-sound-requires c κs = search needs
@@ -52,31 +51,31 @@ refused-requires c κs = search needs
 
 returns : tie.Need-returns
 returns c =
-    not-viewed (spoiled (c .before .before .is-sound .ensures .fails (not-true _ (c .before .if1 .taken))) (c .refused .ensures))
+    not-viewed (come-spoiled (c .before .before .is-sound .ensures .fails (not-true _ (c .before .if1 .taken))) (c .refused .ensures))
     (λ z. omega (arith, c .refused .ensures))
 
 has-unknown-requires : tie.Need-has-unknown-requires
-has-unknown-requires c κs = sound-long (past-0 c .sound)
+has-unknown-requires c κs = sound-long (at-2 c .sound)
 
 refused-requires-2 : tie.Need-refused-requires-2
 refused-requires-2 c κs = search needs
 
 returns-2 : tie.Need-returns-2
-returns-2 c = not-viewed (come-stops (past-0 (c .before .before .before)) (sym (c .before .before .has-unknown .ensures) ∙ c .before .if2 .taken) (c .refused2 .ensures))
+returns-2 c = not-viewed (come-stops (at-2 (c .before .before .before)) (sym (c .before .before .has-unknown .ensures) ∙ c .before .if2 .taken) (c .refused2 .ensures))
     (λ z. omega (arith, c .refused2 .ensures))
 
 refused-requires-3 : tie.Need-refused-requires-3
 refused-requires-3 c κs = search needs
 
 returns-3 : tie.Need-returns-3
-returns-3 c = not-viewed (come-stops (past-1 (c .before .before)) (c .before .if3 .taken) (c .refused3 .ensures))
+returns-3 c = not-viewed (come-stops (at-5 (c .before .before)) (c .before .if3 .taken) (c .refused3 .ensures))
     (λ z. omega (arith, c .refused3 .ensures))
 
 listed-requires : tie.Need-listed-requires
-listed-requires c κs = (sound-long (past-2 c .sound), sym (c .before .before .has-unknown .ensures) ∙ c .before .if2 .left)
+listed-requires c κs = (sound-long (at-6 c .sound), sym (c .before .before .has-unknown .ensures) ∙ c .before .if2 .left)
 
 visible-requires : tie.Need-visible-requires
-visible-requires c κs = past-2 (c .before) .sound
+visible-requires c κs = at-6 (c .before) .sound
 
 holds-requires : tie.Need-holds-requires
 holds-requires c κs = search needs
@@ -85,22 +84,22 @@ refused-requires-4 : tie.Need-refused-requires-4
 refused-requires-4 c κs = search needs
 
 returns-4 : tie.Need-returns-4
-returns-4 c = not-viewed (come-stops (past-2 (c .before .before .before .before .before))
+returns-4 c = not-viewed (come-stops (at-6 (c .before .before .before .before .before))
     (not-seen _ _ _ (c .before .before .holds .ensures ∙ shown (c .before .before .before) _) (c .before .if4 .taken)) (c .refused4 .ensures))
     (λ z. omega (arith, c .refused4 .ensures))
 
 is-of-kind-requires : tie.Need-is-of-kind-requires
-is-of-kind-requires c κs = sound-long (past-3 c .sound)
+is-of-kind-requires c κs = sound-long (at-7 c .sound)
 
 refused-requires-5 : tie.Need-refused-requires-5
 refused-requires-5 c κs = search needs
 
 returns-5 : tie.Need-returns-5
-returns-5 c = not-viewed (come-stops (past-3 (c .before .before .before)) (ap not (sym (c .before .before .is-of-kind .ensures)) ∙ c .before .if5 .taken) (c .refused5 .ensures))
+returns-5 c = not-viewed (come-stops (at-7 (c .before .before .before)) (ap not (sym (c .before .before .is-of-kind .ensures)) ∙ c .before .if5 .taken) (c .refused5 .ensures))
     (λ z. omega (arith, c .refused5 .ensures))
 
 has-repeated-requires : tie.Need-has-repeated-requires
-has-repeated-requires c κs = listed-small (past-4 c .sound) _
+has-repeated-requires c κs = listed-small (at-8 c .sound) _
     (sym (c .before .before .before .before .before .before .before .before .has-unknown .ensures) ∙
     c .before .before .before .before .before .before .before .if2 .left)
 
@@ -108,12 +107,12 @@ refused-requires-6 : tie.Need-refused-requires-6
 refused-requires-6 c κs = search needs
 
 returns-6 : tie.Need-returns-6
-returns-6 c = not-viewed (come-stops (past-4 (c .before .before .before)) (sym (c .before .before .has-repeated .ensures) ∙ c .before .if6 .taken) (c .refused6 .ensures))
+returns-6 c = not-viewed (come-stops (at-8 (c .before .before .before)) (sym (c .before .before .has-repeated .ensures) ∙ c .before .if6 .taken) (c .refused6 .ensures))
     (λ z. omega (arith, c .refused6 .ensures))
 
 returns-7 : tie.Need-returns-7
 returns-7 c =
-    let p = past-4 (c .before .before) in
+    let p = at-8 (c .before .before) in
     record {
       told = come-through (come-next p (sym (c .before .has-repeated .ensures) ∙ c .if6 .left));
       code-known = λ _. not-false _ (c .before .before .before .before .before .before .before .before .if3 .left);

@@ -15,7 +15,8 @@ use Rattle.base.specs.Back.{schema-of}
 use Rattle.lookup.proofs.SdsShown.{known, unknown}
 use Rattle.base.proofs.Kept.{sound-long, kept-spoiled, kept-refused, kept-done}
 use Rattle.base.proofs.StoredLaws.{sound-stored, shows-stored}
-use Rattle.conditions.proofs.NameLaws.{formed-passes, malformed-stops, system-stops, system-passes, name-there, name-missing, borne, not-borne}
+use Rattle.rules.proofs.NameTests.{formed-passes, malformed-stops, system-stops, system-passes, name-there, name-missing}
+use Rattle.lookup.proofs.NamedLaws.{borne, not-borne}
 use Rattle.change_presences.proofs.RemoveLaws.{remove-effect, remove-left, used-is, Through, goes-through, reverse-held, removed-one, removed-two}
 use Rattle.change_presences.proofs.remove.remove_type.Statement.{statement}
 use Rattle.change_presences.proofs.remove.remove_type.Tie as tie

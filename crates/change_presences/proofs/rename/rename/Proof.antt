@@ -12,13 +12,13 @@ use Rattle.rules.specs.09-Refusals.{borne-by-another}
 use Rattle.rules.specs.07-Picture.{Sound, picture}
 use Rattle.rules.specs.10-Changes.{rename, rename-refusals}
 use Rattle.rules.proofs.09-Refusals.{Left, passes, stops, ends}
-use Rattle.base.specs.Back.{schema-of, presence-count}
+use Rattle.base.specs.Back.{schema-of}
 use Rattle.lookup.proofs.SdsShown.{used-below, known, unknown}
 use Rattle.base.proofs.Kept.{sound-long, kept-spoiled, kept-refused, kept-done}
 use Rattle.base.proofs.StoredLaws.{sound-stored, shows-stored}
-use Rattle.conditions.proofs.NameLaws.{formed-passes, malformed-stops, system-stops, system-passes, one-malformed, other-malformed, none-malformed, name-there, name-missing, borne, not-borne}
-use Rattle.change_presences.proofs.RenameLaws.{renamed, rename-effect, rename-left}
-use Rattle.change_presences.proofs.RenameLaws.{row-there, room-then, name-free, put-again}
+use Rattle.rules.proofs.NameTests.{formed-passes, malformed-stops, system-stops, system-passes, one-malformed, other-malformed, none-malformed, name-there, name-missing}
+use Rattle.lookup.proofs.NamedLaws.{borne, not-borne}
+use Rattle.change_presences.proofs.RenameLaws.{renamed, rename-effect, rename-left, row-there, room-then, name-free, put-again}
 use Rattle.change_presences.proofs.rename.rename.Statement.{statement}
 use Rattle.change_presences.proofs.rename.rename.Tie as tie
 

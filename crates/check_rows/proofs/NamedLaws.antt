@@ -25,9 +25,9 @@ use Rattle.rows.proofs.Rows.{part-byte}
 use Rattle.rows.proofs.Scan.{part-cons, length-part}
 use Rattle.base.specs.Rows.{sds-at, type-at, presence-at}
 use Rattle.base.specs.Back.{schema-of, sds-shown, presence-shown}
-use Rattle.base.proofs.Shown.{sds-is, kind-is, kind-none, shows-unused}
+use Rattle.base.proofs.Shown.{sdss-long, sds-is, kind-is, kind-none, shows-unused}
 use Rattle.lookup.proofs.SdsShown.{used-below}
-use Rattle.check_rows.specs.Parts.{Sdss}
+use Rattle.check_rows.specs.Fine.{Sdss-fine}
 use Rattle.check_rows.specs.Named.{fine-field, Alone}
 
 -- ---- a field
@@ -82,7 +82,7 @@ module _ (b : List ℕ) (long : length b ≡ 13312) where
       (λ q. rw (sds-is b d h) (name-field-formed f q))
       (or-cases (blank-field f) (name-field f) e)
 
-  sdss-fine : Sdss b → (d : ℕ) → d < 16 → fine-field b d ≡ true
+  sdss-fine : Sdss-fine b → (d : ℕ) → d < 16 → fine-field b d ≡ true
   unfolding used-sds sds-row
   sdss-fine s d h = go (not (blank (sds-shown b d))) refl
     where
@@ -92,7 +92,7 @@ module _ (b : List ℕ) (long : length b ≡ 13312) where
       go : (t : Bool) → not (blank (sds-shown b d)) ≡ t → fine-field b d ≡ true
       go true q =
           or-right (blank-field f) (name-field f)
-          (name-field-of f (rw (sds-is b d h) at (s .sds-named d (rw (sds-is b d h) q))) (s .sds-fields d h))
+          (name-field-of f (rw (sds-is b d h) at (s .sdss .named d (rw (sds-is b d h) q))) (s .sds-fields d h))
       go false q =
           or-left (blank-field f) (name-field f) (zeros-blank f (sym (s .sds-fields d h) ∙ ap (pad 16) (no-name (sds-shown b d) q)))
         where
@@ -129,31 +129,34 @@ module _ (b : List ℕ) (long : length b ≡ 13312) where
             (same-fields e d (used-below b long e v) (used-below b long d u) ∙ same-turned (sds-name (schema-of b) e) (sds-name (schema-of b) d) ∙ q))
         go false l false m = omega (arith, ltb-false d e l, ltb-false e d m)
 
-  pub fields-of : Sdss b → (d : ℕ) → d < 16 → fine-field b d ≡ true
+  pub fields-of : Sdss-fine b → (d : ℕ) → d < 16 → fine-field b d ≡ true
   fields-of = sdss-fine
 
-  pub alone-of : Sdss b → (d : ℕ) → d < 16 → Alone b d
+  pub alone-of : Sdss-fine b → (d : ℕ) → d < 16 → Alone b d
   unfolding used-sds
   alone-of s d h u e k l q =
       let n : same-name (sds-name (schema-of b) d) (sds-name (schema-of b) e) ≡ true = sym (same-fields (sdss-fine s) d e h k) ∙ q in
       let v : not (blank (sds-name (schema-of b) e)) ≡ true = rw (same-long (sds-name (schema-of b) d) (sds-name (schema-of b) e) n) at u in
-      let same : d ≡ e = s .sds-names-unique d e u v n in
+      let same : d ≡ e = s .sdss .unique d e u v n in
       omega arith
 
-  pub system-of : Sdss b → (f : List ℕ) → f ≡ part b (sds-at 0) 16 → same-bytes f (pad 16 system-name) ≡ true
+  pub system-of : Sdss-fine b → (f : List ℕ) → f ≡ part b (sds-at 0) 16 → same-bytes f (pad 16 system-name) ≡ true
   unfolding sds-row
   system-of s f e =
-      let z : part b (sds-at 0) 16 ≡ pad 16 system-name = sym (s .sds-fields 0 (omega arith)) ∙ ap (pad 16) (sym (sds-is b 0 (omega arith)) ∙ s .system-named) in
+      let z : part b (sds-at 0) 16 ≡ pad 16 system-name = sym (s .sds-fields 0 (omega arith)) ∙ ap (pad 16) (sym (sds-is b 0 (omega arith)) ∙ s .sdss .system) in
       rw (e, z) (same-bytes-refl (pad 16 system-name))
 
   pub sdss-of : ((d : ℕ) → d < 16 → fine-field b d ≡ true) → ((d : ℕ) → d < 16 → Alone b d)
-      → (f : List ℕ) → f ≡ part b (sds-at 0) 16 → same-bytes f (pad 16 system-name) ≡ true → Sdss b
-  unfolding pad strip
+      → (f : List ℕ) → f ≡ part b (sds-at 0) 16 → same-bytes f (pad 16 system-name) ≡ true → Sdss-fine b
+  unfolding pad strip used-sds
   sdss-of fine a f e q = record {
     sds-fields = λ d h. fine-written d h (fine d h);
-    sds-named = λ d u. fine-named d (used-below b long d u) (fine d (used-below b long d u)) u;
-    sds-names-unique = unique fine a;
-    system-named = sds-is b 0 (omega arith) ∙ ap strip (sym e ∙ same-bytes-is f (pad 16 system-name) q);
+    sdss = record {
+      room = sdss-long b;
+      named = λ d u. fine-named d (used-below b long d u) (fine d (used-below b long d u)) u;
+      unique = unique fine a;
+      system = sds-is b 0 (omega arith) ∙ ap strip (sym e ∙ same-bytes-is f (pad 16 system-name) q);
+    };
   }
 
 pub fine-blank : (f : List ℕ) → blank-field f ≡ true → true ≡ blank-field f || name-field f

@@ -7,7 +7,7 @@ ghost use Rattle.rules.specs.04-Schema.{kind-of, is-used};
 ghost use Rattle.rules.specs.07-Picture.{base-length};
 ghost use Rattle.rows.specs.Decides.{Decides};
 ghost use Rattle.base.specs.Back.{schema-of};
-ghost use Rattle.check_rows.specs.Parts.{Sdss, Presences};
+ghost use Rattle.check_rows.specs.Fine.{Sdss-fine, Presences-fine};
 ghost use Rattle.check_rows.specs.Named.{fine-field, Unlike-later, Alone, Row-named, System-first};
 
 // ---- SDSs
@@ -77,7 +77,7 @@ fn names_differ(base: &[u8]) -> bool
 
 pub fn sdss_fine(base: &[u8]) -> bool
     requires { ⌜ length (now base) ≡ base-length ⌝ }
-    ensures { λ r. ⌜ Decides (Sdss (now (base .entry))) r ⌝ }
+    ensures { λ r. ⌜ Decides (Sdss-fine (now (base .entry))) r ⌝ }
 {
     if !sds_fields_fine(base) {
         return false;
@@ -156,7 +156,7 @@ fn system_first(base: &[u8], n: usize) -> bool
 
 pub fn presences_fine(base: &[u8]) -> bool
     requires { ⌜ length (now base) ≡ base-length ⌝ }
-    ensures { λ r. ⌜ Decides (Presences (now (base .entry))) r ⌝ }
+    ensures { λ r. ⌜ Decides (Presences-fine (now (base .entry))) r ⌝ }
 {
     let n = base::used::presence_count(base);
     if !presence_rows_fine(base, n) {

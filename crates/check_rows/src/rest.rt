@@ -5,7 +5,7 @@ ghost use lib.ListN.{length, getD};
 ghost use Rattle.rules.specs.07-Picture.{base-length};
 ghost use Rattle.rows.specs.Decides.{Decides};
 ghost use Rattle.base.specs.Rows.{end-at};
-ghost use Rattle.check_rows.specs.Parts.{Rest};
+ghost use Rattle.check_rows.specs.Fine.{Rest-fine};
 
 fn sides_fine(base: &[u8], n: usize) -> bool
     requires { ⌜ (length (now base) ≡ base-length) × (n ≤ 512) ⌝ }
@@ -23,7 +23,7 @@ fn sides_fine(base: &[u8], n: usize) -> bool
 
 pub fn rest_fine(base: &[u8]) -> bool
     requires { ⌜ length (now base) ≡ base-length ⌝ }
-    ensures { λ r. ⌜ Decides (Rest (now (base .entry))) r ⌝ }
+    ensures { λ r. ⌜ Decides (Rest-fine (now (base .entry))) r ⌝ }
 {
     let applications = base::used::application_count(base);
     if !base::used::no_application_from(base, applications) {

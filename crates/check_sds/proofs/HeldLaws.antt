@@ -8,12 +8,15 @@ use mathlib.Core.Bool.{Bool, true, false, _||_, true≢false}
 use lib.Dec.{ltb, eqb}
 use lib.ListN.{getD}
 use borrow.Author.Tests.{ltb-true, ltb-false, eqb-true, eq-eqb, ne-eqb}
-use Rattle.rules.proofs.Bools.{or-cases, or-left, or-right, and-both, and-of}
+use Rattle.rules.proofs.Bools.{or-cases, or-left, or-right, and-of}
 use Rattle.rules.specs.04-Schema.{kind-of, is-object, is-attribute, is-link, side-code, other-side, has-end}
 use Rattle.rules.specs.04-Schema.Kind.{paired}
 use Rattle.rules.specs.05-Descent.{Parent}
 use Rattle.rules.specs.Read.{read-side}
 use Rattle.rules.proofs.05-Descent.{child-object}
+use Rattle.rules.specs.Parts.{of-types}
+use Rattle.rules.proofs.Parts.{parent-of, applied-held, ended-held}
+use Rattle.rules.proofs.Parts as part
 use Rattle.base.specs.Rows.{type-at, application-at, end-at, End-row}
 use Rattle.base.specs.Back.{schema-of, application-shown, end-shown}
 use Rattle.lookup.specs.Found.{End-found, Ends}
@@ -70,12 +73,10 @@ module _ (b : List ℕ) (set : ℕ → Bool) (i : ℕ) where
   applied-no-attribute a e f x = true≢false (sym (rw (← e) at (x .attribute)) ∙ f)
 
   pub applied-attribute-out : (a : ℕ) → a ≡ getD b (application-at i + 2) 0 → set a ≡ false → Applied b set i → ⊥
-  applied-attribute-out a e f x =
-      true≢false (sym (and-both (set ((application-shown b i) .to)) (set ((application-shown b i) .attribute)) (x .within) .1) ∙ ap set (sym e) ∙ f)
+  applied-attribute-out a e f x = true≢false (sym (applied-held x .1) ∙ ap set (sym e) ∙ f)
 
   pub applied-to-out : (t : ℕ) → t ≡ getD b (application-at i + 1) 0 → set t ≡ false → Applied b set i → ⊥
-  applied-to-out t e f x =
-      true≢false (sym (and-both (set ((application-shown b i) .to)) (set ((application-shown b i) .attribute)) (x .within) .0) ∙ ap set (sym e) ∙ f)
+  applied-to-out t e f x = true≢false (sym (applied-held x .0) ∙ ap set (sym e) ∙ f)
 
   pub applied-of : (a t : ℕ) → a ≡ getD b (application-at i + 2) 0 → t ≡ getD b (application-at i + 1) 0 → is-attribute (kind-of (schema-of b) a) ≡ true
       → set a ≡ true → set t ≡ true → is-object (kind-of (schema-of b) t) || is-link (kind-of (schema-of b) t) ≡ true → Applied b set i
@@ -97,7 +98,7 @@ module _ {b : List ℕ} (parental : Parental b) (set : ℕ → Bool) (t : ℕ) (
   abbrev byte : ℕ → ℕ
   byte f = getD b (type-at t + f) 0
 
-  no-parents : (getD b (type-at t) 0 ≡ 1 → ⊥) → (a : ℕ) → Parent (schema-of b) t a → ⊥
+  no-parents : (getD b (type-at t) 0 ≡ 1 → ⊥) → (a : ℕ) → Parent (of-types ((schema-of b) .types)) t a → ⊥
   no-parents n a by =
       true≢false (sym (child-object by) ∙ sym (object-byte b t (getD b (type-at t) 0) h refl) ∙ ne-eqb (getD b (type-at t) 0) 1 n)
 
@@ -108,12 +109,12 @@ module _ {b : List ℕ} (parental : Parental b) (set : ℕ → Bool) (t : ℕ) (
 
   pub closed-object : getD b (type-at t) 0 ≡ 1 → ((i : ℕ) → i < byte 3 → set (parent-in b t i) ≡ true) → Closed-type b set t
   closed-object e f = record {
-    parents = λ a by. let (i, l, s) = parent-place parental t h a by in ap set (sym s) ∙ f i l;
+    parents = λ a by. let (i, l, s) = parent-place parental t h a (parent-of t a by) in ap set (sym s) ∙ f i l;
     reverse = λ c r q. let (three, other, s) = pair-bytes c r q in absurd (omega (arith, e, three));
   }
 
   pub closed-parents : Closed-type b set t → (i : ℕ) → i < byte 3 → set (parent-in b t i) ≡ true
-  closed-parents x i l = x .parents (parent-in b t i) (parent-at parental t h i l)
+  closed-parents x i l = x .parents (parent-in b t i) (part.parent-in t (parent-in b t i) (parent-at parental t h i l))
 
   pub closed-plain : (getD b (type-at t) 0 ≡ 1 → ⊥) → (getD b (type-at t) 0 ≡ 3 → ⊥) → Closed-type b set t
   closed-plain n m = record {
@@ -160,25 +161,28 @@ module _ {P : Type 0} {n : ℕ} where
 
 module _ (b : List ℕ) (set : ℕ → Bool) (i : ℕ) where
   pub ended-no-link : (l : ℕ) → l ≡ getD b (end-at i + 1) 0 → is-link (kind-of (schema-of b) l) ≡ false → Ended b set i → ⊥
-  ended-no-link l e f x = true≢false (sym (rw (← e) at (x .link)) ∙ f)
+  ended-no-link l e f x = true≢false (sym (rw (← e) at (x .fits .link)) ∙ f)
 
   pub ended-link-out : (l : ℕ) → l ≡ getD b (end-at i + 1) 0 → set l ≡ false → Ended b set i → ⊥
-  ended-link-out l e f x = true≢false (sym (and-both (set ((end-shown b i) .link)) (set ((end-shown b i) .object)) (x .within) .0) ∙ ap set (sym e) ∙ f)
+  ended-link-out l e f x = true≢false (sym (ended-held (x .fits) .0) ∙ ap set (sym e) ∙ f)
 
   pub ended-no-object : (o : ℕ) → o ≡ getD b (end-at i + 3) 0 → is-object (kind-of (schema-of b) o) ≡ false → Ended b set i → ⊥
-  ended-no-object o e f x = true≢false (sym (rw (← e) at (x .object)) ∙ f)
+  ended-no-object o e f x = true≢false (sym (rw (← e) at (x .fits .object)) ∙ f)
 
   pub ended-object-out : (o : ℕ) → o ≡ getD b (end-at i + 3) 0 → set o ≡ false → Ended b set i → ⊥
-  ended-object-out o e f x = true≢false (sym (and-both (set ((end-shown b i) .link)) (set ((end-shown b i) .object)) (x .within) .1) ∙ ap set (sym e) ∙ f)
+  ended-object-out o e f x = true≢false (sym (ended-held (x .fits) .1) ∙ ap set (sym e) ∙ f)
 
   module _ (l o : ℕ) (el : l ≡ getD b (end-at i + 1) 0) (eo : o ≡ getD b (end-at i + 3) 0) (kl : is-link (kind-of (schema-of b) l) ≡ true) where
     ended-of : set l ≡ true → is-object (kind-of (schema-of b) o) ≡ true → set o ≡ true
         → ((c r : ℕ) → kind-of (schema-of b) l ≡ paired c r → has-end (schema-of b) ((end-shown b i) .sds) r (other-side ((end-shown b i) .side)) ((end-shown b i) .object) ≡ true)
         → Ended b set i
+    unfolding has-end
     ended-of hl ko ho m = record {
-      link = rw (← el) kl;
-      object = rw (← eo) ko;
-      within = and-of (set ((end-shown b i) .link)) (set ((end-shown b i) .object)) (ap set (sym el) ∙ hl) (ap set (sym eo) ∙ ho);
+      fits = record {
+        link = rw (← el) kl;
+        object = rw (← eo) ko;
+        within = and-of (set ((end-shown b i) .link)) (set ((end-shown b i) .object)) (ap set (sym el) ∙ hl) (ap set (sym eo) ∙ ho);
+      };
       mirrored = rw (← el) m;
     }
 
@@ -197,6 +201,7 @@ module _ (b : List ℕ) (set : ℕ → Bool) (i : ℕ) where
           rw (same, ← ed, ← eo) (row-has ends d r (other-side ((end-shown b i) .side)) o (rw mirror-code x)))
 
       pub ended-mirror : (getD b (type-at l + 1) 0 ≡ 4 → ⊥) → Ended b set i → End-row b n d r (1 - s) o
+      unfolding has-end
       ended-mirror v x =
           let pair = link-paired b l (link-below b l kl) kl v in
           let m : has-end (schema-of b) ((end-shown b i) .sds) (getD b (type-at l + 2) 0) (other-side ((end-shown b i) .side)) ((end-shown b i) .object) ≡ true

@@ -2,11 +2,9 @@
 use Prim.Native.Nat.{ℕ, _+_, _≤_, _<_}
 use mathlib.Core.Path.{_≡_}
 use mathlib.Core.List.{List}
-use mathlib.Core.Bool.{Bool, true, false, _&&_, _||_}
+use mathlib.Core.Bool.{Bool, true, false}
 use lib.ListN.{getD}
-use Rattle.rules.specs.04-Schema.{kind-of, is-object, is-attribute, is-link, has-end, other-side}
-use Rattle.rules.specs.04-Schema.Kind.{paired}
-use Rattle.rules.specs.05-Descent.{Parent}
+use Rattle.rules.specs.Parts.{Closed-under, Application-fits, End-fits, End-mirrored}
 use Rattle.type_set.specs.Set.{has}
 use Rattle.base.specs.Rows.{type-at, presence-at}
 use Rattle.base.specs.Back.{schema-of, application-shown, end-shown}
@@ -26,23 +24,17 @@ pub record Gathered (b : List ℕ) (from to : ℕ) (r : Held) : Type 0 where
   pub marks : r .once ≡ true → (t : ℕ) → has (r .types) t ≡ true → (i : ℕ) × (from ≤ i) × (i < to) × (type-in b i ≡ t)
 
 -- with a type its parents and its reverse are in the set
-pub record Closed-type (b : List ℕ) (set : ℕ → Bool) (t : ℕ) : Type 0 where
-  pub parents : (a : ℕ) → Parent (schema-of b) t a → set a ≡ true
-  pub reverse : (c r : ℕ) → kind-of (schema-of b) t ≡ paired c r → set r ≡ true
+abbrev pub Closed-type : List ℕ → (ℕ → Bool) → ℕ → Type 0
+Closed-type b set t = Closed-under ((schema-of b) .types) set t
 
 -- the application in row i is of an attribute type to an object or link type, both in the set
-pub record Applied (b : List ℕ) (set : ℕ → Bool) (i : ℕ) : Type 0 where
-  pub attribute : is-attribute (kind-of (schema-of b) ((application-shown b i) .attribute)) ≡ true
-  pub to : is-object (kind-of (schema-of b) ((application-shown b i) .to)) || is-link (kind-of (schema-of b) ((application-shown b i) .to)) ≡ true
-  pub within : set ((application-shown b i) .to) && set ((application-shown b i) .attribute) ≡ true
+abbrev pub Applied : List ℕ → (ℕ → Bool) → ℕ → Type 0
+Applied b set i = Application-fits ((schema-of b) .types) set (application-shown b i)
 
 -- the end in row i is of a link type and an object type, both in the set, and has its mirror
 pub record Ended (b : List ℕ) (set : ℕ → Bool) (i : ℕ) : Type 0 where
-  pub link : is-link (kind-of (schema-of b) ((end-shown b i) .link)) ≡ true
-  pub object : is-object (kind-of (schema-of b) ((end-shown b i) .object)) ≡ true
-  pub within : set ((end-shown b i) .link) && set ((end-shown b i) .object) ≡ true
-  pub mirrored : (c r : ℕ) → kind-of (schema-of b) ((end-shown b i) .link) ≡ paired c r
-      → has-end (schema-of b) ((end-shown b i) .sds) r (other-side ((end-shown b i) .side)) ((end-shown b i) .object) ≡ true
+  pub fits : End-fits ((schema-of b) .types) set (end-shown b i)
+  pub mirrored : End-mirrored ((schema-of b) .types) ((schema-of b) .ends) (end-shown b i)
 
 -- r is one of n rows exactly where P holds
 pub record Row-where (P : Type 0) (n r : ℕ) : Type 0 where

@@ -6,6 +6,7 @@ use mathlib.Core.Bool.{true, false}
 use lib.ListN.{length, getD}
 use Rattle.rules.specs.04-Schema.{present}
 use Rattle.rules.specs.07-Picture.{base-length}
+use Rattle.rules.specs.Parts.{Once, Closed, Somewhere, Applications-fit, Ends-fit, Ends-mirrored}
 use Rattle.type_set.specs.declared.TypeSet.{TypeSet}
 use Rattle.type_set.specs.Set.{has}
 use Rattle.rows.specs.Rows.{Counted, Rising, Split}
@@ -28,6 +29,15 @@ pub record Sds-closed (b : List ℕ) (d : ℕ) : Type 0 where
   pub types : (i : ℕ) → i < presence-count b → getD b (presence-at i) 0 ≡ d → Closed-type b (present (schema-of b) d) (type-in b i)
   pub applications : (i : ℕ) → i < application-count b → getD b (application-at i) 0 ≡ d → Applied b (present (schema-of b) d) i
   pub ends : (i : ℕ) → i < end-count b → getD b (end-at i) 0 ≡ d → Ended b (present (schema-of b) d) i
+
+-- what is asked of all SDSs: the parts of `Good` that speak of the types that an SDS holds
+pub record Sdss-closed (b : List ℕ) : Type 0 where
+  pub once : Once ((schema-of b) .presences)
+  pub closed : Closed ((schema-of b) .types) ((schema-of b) .presences)
+  pub somewhere : Somewhere ((schema-of b) .types) ((schema-of b) .presences)
+  pub applications : Applications-fit ((schema-of b) .types) ((schema-of b) .presences) ((schema-of b) .applications)
+  pub ends : Ends-fit ((schema-of b) .types) ((schema-of b) .presences) ((schema-of b) .ends)
+  pub mirrored : Ends-mirrored ((schema-of b) .types) ((schema-of b) .ends)
 
 -- what holds before the SDSs are gone through: n is how many rows of each table are used
 pub record Ready (b : List ℕ) (n : Places) : Type 0 where

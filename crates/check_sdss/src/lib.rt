@@ -8,9 +8,8 @@ ghost use Rattle.type_set.specs.Set.{has};
 ghost use Rattle.rows.specs.Decides.{Decides};
 ghost use Rattle.base.specs.Back.{schema-of};
 ghost use Rattle.lookup.specs.Parents.{Parental};
-ghost use Rattle.check_rows.specs.Parts.{Presences, Rest};
-ghost use Rattle.check_sdss.specs.Parts.{Closed};
-ghost use Rattle.check_sdss.specs.Sds.{Ready, At, Checks, Gone-through};
+ghost use Rattle.check_rows.specs.Fine.{Presences-fine, Rest-fine};
+ghost use Rattle.check_sdss.specs.Sds.{Sdss-closed, Ready, At, Checks, Gone-through};
 
 // A row of each table that has an order of its own.
 pub struct Places {
@@ -132,9 +131,9 @@ fn sdss_fine(base: &[u8], n: Places) -> Checked
 
 pub fn closed_fine(base: &[u8]) -> bool
     requires { ⌜ Parental (now base) ⌝ }
-    requires { ⌜ Presences (now base) ⌝ }
-    requires { ⌜ Rest (now base) ⌝ }
-    ensures { λ r. ⌜ Decides (Closed (now (base .entry))) r ⌝ }
+    requires { ⌜ Presences-fine (now base) ⌝ }
+    requires { ⌜ Rest-fine (now base) ⌝ }
+    ensures { λ r. ⌜ Decides (Sdss-closed (now (base .entry))) r ⌝ }
 {
     let n = Places {
         presences: base::used::presence_count(base),

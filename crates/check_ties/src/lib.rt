@@ -3,9 +3,10 @@ ghost use mathlib.Core.Path.{_≡_};
 ghost use Prim.Native.Nat.{ℕ, _≤_, _<_};
 ghost use lib.ListN.{length};
 ghost use Rattle.rules.specs.07-Picture.{base-length};
+ghost use Rattle.rules.specs.Parts.{Parents, Reverses};
 ghost use Rattle.rows.specs.Decides.{Decides};
-ghost use Rattle.check_types.specs.Parts.{Kinds};
-ghost use Rattle.check_ties.specs.Parts.{Parents, Reverses};
+ghost use Rattle.base.specs.Back.{schema-of};
+ghost use Rattle.check_types.specs.TypeRows.{KindsFine};
 ghost use Rattle.check_ties.specs.Ties.{ParentFine, ParentsFine, Answers, ReverseFine};
 
 // ---- parents
@@ -36,7 +37,7 @@ fn parents_rise(base: &[u8], t: usize, n: usize) -> bool
 
 fn type_parents_fine(base: &[u8], t: usize) -> bool
     requires { ⌜ (length (now base) ≡ base-length) × ((0 < t) × (t < 128)) ⌝ }
-    requires { ⌜ Kinds (now base) ⌝ }
+    requires { ⌜ KindsFine (now base) ⌝ }
     ensures { λ r. ⌜ Decides (ParentsFine (now (base .entry)) t) r ⌝ }
 {
     if base::kind(base, t) != 1 {
@@ -51,8 +52,8 @@ fn type_parents_fine(base: &[u8], t: usize) -> bool
 
 pub fn parents_fine(base: &[u8]) -> bool
     requires { ⌜ length (now base) ≡ base-length ⌝ }
-    requires { ⌜ Kinds (now base) ⌝ }
-    ensures { λ r. ⌜ Decides (Parents (now (base .entry))) r ⌝ }
+    requires { ⌜ KindsFine (now base) ⌝ }
+    ensures { λ r. ⌜ Decides (Parents ((schema-of (now (base .entry))) .types)) r ⌝ }
 {
     if base::kind(base, 0) != 1 {
         return false;
@@ -116,8 +117,8 @@ fn reverse_fine(base: &[u8], t: usize) -> bool
 
 pub fn reverses_fine(base: &[u8]) -> bool
     requires { ⌜ length (now base) ≡ base-length ⌝ }
-    requires { ⌜ Kinds (now base) ⌝ }
-    ensures { λ r. ⌜ Decides (Reverses (now (base .entry))) r ⌝ }
+    requires { ⌜ KindsFine (now base) ⌝ }
+    ensures { λ r. ⌜ Decides (Reverses ((schema-of (now (base .entry))) .types)) r ⌝ }
 {
     let mut t = 0;
     while t < 128 {

@@ -1,4 +1,4 @@
--- What one type's bytes say, of all types together, is what the part `Kinds` says of the schema. Assumes nothing.
+-- What one type's bytes say, of all types together, is what `KindsFine` says. Assumes nothing.
 use Prim.Native.Nat.{ℕ, zero, suc, _≤_, _<_}
 use native.Mathlib.Omega.{arith}
 use mathlib.Core.Path.{_≡_, refl, sym, ap, _∙_, subst}
@@ -17,11 +17,10 @@ use Rattle.rows.specs.Decides.{Decides}
 use Rattle.rows.proofs.Decides.{decides-iff}
 use Rattle.base.specs.Rows.{type-at}
 use Rattle.base.specs.Back.{schema-of, kind-shown}
-use Rattle.base.proofs.Shown.{kind-is, kind-none, shows-attribute, shows-designation, shows-paired, shows-unused}
+use Rattle.base.proofs.Shown.{types-long, kind-is, kind-none, shows-attribute, shows-designation, shows-paired, shows-unused}
 use Rattle.lookup.proofs.KindBytes.{kind-byte, value-byte, reverse-byte, count-byte, parent-places, listed-parents}
 use Rattle.lookup.proofs.KindBytes.{object-shown, place-byte, places-long, row-bytes}
-use Rattle.check_types.specs.Parts.{Kinds}
-use Rattle.check_types.specs.TypeRows.{NoParentsFrom, FewParents, PlainRow, LinkRow, Bounded, RowFine}
+use Rattle.check_types.specs.TypeRows.{NoParentsFrom, FewParents, PlainRow, LinkRow, Bounded, RowFine, KindsFine}
 
 -- ---- a field with zeros behind what it holds
 
@@ -182,7 +181,7 @@ module _ (b : List ℕ) (t : ℕ) (long : length b ≡ base-length) (h : t < 128
   unfolding type-row pad
   no-row z o a l f = z (row-bare 0 0 0 (of-fine unused (shows-unused b t o a l) f) .0)
 
--- ---- all rows: the part `Kinds`
+-- ---- all rows
 
 bounded-of : (k : Kind) → ((ps : List ℕ) → k ≡ object ps → length ps ≤ 4) → ((v : ℕ) → k ≡ attribute v → v ≤ 5)
     → ((c r : ℕ) → k ≡ paired c r → c ≤ 3) → Bounded k
@@ -192,20 +191,24 @@ bounded-of (attribute v) o a p = a v refl
 bounded-of designation o a p = tt
 bounded-of (paired c r) o a p = p c r refl
 
-pub kinds-row : {b : List ℕ} → Kinds b → (t : ℕ) → t < 128 → RowFine b t
+pub kinds-row : {b : List ℕ} → KindsFine b → (t : ℕ) → t < 128 → RowFine b t
 kinds-row {b} k t h =
     let e = kind-is b t h in
     record {
       row = k .type-rows t h;
-      bounded = bounded-of (kind-shown b t) (λ ps q. k .parents-few t ps (e ∙ q)) (λ v q. k .value-kinds t v (e ∙ q)) (λ c r q. k .categories t c r (e ∙ q));
+      bounded = bounded-of (kind-shown b t) (λ ps q. k .kinds .few t ps (e ∙ q)) (λ v q. k .kinds .value-kinds t v (e ∙ q))
+          (λ c r q. k .kinds .categories t c r (e ∙ q));
     }
 
-pub rows-kinds : (b : List ℕ) → ((t : ℕ) → t < 128 → RowFine b t) → Kinds b
+pub rows-kinds : (b : List ℕ) → ((t : ℕ) → t < 128 → RowFine b t) → KindsFine b
 rows-kinds b f = record {
   type-rows = λ t h. (f t h) .row;
-  parents-few = λ t ps e. subst Bounded e (bounded t);
-  value-kinds = λ t v e. subst Bounded e (bounded t);
-  categories = λ t c r e. subst Bounded e (bounded t);
+  kinds = record {
+    room = types-long b;
+    few = λ t ps e. subst Bounded e (bounded t);
+    value-kinds = λ t v e. subst Bounded e (bounded t);
+    categories = λ t c r e. subst Bounded e (bounded t);
+  };
 }
   where
     bounded : (t : ℕ) → Bounded (kind-of (schema-of b) t)

@@ -4,8 +4,7 @@ ghost use Prim.Native.Nat.{_<_};
 ghost use lib.ListN.{length};
 ghost use Rattle.rules.specs.07-Picture.{base-length};
 ghost use Rattle.rows.specs.Decides.{Decides};
-ghost use Rattle.check_types.specs.Parts.{Kinds};
-ghost use Rattle.check_types.specs.TypeRows.{NoParentsFrom, FewParents, PlainRow, LinkRow, RowFine};
+ghost use Rattle.check_types.specs.TypeRows.{NoParentsFrom, FewParents, PlainRow, LinkRow, RowFine, KindsFine};
 
 fn no_parents_from(base: &[u8], t: usize, n: usize) -> bool
     requires { ⌜ (length (now base) ≡ base-length) × (t < 128) ⌝ }
@@ -80,7 +79,7 @@ fn row_fine(base: &[u8], t: usize) -> bool
 
 pub fn kinds_fine(base: &[u8]) -> bool
     requires { ⌜ length (now base) ≡ base-length ⌝ }
-    ensures { λ r. ⌜ Decides (Kinds (now (base .entry))) r ⌝ }
+    ensures { λ r. ⌜ Decides (KindsFine (now (base .entry))) r ⌝ }
 {
     let mut t = 0;
     while t < 128 {

@@ -6,7 +6,8 @@ ghost use mathlib.Core.Path.{_≡_};
 ghost use Prim.Native.Nat.{ℕ, _<_};
 ghost use lib.ListN.{length};
 ghost use Rattle.rules.specs.02-Limits.{limits};
-ghost use Rattle.rules.specs.05-Descent.{Descends, members};
+ghost use Rattle.rules.specs.05-Descent.{members};
+ghost use Rattle.rules.specs.Parts.{Acyclic};
 ghost use Rattle.rules.specs.07-Picture.{base-length};
 ghost use Rattle.rows.specs.Decides.{Decides};
 ghost use Rattle.base.specs.Back.{schema-of};
@@ -77,7 +78,7 @@ fn settle(base: &[u8], s: TypeSet) -> TypeSet
 // Rounds from nothing, until every object type is settled, or a round adds none.
 pub fn is_acyclic(base: &[u8]) -> bool
     requires { ⌜ Parental (now base) ⌝ }
-    ensures { λ r. ⌜ Decides ((t : ℕ) → Descends (schema-of (now (base .entry))) t t → ⊥) r ⌝ }
+    ensures { λ r. ⌜ Decides (Acyclic ((schema-of (now (base .entry))) .types)) r ⌝ }
 {
     let objects = object_count(base);
     let mut s = TypeSet::empty();

@@ -15,7 +15,7 @@ use Rattle.rules.specs.09-Refusals.{no-such-name, no-object, no-attribute, no-l
 use Rattle.rules.specs.09-Refusals.Outcome.{done}
 use Rattle.rules.specs.10-Changes.{with-applications, put-all, apply, apply-refusals, unapply, unapply-refusals}
 use Rattle.rules.specs.13-History.{next}
-use Rattle.rules.specs.Parts.{of-presences, Applied, Applications}
+use Rattle.rules.specs.Parts.{of-presences, Application-fits, Applications}
 use Rattle.rules.proofs.Bools.{or-neither, and-of}
 use Rattle.rules.proofs.01-Lists.{any-at}
 use Rattle.rules.proofs.Edits.{put-each, without-in}
@@ -29,13 +29,13 @@ module _ {ks : List Kind} {ps : List Presence} {xs : List Application} (g : Appl
   fewer : (p : Application → Bool) → Applications ks ps (without p xs)
   fewer p = record { rows = ordered-less application-order (g .rows) p; each = λ x i. g .each x (without-in p xs i .0) }
 
-  one-more : (x : Application) → length xs + 1 ≤ limits .applications → Applied ks (present (of-presences ps) (x .sds)) x
+  one-more : (x : Application) → length xs + 1 ≤ limits .applications → Application-fits ks (present (of-presences ps) (x .sds)) x
       → any (is-application (x .sds) (x .to) (x .attribute)) xs ≡ false → Applications ks ps (put application-before x xs)
   unfolding put-all
   one-more x room fits new = record {
     rows = ordered-more application-order (g .rows) (x ∷ []) room (List·Memᴰ·not-nil, tt)
         (λ y m i. true≢false (sym (any-at test (subst (λ (z : Application). z ∈ xs) (List·Memᴰ·eq-of-singleton m) i) itself) ∙ new));
-    each = λ y i. put-each application-before i (λ z. Applied ks (present (of-presences ps) (z .sds)) z) fits (g .each y);
+    each = λ y i. put-each application-before i (λ z. Application-fits ks (present (of-presences ps) (z .sds)) z) fits (g .each y);
   }
     where
       test : Application → Bool

@@ -21,7 +21,7 @@ use Rattle.rules.specs.09-Refusals.{no-such-name, no-object, no-link, ends-full
 use Rattle.rules.specs.09-Refusals.Outcome.{done}
 use Rattle.rules.specs.10-Changes.{with-ends, put-all, both-ends, is-one-of, add-end, add-end-refusals, remove-end, remove-end-refusals}
 use Rattle.rules.specs.13-History.{next}
-use Rattle.rules.specs.Parts.{of-types, of-presences, of-ends, Types, Ended, Ends}
+use Rattle.rules.specs.Parts.{of-types, of-presences, of-ends, Types, End-fits, Ends}
 use Rattle.rules.proofs.Bools.{or-neither, and-both, and-of, fails}
 use Rattle.rules.proofs.01-Lists.{any-at, any-where, Different}
 use Rattle.rules.proofs.Edits.{put-all-in, put-all-old, put-all-new, without-in, without-keeps}
@@ -91,7 +91,7 @@ Mirrored ks es = (e : End) → e ∈ es → (c r : ℕ) → kind-of (of-types ks
 
 -- what is asked of an end alone
 abbrev Fit : List Kind → List Presence → End → Type 0
-Fit ks ps e = Ended ks (present (of-presences ps) (e .sds)) e
+Fit ks ps e = End-fits ks (present (of-presences ps) (e .sds)) e
 
 module _ {ks : List Kind} {ps : List Presence} {es : List End} (ty : Types ks) (g : Ends ks ps es) where
   mirrors : Mirrored ks es

@@ -70,7 +70,8 @@ module _ {b : List ℕ} {n d l s o r : ℕ} (long : length b ≡ base-length) (f
     where
       go : (t : Bool) → ltb (x .place) r ≡ t → (v : Bool) → ltb r (x .place) ≡ v → x .place ≡ r
       go true q v w =
-          absurd (true≢false (sym (p .earlier (x .place) (ltb-true (x .place) r q)) ∙ ap (λ (k : List ℕ). bytes-before k sought) (row-key x) ∙ before-irreflexive sought))
+          absurd (true≢false (sym (p .earlier (x .place) (ltb-true (x .place) r q))
+          ∙ ap (λ (k : List ℕ). bytes-before k sought) (row-key x) ∙ before-irreflexive sought))
       go false q true w =
           let u = x .below in
           let less = ltb-true r (x .place) w in

@@ -38,7 +38,8 @@ module _ {b : List ℕ} (s : Sound b) where
   small d t e =
       let (p, i, h) = any-where (holds-type d t) ((schema-of b) .presences) e in
       let same : p .sds ≡ d = eqb-true (p .sds) d (and-both (eqb (p .sds) d) (eqb (p .type) t) h .0) in
-      (omega (arith, SdsShown.used-below b (sound-long s) (p .sds) (sound-good s .presence-sds p i)), used-below (sound-good s) t (present-used (sound-good s) d t e))
+      let below = SdsShown.used-below b (sound-long s) (p .sds) (sound-good s .presence-sds p i) in
+      (omega arith, used-below (sound-good s) t (present-used (sound-good s) d t e))
 
   both : (d t u : ℕ) → present (schema-of b) d t && present (schema-of b) d u ≡ true → (d < 128) × ((t < 128) × (u < 128))
   both d t u e =

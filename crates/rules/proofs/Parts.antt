@@ -11,7 +11,7 @@ use Rattle.rules.specs.04-Schema.{present, has-end}
 use Rattle.rules.specs.04-Schema.Kind.{object}
 use Rattle.rules.specs.05-Descent.{Parent}
 use Rattle.rules.specs.06-Good.{Good}
-use Rattle.rules.specs.Parts.{of-types, of-presences, Closed-under, Applied, Ended, Parts}
+use Rattle.rules.specs.Parts.{of-types, of-presences, Closed-under, Application-fits, End-fits, Parts}
 use Rattle.rules.proofs.Bools.{and-both, and-of}
 use Rattle.rules.proofs.01-Lists.{any-at, any-where}
 use Rattle.rules.proofs.05-Descent.{descends-over}
@@ -163,18 +163,18 @@ module _ {ks : List Kind} {held held′ : ℕ → Bool} where
 
 -- where the two types of a row are what they were, and are held
 module _ {ks ks′ : List Kind} {held held′ : ℕ → Bool} where
-  pub applied-over : {x : Application} → Applied ks held x
+  pub applied-over : {x : Application} → Application-fits ks held x
       → kind-of (of-types ks′) (x .to) ≡ kind-of (of-types ks) (x .to) → kind-of (of-types ks′) (x .attribute) ≡ kind-of (of-types ks) (x .attribute)
-      → held′ (x .to) ≡ true → held′ (x .attribute) ≡ true → Applied ks′ held′ x
+      → held′ (x .to) ≡ true → held′ (x .attribute) ≡ true → Application-fits ks′ held′ x
   applied-over {x} g to attribute h i = record {
     attribute = ap is-attribute attribute ∙ g .attribute;
     to = ap (λ (k : Kind). is-object k || is-link k) to ∙ g .to;
     within = and-of (held′ (x .to)) (held′ (x .attribute)) h i;
   }
 
-  pub ended-over : {e : End} → Ended ks held e
+  pub ended-over : {e : End} → End-fits ks held e
       → kind-of (of-types ks′) (e .link) ≡ kind-of (of-types ks) (e .link) → kind-of (of-types ks′) (e .object) ≡ kind-of (of-types ks) (e .object)
-      → held′ (e .link) ≡ true → held′ (e .object) ≡ true → Ended ks′ held′ e
+      → held′ (e .link) ≡ true → held′ (e .object) ≡ true → End-fits ks′ held′ e
   ended-over {e} g same-link same-object h i = record {
     link = ap is-link same-link ∙ g .link;
     object = ap is-object same-object ∙ g .object;
@@ -183,8 +183,8 @@ module _ {ks ks′ : List Kind} {held held′ : ℕ → Bool} where
 
 -- the two types of a row are held
 module _ {ks : List Kind} {held : ℕ → Bool} where
-  pub applied-held : {x : Application} → Applied ks held x → (held (x .to) ≡ true) × (held (x .attribute) ≡ true)
+  pub applied-held : {x : Application} → Application-fits ks held x → (held (x .to) ≡ true) × (held (x .attribute) ≡ true)
   applied-held {x} g = and-both (held (x .to)) (held (x .attribute)) (g .within)
 
-  pub ended-held : {e : End} → Ended ks held e → (held (e .link) ≡ true) × (held (e .object) ≡ true)
+  pub ended-held : {e : End} → End-fits ks held e → (held (e .link) ≡ true) × (held (e .object) ≡ true)
   ended-held {e} g = and-both (held (e .link)) (held (e .object)) (g .within)

@@ -115,28 +115,37 @@ abbrev pub End-rows : List End → Type 0
 End-rows es = Ordered (limits .ends) end-before es
 
 -- an application in an SDS that holds these types
-pub record Applied (ks : List Kind) (held : ℕ → Bool) (x : Application) : Type 0 where
+pub record Application-fits (ks : List Kind) (held : ℕ → Bool) (x : Application) : Type 0 where
   pub attribute : is-attribute (kind-of (of-types ks) (x .attribute)) ≡ true
   pub to : is-object (kind-of (of-types ks) (x .to)) || is-link (kind-of (of-types ks) (x .to)) ≡ true
   pub within : held (x .to) && held (x .attribute) ≡ true
 
+abbrev pub Applications-fit : List Kind → List Presence → List Application → Type 0
+Applications-fit ks ps xs = (x : Application) → x ∈ xs → Application-fits ks (present (of-presences ps) (x .sds)) x
+
 pub record Applications (ks : List Kind) (ps : List Presence) (xs : List Application) : Type 0 where
   pub rows : Application-rows xs
-  pub each : (x : Application) → x ∈ xs → Applied ks (present (of-presences ps) (x .sds)) x
+  pub each : Applications-fit ks ps xs
 
 -- an end in an SDS that holds these types, before its mirror is asked for
-pub record Ended (ks : List Kind) (held : ℕ → Bool) (e : End) : Type 0 where
+pub record End-fits (ks : List Kind) (held : ℕ → Bool) (e : End) : Type 0 where
   pub link : is-link (kind-of (of-types ks) (e .link)) ≡ true
   pub object : is-object (kind-of (of-types ks) (e .object)) ≡ true
   pub within : held (e .link) && held (e .object) ≡ true
 
-abbrev pub Mirrored : List Kind → List End → End → Type 0
-Mirrored ks es e = (c r : ℕ) → kind-of (of-types ks) (e .link) ≡ paired c r → has-end (of-ends es) (e .sds) r (other-side (e .side)) (e .object) ≡ true
+abbrev pub Ends-fit : List Kind → List Presence → List End → Type 0
+Ends-fit ks ps es = (e : End) → e ∈ es → End-fits ks (present (of-presences ps) (e .sds)) e
+
+abbrev pub End-mirrored : List Kind → List End → End → Type 0
+End-mirrored ks es e = (c r : ℕ) → kind-of (of-types ks) (e .link) ≡ paired c r → has-end (of-ends es) (e .sds) r (other-side (e .side)) (e .object) ≡ true
+
+abbrev pub Ends-mirrored : List Kind → List End → Type 0
+Ends-mirrored ks es = (e : End) → e ∈ es → End-mirrored ks es e
 
 pub record Ends (ks : List Kind) (ps : List Presence) (es : List End) : Type 0 where
   pub rows : End-rows es
-  pub each : (e : End) → e ∈ es → Ended ks (present (of-presences ps) (e .sds)) e
-  pub mirrored : (e : End) → e ∈ es → Mirrored ks es e
+  pub each : Ends-fit ks ps es
+  pub mirrored : Ends-mirrored ks es
 
 -- ---- all of it
 

@@ -1,4 +1,4 @@
--- `tables::named::presences_fine` meets its contract: the tests find what `Presences` asks. Assumes nothing.
+-- `tables::named::presences_fine` meets its contract: the tests find what `Presences-fine` asks. Assumes nothing.
 use borrow.Author.Needs.{needs}
 use borrow.Author.Tests.{not-true, not-false}
 use Rattle.rows.proofs.Decides.{decides-no}

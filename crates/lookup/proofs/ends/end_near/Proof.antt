@@ -1,4 +1,4 @@
--- `found::end_row` meets its contract: where the row is, it stands near or at its place. Assumes nothing.
+-- `lookup::ends::end_near` meets its contract: where the row is, it stands near or at its place. Assumes nothing.
 use borrow.Author.Needs.{needs}
 use Rattle.lookup.proofs.EndLaws.{ends-rises, end-found-at, end-found-none}
 use Rattle.lookup.proofs.ends.end_near.Statement.{statement}
@@ -39,7 +39,8 @@ returns-2 c = end-found-at (c .before .is-end2 .ensures .holds (c .if2 .taken))
 returns-3 : tie.Need-returns-3
 returns-3 c =
     let x = c .before .before .before .before .before .before .before in
-    end-found-none (x .pre .0 .0) (x .pre .0 .1) (x .pre .1 .1) (x .pre .1 .0) (c .before .before .place .ensures) (c .before .is-end2 .ensures .fails (c .if2 .left))
+    end-found-none (x .pre .0 .0) (x .pre .0 .1) (x .pre .1 .1) (x .pre .1 .0) (c .before .before .place .ensures)
+    (c .before .is-end2 .ensures .fails (c .if2 .left))
 
 pub end-near-spec : {M : Type 1} → statement M
 end-near-spec =

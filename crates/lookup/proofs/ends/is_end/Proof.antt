@@ -1,4 +1,4 @@
--- `found::is_end` meets its contract: the tests are the fields of `End-at`. Assumes nothing.
+-- `lookup::ends::is_end` meets its contract: the tests are the fields of `End-at`. Assumes nothing.
 use native.Mathlib.Omega.{arith}
 use borrow.Author.Needs.{needs}
 use mathlib.Core.Path.{sym, _∙_}

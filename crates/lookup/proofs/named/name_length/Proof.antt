@@ -1,3 +1,4 @@
+-- `lookup::named::name_length` meets its contract: the field of the row holds the name. Assumes nothing.
 use borrow.Author.Needs.{needs}
 use mathlib.Core.Path.{ap, _∙_}
 use lib.ListN.{length}

@@ -1,3 +1,4 @@
+-- `lookup::presences::holds_presence` meets its contract. The loop's invariant: no row that it has passed is the SDS's. Assumes nothing.
 use borrow.Author.Needs.{needs}
 use Prim.Native.Nat.{ℕ, _≤_, _<_, _-_}
 use native.Mathlib.Omega.{arith}
@@ -28,7 +29,8 @@ returns : tie.Need-returns Inv-loop μ-loop
 returns c =
     let x = c .before .before .before .before .before .before in
     holds-at (x .args .base .now) (c .before .before .before .loop .i) (x .args .d) (omega
-    (arith, c .before .before .before .before .presence-count .ensures .is, c .before .before .loop-test .taken)) (sym (c .before .presence-sds .ensures .is) ∙ c .if1 .taken)
+    (arith, c .before .before .before .before .presence-count .ensures .is, c .before .before .loop-test .taken))
+    (sym (c .before .presence-sds .ensures .is) ∙ c .if1 .taken)
 
 add-i : tie.Need-add-i Inv-loop μ-loop
 add-i c = search needs

@@ -1,3 +1,4 @@
+-- `lookup::presences::is_presence` meets its contract: the tests are the two halves of `Row-of`. Assumes nothing.
 use borrow.Author.Needs.{needs}
 use mathlib.Core.Path.{sym, _∙_}
 use borrow.Author.Tests.{eqb-true, eqb-false}

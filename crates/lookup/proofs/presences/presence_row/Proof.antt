@@ -1,3 +1,4 @@
+-- `lookup::presences::presence_row` meets its contract. The loop's invariant: no row that it has passed says so. Assumes nothing.
 use borrow.Author.Needs.{needs}
 use Prim.Native.Nat.{ℕ, _≤_, _<_, _-_}
 use native.Mathlib.Omega.{arith}

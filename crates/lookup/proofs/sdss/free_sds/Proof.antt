@@ -1,3 +1,4 @@
+-- `lookup::sdss::free_sds` meets its contract. The loop's invariant: every number that it has passed is used. Assumes nothing.
 use borrow.Author.Needs.{needs}
 use Prim.Native.Nat.{ℕ, _≤_, _<_, _-_}
 use native.Mathlib.Omega.{arith}

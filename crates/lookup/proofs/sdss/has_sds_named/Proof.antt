@@ -1,3 +1,4 @@
+-- `lookup::sdss::has_sds_named` meets its contract. The loop's invariant: no SDS that it has passed has the name. Assumes nothing.
 use borrow.Author.Needs.{needs}
 use Prim.Native.Nat.{ℕ, _≤_, _<_, _-_}
 use native.Mathlib.Omega.{arith}

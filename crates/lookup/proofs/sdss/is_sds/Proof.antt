@@ -1,4 +1,4 @@
--- `found::is_sds` meets its contract: an SDS is used exactly where its field has a first byte. Assumes nothing.
+-- `lookup::sdss::is_sds` meets its contract: an SDS is used exactly where its field has a first byte. Assumes nothing.
 use borrow.Author.Needs.{needs}
 use native.Mathlib.Omega.{arith}
 use mathlib.Core.Path.{ap}

@@ -1,3 +1,4 @@
+-- `lookup::sdss::sds_name` meets its contract: what the field holds before its zeros is the name. Assumes nothing.
 use borrow.Author.Needs.{needs}
 use Prim.Native.Nat.{ℕ, _-_}
 use native.Mathlib.Omega.{arith}

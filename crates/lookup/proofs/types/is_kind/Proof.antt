@@ -1,4 +1,4 @@
--- `found::is_kind` meets its contract: the first byte of the row tells the kind. Assumes nothing.
+-- `lookup::types::is_kind` meets its contract: the first byte of the row tells the kind. Assumes nothing.
 use borrow.Author.Needs.{needs}
 use Rattle.lookup.proofs.KindBytes.{code-past, code-byte}
 use Rattle.lookup.proofs.types.is_kind.Statement.{statement}

@@ -65,6 +65,20 @@ impl Base {
     pub const SIDE_OFFSET: usize = 2;
 
     pub const OBJECT_OFFSET: usize = 3;
+
+    // What the first byte of a type says it is, and two categories of links.
+
+    pub const UNUSED: usize = 0;
+
+    pub const OBJECT: usize = 1;
+
+    pub const ATTRIBUTE: usize = 2;
+
+    pub const LINK: usize = 3;
+
+    pub const IMPLICIT: usize = 3;
+
+    pub const DESIGNATION: usize = 4;
 }
 
 // ---- SDSs

@@ -6,7 +6,7 @@ use mathlib.Core.List.{List, [], _∷_, _++_}
 use mathlib.Core.Bool.{Bool, true, false, not, _&&_}
 use lib.Dec.{eqb, ltb}
 use lib.ListN.{length}
-use borrow.Author.Tests.{eqb-true, lt-ltb, le-ltb}
+use borrow.Author.Tests.{lt-ltb, le-ltb}
 use Rattle.rules.specs.01-Lists.{without, put}
 use Rattle.rules.specs.02-Limits.{limits}
 use Rattle.rules.specs.03-Names.{Name}
@@ -15,7 +15,7 @@ use Rattle.rules.specs.07-Picture.{picture}
 use Rattle.rules.specs.09-Refusals.{_when_, Refusals, no-object, no-attribute, no-link, applications-full}
 use Rattle.rules.specs.09-Refusals.Outcome.{done}
 use Rattle.rules.specs.10-Changes.{with-applications, application-refusals, apply, unapply}
-use Rattle.rules.proofs.Bools.{or-left, and-both}
+use Rattle.rules.proofs.Bools.{or-left}
 use Rattle.rules.proofs.09-Refusals.{Left}
 use Rattle.rows.specs.Rows.{Counted}
 use Rattle.base.specs.Back.{schema-of, application-count, application-shown}
@@ -114,12 +114,7 @@ module _ {b : List ℕ} {d : ℕ} {a n : Name} {v : Asked} (x : Both b d a n v) 
 
     row-gone : r < application-count b
         → without (is-application d (v .to) (v .attribute)) ((schema-of b) .applications) ≡ less-row r ((schema-of b) .applications)
-    row-gone h =
-        let y = application-shown b r in
-        let (e, more) = and-both (eqb (y .sds) d) (eqb (y .to) (v .to) && eqb (y .attribute) (v .attribute)) (found .found h) in
-        let (f, g) = and-both (eqb (y .to) (v .to)) (eqb (y .attribute) (v .attribute)) more in
-        application-without (sound-stored (x .sound)) r d (v .to) (v .attribute) h (eqb-true (y .sds) d e) (eqb-true (y .to) (v .to) f)
-        (eqb-true (y .attribute) (v .attribute) g)
+    row-gone h = application-without (sound-stored (x .sound)) r d (v .to) (v .attribute) h (found .found h)
 
     pub taken-off : r < application-count b → {b₁ : List ℕ} → Shows b₁ (with-applications (schema-of b) (less-row r ((schema-of b) .applications)))
         → b₁ ≡ picture (less-application d (type-named (schema-of b) d n) (type-named (schema-of b) d a) (schema-of b))

@@ -1,4 +1,5 @@
 // Attribute types applied to object and link types, and taken off them again.
+use base::Base;
 use rules::Answer;
 use rules::Limits;
 ghost use mathlib.Core.Path.{_≡_};
@@ -32,13 +33,13 @@ fn is_wrong_kind(base: &[u8], a: usize, t: usize) -> bool
     requires { ⌜ length (now base) ≡ base-length ⌝ }
     ensures { λ r. ⌜ r ≡ wrong-kind (schema-of (now (base .entry))) a t ⌝ }
 {
-    if !lookup::types::is_kind(base, a, 2) {
+    if !lookup::types::is_kind(base, a, Base::ATTRIBUTE) {
         return true;
     }
-    if lookup::types::is_kind(base, t, 1) {
+    if lookup::types::is_kind(base, t, Base::OBJECT) {
         return false;
     }
-    !lookup::types::is_kind(base, t, 3)
+    !lookup::types::is_kind(base, t, Base::LINK)
 }
 
 // What both calls test, once, in the order of their refusals.

@@ -1,4 +1,5 @@
 // The ends of link types: what the four calls test of their inputs, once, in the order of their refusals; and the calls.
+use base::Base;
 use rules::Answer;
 use rules::Limits;
 ghost use mathlib.Core.Path.{_≡_};
@@ -56,10 +57,10 @@ fn aimed_at(base: &[u8], sds: usize, link: &[u8], object: &[u8]) -> Aim
     if o == Limits::TYPES {
         return refused(6);
     }
-    if base::kind(base, l) != 3 {
+    if base::kind(base, l) != Base::LINK {
         return refused(7);
     }
-    if base::kind(base, o) != 1 {
+    if base::kind(base, o) != Base::OBJECT {
         return refused(7);
     }
     Aim {

@@ -23,6 +23,7 @@ first-refusals target source n new new-reverse s = until 11 (import-refusals tar
 -- what is so where none holds: t is the type that is named, r its reverse, 128 where it has none
 pub record Importable (b : List ℕ) (target source : ℕ) (n new new-reverse : Name) (t r : ℕ) : Type 0 where
   pub sound : Sound b
+  pub elsewhere : target ≡ 0 → ⊥
   pub small : target < 16
   pub below : t < 128
   pub named : t ≡ type-named (schema-of b) source n

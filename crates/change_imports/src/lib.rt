@@ -144,7 +144,7 @@ fn filled(base: &[u8], source: usize, t: usize, new: &[u8]) -> [u8; Limits::NAME
 // Type t comes into SDS d.
 fn enter_one(base: &mut [u8], d: usize, name: &[u8], t: usize) -> Answer
     requires { ⌜ Sound (now base) ⌝ }
-    requires { ⌜ (d < limits .sdss) × (t < limits .types) ⌝ }
+    requires { ⌜ (d ≡ 0 → ⊥) × ((d < limits .sdss) × (t < limits .types)) ⌝ }
     requires { ⌜ well-formed (now name) ≡ true ⌝ }
     ensures { λ a. ⌜ Kept (now (base .entry)) (enter d (presence-of d (now (name .entry)) t ∷ []) t 0) a (now (base .exit)) ⌝ }
 {
@@ -161,7 +161,7 @@ fn enter_one(base: &mut [u8], d: usize, name: &[u8], t: usize) -> Answer
 // Type t comes into SDS d, and with it its reverse r, under the other name.
 fn enter_both(base: &mut [u8], d: usize, name: &[u8], t: usize, other: &[u8], r: usize) -> Answer
     requires { ⌜ Sound (now base) ⌝ }
-    requires { ⌜ (d < limits .sdss) × ((t < limits .types) × (r < 128)) ⌝ }
+    requires { ⌜ (d ≡ 0 → ⊥) × ((d < limits .sdss) × ((t < limits .types) × (r < limits .types))) ⌝ }
     requires { ⌜ well-formed (now name) ≡ true ⌝ }
     requires { ⌜ well-formed (now other) ≡ true ⌝ }
     ensures { λ a. ⌜ Kept (now (base .entry))

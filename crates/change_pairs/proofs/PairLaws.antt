@@ -109,6 +109,7 @@ module _ {b : List ℕ} {d : ℕ} {n m : Name} {c c′ t r : ℕ} (x : Pair-read
   pub forward-ready : Ready b d n t
   forward-ready = record {
     sound = x .sound;
+    elsewhere = x .elsewhere;
     small = x .small;
     formed = x .formed .0;
     free = x .names .free;
@@ -142,13 +143,13 @@ module _ {b : List ℕ} {d : ℕ} {n m : Name} {c c′ t r : ℕ} (x : Pair-read
 
     module _ {b₃ : List ℕ} (v : Becomes b₂ r (paired c′ t) b₃) where
       -- what its presence needs
-      pub reverse-ready : Stored b₃ × (((d < 256) × (r < 256))
+      pub reverse-ready : Stored b₃ × (((d ≡ 0 → ⊥) × ((d < 256) × (r < 256)))
           × ((well-formed m ≡ true) × ((length ((schema-of b₃) .presences) < 512) × (bears (schema-of b₃) d m ≡ false))))
       reverse-ready =
           let small : (d < 256) × (r < 256) = (omega (arith, x .small), omega (arith, f .reverse-below)) in (
             shows-stored v,
             (
-              small,
+              (x .elsewhere, small),
               (
                 x .formed .1,
                 (room-typed b₂ r (paired c′ t) v d m room-left, free-typed b₂ r (paired c′ t) v d m reverse-free),

@@ -37,6 +37,7 @@ pub record Two-names (b : List ℕ) (d : ℕ) (n m : Name) : Type 0 where
 -- what is so of the inputs where none of the refusals before that holds
 pub record Pair-ready (b : List ℕ) (d : ℕ) (n m : Name) (c c′ : ℕ) : Type 0 where
   pub sound : Sound b
+  pub elsewhere : d ≡ 0 → ⊥
   pub small : d < 16
   pub formed : (well-formed n ≡ true) × (well-formed m ≡ true)
   pub categories : (c ≤ 3) × (c′ ≤ 3)

@@ -1,4 +1,5 @@
 // A pair of link types, each the reverse of the other.
+use base::Base;
 use rules::Answer;
 use rules::Limits;
 ghost use mathlib.Core.Path.{_≡_};
@@ -33,10 +34,10 @@ fn is_no_pair(category: usize, back: usize) -> bool
     if 3 < back {
         return true;
     }
-    if category != 3 {
+    if category != Base::IMPLICIT {
         return false;
     }
-    back == 3
+    back == Base::IMPLICIT
 }
 
 // Whether SDS d has a type of either name, or the two are one.
@@ -120,9 +121,9 @@ pub fn new_pair(
     if places.no != 0 {
         return Answer::refused(places.no);
     }
-    edit::write_type(base, places.t, 3, category, places.r, b"");
+    edit::write_type(base, places.t, Base::LINK, category, places.r, b"");
     edit::put_presence(base, sds, name, places.t);
-    edit::write_type(base, places.r, 3, back, places.t, b"");
+    edit::write_type(base, places.r, Base::LINK, back, places.t, b"");
     edit::put_presence(base, sds, reverse, places.r);
     Answer::done(places.t, places.r, 0)
 }

@@ -1,4 +1,5 @@
 // A type removed from an SDS, with its reverse.
+use base::Base;
 use rules::Answer;
 use rules::Limits;
 ghost use mathlib.Core.Path.{_≡_};
@@ -46,7 +47,7 @@ fn drop_if_gone(base: &mut [u8], t: usize)
     ensures { λ _. ⌜ Shows (now (base .exit)) (less-gone (t ∷ []) (schema-of (now (base .entry)))) ⌝ }
 {
     if !conditions::is_elsewhere(base, t) {
-        edit::write_type(base, t, 0, 0, 0, b"");
+        edit::write_type(base, t, Base::UNUSED, 0, 0, b"");
     }
 }
 

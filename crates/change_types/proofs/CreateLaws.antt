@@ -32,7 +32,7 @@ use Rattle.change_types.specs.Create.{aim-refusals, room-refusals, one-r
 
 module _ {b : List ℕ} {d : ℕ} {n : Name} {no : ℕ} where
   pub not-aimed : Tested b (aim-refusals (schema-of b) d n) no 0 → (no ≡ 0 → ⊥) → Aimed b d n no
-  not-aimed r z = record { told = r; small = λ e. absurd (z e); formed = λ e. absurd (z e) }
+  not-aimed r z = record { told = r; elsewhere = λ e. absurd (z e); small = λ e. absurd (z e); formed = λ e. absurd (z e) }
 
   module _ {t : ℕ} where
     pub no-room : Tested b (room-refusals (schema-of b) d n) no 0 → (no ≡ 0 → ⊥) → Room b d n no t
@@ -61,6 +61,7 @@ module _ {b : List ℕ} {d : ℕ} {n : Name} {no : ℕ} (a : Aimed b d n no) (z 
   pub both-ready : Room b d n no′ t → no′ ≡ 0 → Ready b d n t
   both-ready r y = record {
     sound = tested-sound (a .told) z;
+    elsewhere = a .elsewhere z;
     small = a .small z;
     formed = a .formed z;
     free = r .free y;
@@ -135,11 +136,11 @@ module _ (d : ℕ) (n : Name) where
 
 module _ {b : List ℕ} {d : ℕ} {n : Name} {t : ℕ} (r : Ready b d n t) (k : Kind) {b₁ : List ℕ} (w : Becomes b t k b₁) where
   -- what its presence needs once it has its row
-  pub presence-ready : Stored b₁ × (((d < 256) × (t < 256))
+  pub presence-ready : Stored b₁ × (((d ≡ 0 → ⊥) × ((d < 256) × (t < 256)))
       × ((well-formed n ≡ true) × ((length ((schema-of b₁) .presences) < 512) × (bears (schema-of b₁) d n ≡ false))))
   presence-ready =
       let small : (d < 256) × (t < 256) = (omega (arith, r .small), omega (arith, r .below)) in
-      (shows-stored w, (small, (r .formed, (room-typed b t k w d n (r .room), free-typed b t k w d n (r .free)))))
+      (shows-stored w, ((r .elsewhere, small), (r .formed, (room-typed b t k w d n (r .room), free-typed b t k w d n (r .free)))))
 
   pub made-kept : {rule : Schema → Outcome Schema} {a : Answer} {b₂ : List ℕ} → rule (schema-of b) ≡ made d n k (schema-of b) → a ≡ success t 0 0
       → Shows b₂ (with-presences (schema-of b₁) (put presence-before (record { sds = d; name = n; type = t }) ((schema-of b₁) .presences)))

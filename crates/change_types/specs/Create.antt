@@ -26,6 +26,7 @@ one-refusals s d n unknown = aim-refusals s d n ++ ((5 when unknown) ∷ room-re
 -- what is so where none holds: t is the number that the new type takes
 pub record Ready (b : List ℕ) (d : ℕ) (n : Name) (t : ℕ) : Type 0 where
   pub sound : Sound b
+  pub elsewhere : d ≡ 0 → ⊥
   pub small : d < 16
   pub formed : well-formed n ≡ true
   pub free : bears (schema-of b) d n ≡ false
@@ -36,6 +37,7 @@ pub record Ready (b : List ℕ) (d : ℕ) (n : Name) (t : ℕ) : Type 0 where
 -- what the first tests tell
 pub record Aimed (b : List ℕ) (d : ℕ) (n : Name) (no : ℕ) : Type 0 where
   pub told : Tested b (aim-refusals (schema-of b) d n) no 0
+  pub elsewhere : no ≡ 0 → d ≡ 0 → ⊥
   pub small : no ≡ 0 → d < 16
   pub formed : no ≡ 0 → well-formed n ≡ true
 

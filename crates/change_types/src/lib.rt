@@ -1,4 +1,5 @@
 // The calls that make types. What they test of their inputs they test once, in the order of their refusals.
+use base::Base;
 use rules::Answer;
 use rules::Limits;
 ghost use mathlib.Core.Path.{_≡_};
@@ -77,7 +78,7 @@ pub fn new_attribute(base: &mut [u8], sds: usize, name: &[u8], value: usize) -> 
     if place.no != 0 {
         return Answer::refused(place.no);
     }
-    edit::write_type(base, place.t, 2, value, 0, b"");
+    edit::write_type(base, place.t, Base::ATTRIBUTE, value, 0, b"");
     edit::put_presence(base, sds, name, place.t);
     Answer::done(place.t, 0, 0)
 }
@@ -89,7 +90,7 @@ pub fn new_designation(base: &mut [u8], sds: usize, name: &[u8]) -> Answer
     if place.no != 0 {
         return Answer::refused(place.no);
     }
-    edit::write_type(base, place.t, 3, 4, 0, b"");
+    edit::write_type(base, place.t, Base::LINK, Base::DESIGNATION, 0, b"");
     edit::put_presence(base, sds, name, place.t);
     Answer::done(place.t, 0, 0)
 }

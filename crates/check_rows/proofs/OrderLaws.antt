@@ -1,30 +1,30 @@
--- Rows of bytes that rise are presences, applications and ends that rise; of presences the first 17 bytes also tell names apart.
+-- Rows of bytes that rise are presences that rise, and those of their bytes that are compared tell names apart.
 -- Assumes nothing.
-use Prim.Native.Nat.{ℕ, suc, _+_, _≤_, _<_}
+use Prim.Native.Nat.{ℕ, suc, _<_}
 use native.Mathlib.Omega.{arith}
 use mathlib.Core.Path.{_≡_, refl, sym, ap, _∙_}
 use mathlib.Core.Logic.{⊎-elim}
 use mathlib.Core.List.{List, [], _∷_}
 use mathlib.Core.Bool.{Bool, true, false, not, _&&_, _||_, true≢false, false≢true}
 use lib.Dec.{ltb, eqb}
-use lib.ListN.{length, getD, take, drop}
+use lib.ListN.{take, drop}
 use lib.Seq.{take-at, take-take}
 use borrow.Author.Tests.{ltb-true, ltb-false, le-ltb, eqb-true, eq-eqb}
 use Rattle.rules.specs.01-Lists.{_∈_, bytes-before, rising}
-use Rattle.rules.specs.03-Names.{Name, well-formed, same-name, name-before}
-use Rattle.rules.specs.04-Schema.{Presence, system-presence, presence-before, application-before}
-use Rattle.rules.specs.07-Picture.{pad, presence-row, application-row}
+use Rattle.rules.specs.02-Limits.{limits}
+use Rattle.rules.specs.03-Names.{well-formed, same-name, name-before}
+use Rattle.rules.specs.04-Schema.{Presence, system-presence, presence-before}
+use Rattle.rules.specs.07-Picture.{pad, presence-row, presence-width}
 use Rattle.rules.proofs.Bools.{or-cases, and-both, fails}
 use Rattle.rules.proofs.01-Lists.{rising-at, at-rising}
 use Rattle.rules.proofs.03-Names.{same-name-refl, same-turned, name-connected, name-irreflexive, apart, pad-apart}
 use Rattle.rules.proofs.07-Picture.{length-pad}
-use Rattle.rows.specs.Rows.{part, Rising}
-use Rattle.rows.proofs.Scan.{rising-far, part-cons}
-use Rattle.base.specs.Rows.{presence-at, application-at}
-use Rattle.base.specs.Back.{schema-of, presence-count, application-count, presence-shown, application-shown}
-use Rattle.base.proofs.Shown.{presences-long, applications-long, presence-is, application-is, presence-in, presence-there}
-use Rattle.base.proofs.Back.{no-application}
-use Rattle.base.proofs.OrderedLaws.{application-rows}
+use Rattle.rows.specs.Rows.{part}
+use Rattle.rows.proofs.Scan.{rising-far}
+use Rattle.base.specs.Tables.{In-order, by-name, presences, Written, row-of, shown}
+use Rattle.base.specs.Rows.{presence-at}
+use Rattle.base.specs.Back.{schema-of, presence-count, presence-shown}
+use Rattle.base.proofs.Shown.{presences-long, presence-is, presence-in, presence-there, presence-read}
 
 -- neither of two numbers is less
 equal : (i j : ℕ) → (i < j → ⊥) → (j < i → ⊥) → i ≡ j
@@ -37,9 +37,9 @@ equal i j f g = go (ltb i j) refl (ltb j i) refl
 
 -- ---- presences: by SDS and name
 
--- what the first 17 bytes of a row say
+-- what the bytes of a row that are compared say
 abbrev front : Presence → List ℕ
-front p = p .sds ∷ pad 16 (p .name)
+front p = p .sds ∷ pad (limits .name) (p .name)
 
 abbrev front-before : Presence → Presence → Bool
 front-before p q = ltb (p .sds) (q .sds) || (eqb (p .sds) (q .sds) && apart (p .name) (q .name))
@@ -90,22 +90,23 @@ unfolding presence-before
 presence-irreflexive p = rw (le-ltb (p .sds) (p .sds) (omega arith), eq-eqb (p .sds) (p .sds) refl, name-irreflexive (p .name), le-ltb (p .type) (p .type) (omega arith))
 
 -- the front of a row that is as it would be written
-row-front : (b : List ℕ) (i : ℕ) → presence-row (presence-shown b i) ≡ part b (presence-at i) 18 → part b (presence-at i) 17 ≡ front (presence-shown b i)
+row-front : (b : List ℕ) (i : ℕ) → presence-row (shown presences b i) ≡ row-of presences b i → part b (presence-at i) (by-name .key) ≡ front (presence-shown b i)
 unfolding presence-row
 row-front b i e =
     let p = presence-shown b i in
-    sym (take-take 17 18 (drop (presence-at i) b) (omega arith)) ∙ ap (take 17) (sym e)
-    ∙ ap (λ (l : List ℕ). p .sds ∷ l) (take-at (pad 16 (p .name)) (p .type ∷ []) 16 (length-pad 16 (p .name)))
+    let w = limits .name in
+    sym (take-take (by-name .key) presence-width (drop (presence-at i) b) (omega arith)) ∙ ap (take (by-name .key)) (sym e ∙ ap presence-row (presence-read b i))
+    ∙ ap (λ (l : List ℕ). p .sds ∷ l) (take-at (pad w (p .name)) (p .type ∷ []) w (length-pad w (p .name)))
 
 module _ (b : List ℕ)
-    (written : (i : ℕ) → i < presence-count b → presence-row (presence-shown b i) ≡ part b (presence-at i) 18)
+    (written : Written presences (presence-count b) b)
     (named : (i : ℕ) → i < presence-count b → well-formed ((presence-shown b i) .name) ≡ true) where
   fronts : (i j : ℕ) → i < presence-count b → j < presence-count b
-      → bytes-before (part b (presence-at i) 17) (part b (presence-at j) 17) ≡ front-before (presence-shown b i) (presence-shown b j)
+      → bytes-before (part b (presence-at i) (by-name .key)) (part b (presence-at j) (by-name .key)) ≡ front-before (presence-shown b i) (presence-shown b j)
   fronts i j h k =
       rw (row-front b i (written i h), row-front b j (written j k)) (front-is (presence-shown b i) (presence-shown b j) (named i h) (named j k))
 
-  pub rise-presences : Rising b 1280 18 17 (presence-count b) → rising presence-before ((schema-of b) .presences) ≡ true
+  pub rise-presences : In-order by-name b (presence-count b) → rising presence-before ((schema-of b) .presences) ≡ true
   rise-presences r =
       at-rising presence-before system-presence ((schema-of b) .presences)
       (λ i h.
@@ -114,23 +115,24 @@ module _ (b : List ℕ)
       (front-presence (presence-shown b i) (presence-shown b (suc i)) (sym (fronts i (suc i) (omega arith) k) ∙ r i k)))
 
   -- rows of one SDS and the same name are one row: one that stands before another is apart from it
-  name-once : Rising b 1280 18 17 (presence-count b) → (i j : ℕ) → i < presence-count b → j < presence-count b
+  name-once : In-order by-name b (presence-count b) → (i j : ℕ) → i < presence-count b → j < presence-count b
       → (presence-shown b i) .sds ≡ (presence-shown b j) .sds → same-name ((presence-shown b i) .name) ((presence-shown b j) .name) ≡ true → i ≡ j
   name-once r i j h k d e =
       equal i j (λ l. never i j h k l d e) (λ l. never j i k h l (sym d) (same-turned ((presence-shown b j) .name) ((presence-shown b i) .name) ∙ e))
     where
       never : (i j : ℕ) → i < presence-count b → j < presence-count b → i < j → (presence-shown b i) .sds ≡ (presence-shown b j) .sds
           → same-name ((presence-shown b i) .name) ((presence-shown b j) .name) ≡ true → ⊥
-      never i j h k l = front-other (presence-shown b i) (presence-shown b j) (sym (fronts i j h k) ∙ rising-far b 1280 18 17 (presence-count b) r i j l k)
+      never i j h k l = front-other (presence-shown b i) (presence-shown b j)
+          (sym (fronts i j h k) ∙ rising-far b (presences .start) (presences .width) (by-name .key) (presence-count b) r i j l k)
 
   -- rows that show one presence are one row
-  pub row-once : Rising b 1280 18 17 (presence-count b) → (i j : ℕ) → i < presence-count b → j < presence-count b
+  pub row-once : In-order by-name b (presence-count b) → (i j : ℕ) → i < presence-count b → j < presence-count b
       → presence-shown b i ≡ presence-shown b j → i ≡ j
   row-once r i j h k e =
       name-once r i j h k (ap (λ (p : Presence). p .sds) e)
       (ap (λ (p : Presence). same-name (p .name) ((presence-shown b j) .name)) e ∙ same-name-refl ((presence-shown b j) .name))
 
-  pub rise-unique : Rising b 1280 18 17 (presence-count b) → (p q : Presence) → p ∈ (schema-of b) .presences → q ∈ (schema-of b) .presences
+  pub rise-unique : In-order by-name b (presence-count b) → (p q : Presence) → p ∈ (schema-of b) .presences → q ∈ (schema-of b) .presences
       → p .sds ≡ q .sds → same-name (p .name) (q .name) ≡ true → p ≡ q
   rise-unique r p q m n s e =
       let (i, h, pi) = presence-in b p m in
@@ -140,7 +142,7 @@ module _ (b : List ℕ)
 
   pub presences-rise : rising presence-before ((schema-of b) .presences) ≡ true
       → ((p q : Presence) → p ∈ (schema-of b) .presences → q ∈ (schema-of b) .presences → p .sds ≡ q .sds → same-name (p .name) (q .name) ≡ true → p ≡ q)
-      → Rising b 1280 18 17 (presence-count b)
+      → In-order by-name b (presence-count b)
   presences-rise r u i k =
       let p = presence-shown b i in
       let q = presence-shown b (suc i) in
@@ -152,31 +154,3 @@ module _ (b : List ℕ)
       let one : p ≡ q = u p q (presence-there b i (omega arith)) (presence-there b (suc i) k) s e in
       true≢false (sym before ∙ ap (presence-before p) (sym one) ∙ presence-irreflexive p) in
       fronts i (suc i) (omega arith) k ∙ presence-front p q before apart
-
--- ---- applications and ends: as their bytes stand
-
-module _ (b : List ℕ) where
-  application-bytes : (i : ℕ) → application-at i + 3 ≤ length b → part b (application-at i) 3 ≡ application-row (application-shown b i)
-  unfolding application-row
-  application-bytes i h =
-      let at = application-at i in
-      let two : at + 1 + 1 ≡ at + 2 = omega arith in
-      part-cons b at 3 2 (omega arith) refl
-      ∙ ap (λ (l : List ℕ). getD b at 0 ∷ l) (part-cons b (at + 1) 2 1 (omega arith) refl
-      ∙ ap (λ (l : List ℕ). getD b (at + 1) 0 ∷ l) (rw two (part-cons b (at + 2) 1 0 (omega arith) refl)))
-
-  pub rise-applications : length b ≡ 13312 → (application-count b ≤ 256) → Rising b 10496 3 3 (application-count b) → rising application-before ((schema-of b) .applications) ≡ true
-  rise-applications l m r =
-      at-rising application-before no-application ((schema-of b) .applications)
-      (λ i h.
-      let k : suc i < application-count b = omega (arith, applications-long b) in
-      rw (application-is b i no-application (omega arith), application-is b (suc i) no-application k)
-      (sym (application-rows (application-shown b i) (application-shown b (suc i)))
-      ∙ rw (← application-bytes i (omega arith), ← application-bytes (suc i) (omega arith)) (r i k)))
-
-  pub applications-rise : length b ≡ 13312 → (application-count b ≤ 256) → rising application-before ((schema-of b) .applications) ≡ true → Rising b 10496 3 3 (application-count b)
-  applications-rise l m r i k =
-      rw (application-bytes i (omega arith), application-bytes (suc i) (omega arith))
-      (application-rows (application-shown b i) (application-shown b (suc i))
-      ∙ (rw (application-is b i no-application (omega arith), application-is b (suc i) no-application k)
-      at (rising-at application-before no-application ((schema-of b) .applications) r i (omega (arith, applications-long b)))))

@@ -1,17 +1,19 @@
 -- What the tests of presences find is what `Presences-fine` asks. Assumes nothing.
-use Prim.Native.Nat.{ℕ, zero, suc, _+_, _*_, _-_, _≤_, _<_}
+use Prim.Native.Nat.{ℕ, zero, suc, _+_, _-_, _≤_, _<_}
 use native.Mathlib.Omega.{arith}
 use mathlib.Core.Path.{_≡_, refl, sym, ap, _∙_}
 use mathlib.Core.List.{List}
 use mathlib.Core.Bool.{true}
-use lib.ListN.{length, getD, replicate}
+use lib.ListN.{length, getD}
 use Rattle.rules.specs.01-Lists.{_∈_}
+use Rattle.rules.specs.02-Limits.{limits}
 use Rattle.rules.specs.03-Names.{well-formed}
 use Rattle.rules.specs.04-Schema.{Presence, system-presence, used-sds}
-use Rattle.rules.specs.07-Picture.{pad, presence-row}
-use Rattle.rules.specs.Read.{strip}
-use Rattle.rows.specs.Rows.{part, Rising, Counted, Level}
+use Rattle.rules.specs.07-Picture.{pad, base-length}
+use Rattle.rules.specs.Read.{strip, name-offset}
+use Rattle.rows.specs.Rows.{part, Counted, Level}
 use Rattle.rows.proofs.Scan.{rising-level}
+use Rattle.base.specs.Tables.{Blank-from, In-order, by-name, presences, Written}
 use Rattle.base.specs.Rows.{presence-at}
 use Rattle.base.specs.Back.{schema-of, presence-count, presence-shown}
 use Rattle.base.proofs.Shown.{presences-long, presence-in, presence-there}
@@ -22,8 +24,8 @@ use Rattle.check_rows.proofs.OrderLaws.{row-once, rise-presences, rise-
 
 pub record Found (b : List ℕ) (n : ℕ) : Type 0 where
   pub rows : (i : ℕ) → i < n → Row-named b i
-  pub rest : part b (presence-at n) ((512 - n) * 18) ≡ replicate ((512 - n) * 18) 0
-  pub rise : Rising b 1280 18 17 n
+  pub rest : Blank-from presences n b
+  pub rise : In-order by-name b n
   pub system : System-first b n
 
 -- row 0 as `System-first` has it
@@ -31,26 +33,26 @@ first-shown : (b : List ℕ) (n : ℕ) → System-first b n → presence-shown b
 unfolding pad strip
 first-shown b n s = λ i. record { sds = s .sds i; name = (ap strip (s .name)) i; type = s .type i }
 
-level : (b : List ℕ) (n : ℕ) → length b ≡ 13312 → n ≤ 512 → Rising b 1280 18 17 n → Level b 1280 18 n
-level b n l m r = rising-level b 1280 18 16 n (λ i h. omega arith) r
+level : (b : List ℕ) (n : ℕ) → length b ≡ base-length → n ≤ limits .presences → In-order by-name b n → Level b (presences .start) (presences .width) n
+level b n l m r = rising-level b (presences .start) (presences .width) (limits .name) n (λ i h. omega arith) r
 
-module _ (b : List ℕ) {n : ℕ} (long : length b ≡ 13312) (count : Counted (presence-count b) 512 n) where
+module _ (b : List ℕ) {n : ℕ} (long : length b ≡ base-length) (count : Counted (presence-count b) (limits .presences) n) where
   counted : (i : ℕ) → i < presence-count b → i < n
   counted i h = omega (arith, count .is)
 
-  small : (i : ℕ) → i < presence-count b → i < 512
+  small : (i : ℕ) → i < presence-count b → i < limits .presences
   small i h = omega (arith, count .is, count .fits)
 
   -- ---- from what was found
 
   module _ (f : Found b n) where
-    written : (i : ℕ) → i < presence-count b → presence-row (presence-shown b i) ≡ part b (presence-at i) 18
+    written : Written presences (presence-count b) b
     written i h = named-written b long i (small i h) (f .rows i (counted i h) .named)
 
     named : (i : ℕ) → i < presence-count b → well-formed ((presence-shown b i) .name) ≡ true
-    named i h = name-field-formed (part b (presence-at i + 1) 16) (f .rows i (counted i h) .named)
+    named i h = name-field-formed (part b (presence-at i + name-offset) (limits .name)) (f .rows i (counted i h) .named)
 
-    rises : Rising b 1280 18 17 (presence-count b)
+    rises : In-order by-name b (presence-count b)
     rises = rw (count .is) at (f .rise)
 
     -- a presence in SDS 0 is the first
@@ -90,7 +92,7 @@ module _ (b : List ℕ) {n : ℕ} (long : length b ≡ 13312) (count : Counted (
     named-of : (i : ℕ) → i < presence-count b → well-formed ((presence-shown b i) .name) ≡ true
     named-of i h = p .rows .named (presence-shown b i) (presence-there b i h)
 
-    rising : Rising b 1280 18 17 (presence-count b)
+    rising : In-order by-name b (presence-count b)
     rising = presences-rise b (p .presence-rows) named-of (p .rows .rises) (p .rows .unique)
 
     -- some row is that of a fresh base, so row 0 is in SDS 0, and so is that row
@@ -125,9 +127,9 @@ module _ (b : List ℕ) {n : ℕ} (long : length b ≡ 13312) (count : Counted (
             some = some;
             sds = zero-sds;
             type = ap (λ (q : Presence). q .type) one;
-            name = sym (name-field-padded (part b (presence-at 0 + 1) 16)
+            name = sym (name-field-padded (part b (presence-at 0 + name-offset) (limits .name))
                 (written-named b long 0 (omega arith) (named-of 0 (omega (arith, count .is))) (p .presence-rows 0 (omega (arith, count .is)))))
-                ∙ ap (λ (q : Presence). pad 16 (q .name)) one;
+                ∙ ap (λ (q : Presence). pad (limits .name) (q .name)) one;
             next = λ h e. no-second h e one;
           };
         }

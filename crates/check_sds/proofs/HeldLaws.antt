@@ -12,7 +12,7 @@ use Rattle.rules.proofs.Bools.{or-cases, or-left, or-right, and-of}
 use Rattle.rules.specs.04-Schema.{kind-of, is-object, is-attribute, is-link, side-code, other-side, has-end}
 use Rattle.rules.specs.04-Schema.Kind.{paired}
 use Rattle.rules.specs.05-Descent.{Parent}
-use Rattle.rules.specs.Read.{read-side}
+use Rattle.rules.specs.Read.{read-side, attribute-offset, link-offset, object-offset, reverse-offset, side-offset, to-offset, value-offset}
 use Rattle.rules.proofs.05-Descent.{child-object}
 use Rattle.rules.specs.Parts.{of-types}
 use Rattle.rules.proofs.Parts.{parent-of, applied-held, ended-held}
@@ -69,16 +69,16 @@ module _ (b : List ℕ) (from : ℕ) where
 -- ---- an application, test by test
 
 module _ (b : List ℕ) (set : ℕ → Bool) (i : ℕ) where
-  pub applied-no-attribute : (a : ℕ) → a ≡ getD b (application-at i + 2) 0 → is-attribute (kind-of (schema-of b) a) ≡ false → Applied b set i → ⊥
+  pub applied-no-attribute : (a : ℕ) → a ≡ getD b (application-at i + attribute-offset) 0 → is-attribute (kind-of (schema-of b) a) ≡ false → Applied b set i → ⊥
   applied-no-attribute a e f x = true≢false (sym (rw (← e) at (x .attribute)) ∙ f)
 
-  pub applied-attribute-out : (a : ℕ) → a ≡ getD b (application-at i + 2) 0 → set a ≡ false → Applied b set i → ⊥
+  pub applied-attribute-out : (a : ℕ) → a ≡ getD b (application-at i + attribute-offset) 0 → set a ≡ false → Applied b set i → ⊥
   applied-attribute-out a e f x = true≢false (sym (applied-held x .1) ∙ ap set (sym e) ∙ f)
 
-  pub applied-to-out : (t : ℕ) → t ≡ getD b (application-at i + 1) 0 → set t ≡ false → Applied b set i → ⊥
+  pub applied-to-out : (t : ℕ) → t ≡ getD b (application-at i + to-offset) 0 → set t ≡ false → Applied b set i → ⊥
   applied-to-out t e f x = true≢false (sym (applied-held x .0) ∙ ap set (sym e) ∙ f)
 
-  pub applied-of : (a t : ℕ) → a ≡ getD b (application-at i + 2) 0 → t ≡ getD b (application-at i + 1) 0 → is-attribute (kind-of (schema-of b) a) ≡ true
+  pub applied-of : (a t : ℕ) → a ≡ getD b (application-at i + attribute-offset) 0 → t ≡ getD b (application-at i + to-offset) 0 → is-attribute (kind-of (schema-of b) a) ≡ true
       → set a ≡ true → set t ≡ true → is-object (kind-of (schema-of b) t) || is-link (kind-of (schema-of b) t) ≡ true → Applied b set i
   applied-of a t e f k m n o = record {
     attribute = rw (← e) k;
@@ -86,7 +86,7 @@ module _ (b : List ℕ) (set : ℕ → Bool) (i : ℕ) where
     within = and-of (set ((application-shown b i) .to)) (set ((application-shown b i) .attribute)) (ap set (sym f) ∙ n) (ap set (sym e) ∙ m);
   }
 
-  pub applied-neither : (t : ℕ) → t ≡ getD b (application-at i + 1) 0 → is-object (kind-of (schema-of b) t) ≡ false → is-link (kind-of
+  pub applied-neither : (t : ℕ) → t ≡ getD b (application-at i + to-offset) 0 → is-object (kind-of (schema-of b) t) ≡ false → is-link (kind-of
       (schema-of b) t) ≡ false → Applied b set i → ⊥
   applied-neither t e o l x =
       ⊎-elim (λ h. true≢false (sym h ∙ o)) (λ h. true≢false (sym h ∙ l))
@@ -160,19 +160,19 @@ module _ {P : Type 0} {n : ℕ} where
 -- ---- an end, test by test: l and o are its link type and its object type
 
 module _ (b : List ℕ) (set : ℕ → Bool) (i : ℕ) where
-  pub ended-no-link : (l : ℕ) → l ≡ getD b (end-at i + 1) 0 → is-link (kind-of (schema-of b) l) ≡ false → Ended b set i → ⊥
+  pub ended-no-link : (l : ℕ) → l ≡ getD b (end-at i + link-offset) 0 → is-link (kind-of (schema-of b) l) ≡ false → Ended b set i → ⊥
   ended-no-link l e f x = true≢false (sym (rw (← e) at (x .fits .link)) ∙ f)
 
-  pub ended-link-out : (l : ℕ) → l ≡ getD b (end-at i + 1) 0 → set l ≡ false → Ended b set i → ⊥
+  pub ended-link-out : (l : ℕ) → l ≡ getD b (end-at i + link-offset) 0 → set l ≡ false → Ended b set i → ⊥
   ended-link-out l e f x = true≢false (sym (ended-held (x .fits) .0) ∙ ap set (sym e) ∙ f)
 
-  pub ended-no-object : (o : ℕ) → o ≡ getD b (end-at i + 3) 0 → is-object (kind-of (schema-of b) o) ≡ false → Ended b set i → ⊥
+  pub ended-no-object : (o : ℕ) → o ≡ getD b (end-at i + object-offset) 0 → is-object (kind-of (schema-of b) o) ≡ false → Ended b set i → ⊥
   ended-no-object o e f x = true≢false (sym (rw (← e) at (x .fits .object)) ∙ f)
 
-  pub ended-object-out : (o : ℕ) → o ≡ getD b (end-at i + 3) 0 → set o ≡ false → Ended b set i → ⊥
+  pub ended-object-out : (o : ℕ) → o ≡ getD b (end-at i + object-offset) 0 → set o ≡ false → Ended b set i → ⊥
   ended-object-out o e f x = true≢false (sym (ended-held (x .fits) .1) ∙ ap set (sym e) ∙ f)
 
-  module _ (l o : ℕ) (el : l ≡ getD b (end-at i + 1) 0) (eo : o ≡ getD b (end-at i + 3) 0) (kl : is-link (kind-of (schema-of b) l) ≡ true) where
+  module _ (l o : ℕ) (el : l ≡ getD b (end-at i + link-offset) 0) (eo : o ≡ getD b (end-at i + object-offset) 0) (kl : is-link (kind-of (schema-of b) l) ≡ true) where
     ended-of : set l ≡ true → is-object (kind-of (schema-of b) o) ≡ true → set o ≡ true
         → ((c r : ℕ) → kind-of (schema-of b) l ≡ paired c r → has-end (schema-of b) ((end-shown b i) .sds) r (other-side ((end-shown b i) .side)) ((end-shown b i) .object) ≡ true)
         → Ended b set i
@@ -187,12 +187,12 @@ module _ (b : List ℕ) (set : ℕ → Bool) (i : ℕ) where
     }
 
     -- a designation type has no mirror
-    pub ended-alone : set l ≡ true → is-object (kind-of (schema-of b) o) ≡ true → set o ≡ true → getD b (type-at l + 1) 0 ≡ 4 → Ended b set i
+    pub ended-alone : set l ≡ true → is-object (kind-of (schema-of b) o) ≡ true → set o ≡ true → getD b (type-at l + value-offset) 0 ≡ 4 → Ended b set i
     ended-alone hl ko ho v = ended-of hl ko ho (λ c r e. absurd (paired-reverse b l (link-below b l kl) c r e .0 v))
 
-    module _ {n : ℕ} (ends : Ends b n) (below : i < n) (d r s : ℕ) (ed : d ≡ getD b (end-at i) 0) (er : r ≡ getD b (type-at l + 2) 0) (es : s ≡ getD b (end-at i + 2) 0) where
+    module _ {n : ℕ} (ends : Ends b n) (below : i < n) (d r s : ℕ) (ed : d ≡ getD b (end-at i) 0) (er : r ≡ getD b (type-at l + reverse-offset) 0) (es : s ≡ getD b (end-at i + side-offset) 0) where
       mirror-code : side-code (other-side ((end-shown b i) .side)) ≡ 1 - s
-      mirror-code = other-code (getD b (end-at i + 2) 0) (ends .sides i below) ∙ ap (λ (x : ℕ). 1 - x) (sym es)
+      mirror-code = other-code (getD b (end-at i + side-offset) 0) (ends .sides i below) ∙ ap (λ (x : ℕ). 1 - x) (sym es)
 
       pub ended-both : set l ≡ true → is-object (kind-of (schema-of b) o) ≡ true → set o ≡ true → End-row b n d r (1 - s) o → Ended b set i
       ended-both hl ko ho x =
@@ -200,10 +200,10 @@ module _ (b : List ℕ) (set : ℕ → Bool) (i : ℕ) where
           let same : r′ ≡ r = paired-reverse b l (link-below b l kl) c r′ e .1 ∙ sym er in
           rw (same, ← ed, ← eo) (row-has ends d r (other-side ((end-shown b i) .side)) o (rw mirror-code x)))
 
-      pub ended-mirror : (getD b (type-at l + 1) 0 ≡ 4 → ⊥) → Ended b set i → End-row b n d r (1 - s) o
+      pub ended-mirror : (getD b (type-at l + value-offset) 0 ≡ 4 → ⊥) → Ended b set i → End-row b n d r (1 - s) o
       unfolding has-end
       ended-mirror v x =
           let pair = link-paired b l (link-below b l kl) kl v in
-          let m : has-end (schema-of b) ((end-shown b i) .sds) (getD b (type-at l + 2) 0) (other-side ((end-shown b i) .side)) ((end-shown b i) .object) ≡ true
-          = (rw (← el) at (x .mirrored)) (getD b (type-at l + 1) 0) (getD b (type-at l + 2) 0) pair in
+          let m : has-end (schema-of b) ((end-shown b i) .sds) (getD b (type-at l + reverse-offset) 0) (other-side ((end-shown b i) .side)) ((end-shown b i) .object) ≡ true
+          = (rw (← el) at (x .mirrored)) (getD b (type-at l + value-offset) 0) (getD b (type-at l + reverse-offset) 0) pair in
           rw mirror-code at (has-row ends d r (other-side ((end-shown b i) .side)) o (rw (ed, er, eo) m))

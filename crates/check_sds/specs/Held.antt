@@ -4,6 +4,7 @@ use mathlib.Core.Path.{_≡_}
 use mathlib.Core.List.{List}
 use mathlib.Core.Bool.{Bool, true, false}
 use lib.ListN.{getD}
+use Rattle.rules.specs.Read.{parents-offset, type-offset}
 use Rattle.rules.specs.Parts.{Closed-under, Application-fits, End-fits, End-mirrored}
 use Rattle.type_set.specs.Set.{has}
 use Rattle.base.specs.Rows.{type-at, presence-at}
@@ -11,10 +12,10 @@ use Rattle.base.specs.Back.{schema-of, application-shown, end-shown}
 use Rattle.check_sds.specs.declared.Held.{Held}
 
 abbrev pub type-in : List ℕ → ℕ → ℕ
-type-in b i = getD b (presence-at i + 17) 0
+type-in b i = getD b (presence-at i + type-offset) 0
 
 abbrev pub parent-in : List ℕ → ℕ → ℕ → ℕ
-parent-in b t i = getD b (type-at t + 4 + i) 0
+parent-in b t i = getD b (type-at t + parents-offset + i) 0
 
 -- the types of the rows from `from` up to `to`: a set, where none stands twice
 pub record Gathered (b : List ℕ) (from to : ℕ) (r : Held) : Type 0 where

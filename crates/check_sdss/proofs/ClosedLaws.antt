@@ -10,11 +10,13 @@ use lib.Dec.{ltb, eqb}
 use lib.ListN.{getD}
 use borrow.Author.Count.{below-more}
 use borrow.Author.Tests.{ltb-true, ltb-false, eqb-true, eq-eqb}
+use Rattle.rules.specs.02-Limits.{limits}
 use Rattle.rules.specs.04-Schema.{Presence, holds-type, present}
 use Rattle.rules.proofs.Bools.{same-test, or-cases, or-left, or-right, and-both, and-of}
 use Rattle.rules.proofs.01-Lists.{any-at, any-where}
 use Rattle.type_set.specs.Set.{has}
 use Rattle.rows.specs.Rows.{Counted, Split}
+use Rattle.base.specs.Tables.{Split-at, applications, ends, presences}
 use Rattle.base.specs.Rows.{presence-at}
 use Rattle.base.specs.Back.{schema-of, presence-count, presence-shown}
 use Rattle.base.proofs.Shown.{presence-in, presence-there}
@@ -48,7 +50,7 @@ alike same P x = subst P (λ i t. same t i) x
 
 -- ---- the set that was gathered
 
-module _ {b : List ℕ} {n d p e : ℕ} (count : Counted (presence-count b) 512 n) (s : Split b 1280 18 n d p) (z : Split b 1280 18 n (d + 1) e)
+module _ {b : List ℕ} {n d p e : ℕ} (count : Counted (presence-count b) (limits .presences) n) (s : Split-at presences b n d p) (z : Split-at presences b n (d + 1) e)
     {h : Held} (g : Gathered b p e h) where
   pub gathered-shows : h .once ≡ true → Shows b d (h .types)
   unfolding present
@@ -91,25 +93,25 @@ module _ {b : List ℕ} {n d p e : ℕ} (count : Counted (presence-count b) 512 
 -- ---- all of SDS d
 
 module _ {b : List ℕ} {n at : Places} {d : ℕ} (ready : Ready b n) (here : At b n d at) (h : Held) (shows : Shows b d (h .types)) where
-  pub asked-types : {p : ℕ} → Split b 1280 18 (n .presences) (d + 1) p → Sds-closed b d
+  pub asked-types : {p : ℕ} → Split-at presences b (n .presences) (d + 1) p → Sds-closed b d
       → (i : ℕ) → i < p → at .presences ≤ i → Closed-type b (has (h .types)) (type-in b i)
   asked-types sp x i u l =
       let fits = sp .fits in
       alike (λ t. sym (shows t)) (λ p. Closed-type b p (type-in b i)) (x .types i (omega (arith, ready .presences .is)) (range-in (here .presences) sp i u l))
 
-  pub asked-applications : {a : ℕ} → Split b 10496 3 (n .applications) (d + 1) a → Sds-closed b d
+  pub asked-applications : {a : ℕ} → Split-at applications b (n .applications) (d + 1) a → Sds-closed b d
       → (i : ℕ) → i < a → at .applications ≤ i → Applied b (has (h .types)) i
   asked-applications sa x i u l =
       let fits = sa .fits in
       alike (λ t. sym (shows t)) (λ p. Applied b p i) (x .applications i (omega (arith, ready .applications .is)) (range-in (here .applications) sa i u l))
 
-  pub asked-ends : {e : ℕ} → Split b 11264 4 (n .ends) (d + 1) e → Sds-closed b d
+  pub asked-ends : {e : ℕ} → Split-at ends b (n .ends) (d + 1) e → Sds-closed b d
       → (i : ℕ) → i < e → at .ends ≤ i → Ended b (has (h .types)) i
   asked-ends se x i u l =
       let fits = se .fits in
       alike (λ t. sym (shows t)) (λ p. Ended b p i) (x .ends i (omega (arith, ready .ends .counted .is)) (range-in (here .ends) se i u l))
 
-  pub sds-closed : {p a e : ℕ} → Split b 1280 18 (n .presences) (d + 1) p → Split b 10496 3 (n .applications) (d + 1) a → Split b 11264 4 (n .ends) (d + 1) e
+  pub sds-closed : {p a e : ℕ} → Split-at presences b (n .presences) (d + 1) p → Split-at applications b (n .applications) (d + 1) a → Split-at ends b (n .ends) (d + 1) e
       → Gathered b (at .presences) p h → h .once ≡ true
       → ((i : ℕ) → i < p → at .presences ≤ i → Closed-type b (has (h .types)) (type-in b i))
       → ((i : ℕ) → i < a → at .applications ≤ i → Applied b (has (h .types)) i)

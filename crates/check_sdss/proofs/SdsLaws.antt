@@ -8,13 +8,18 @@ use lib.Dec.{ltb}
 use lib.ListN.{getD}
 use borrow.Author.Tests.{ltb-true, ltb-false}
 use Rattle.rules.specs.01-Lists.{any}
+use Rattle.rules.specs.02-Limits.{limits}
 use Rattle.rules.specs.03-Names.{well-formed}
 use Rattle.rules.specs.04-Schema.{Kind, Presence, kind-of, is-used, used-sds, holds-type, present}
 use Rattle.rules.specs.04-Schema.Kind.{unused, object, attribute, designation, paired}
 use Rattle.rules.specs.07-Picture.{pad, type-row}
+use Rattle.base.specs.Tables.{In-order, by-name}
+use Rattle.base.proofs.Back.{applications-written}
+use Rattle.base.proofs.OrderedLaws.{things-rise}
+use Rattle.base.proofs.Tables.{applications-sort, ends-sort}
 use Rattle.rules.specs.Parts.{of-presences, Once}
 use Rattle.rules.proofs.Parts.{present-each, applied-held, ended-held}
-use Rattle.rows.specs.Rows.{Rising, Split, Counted}
+use Rattle.rows.specs.Rows.{Split, Counted}
 use Rattle.rows.proofs.Rows.{part-byte}
 use Rattle.base.specs.Rows.{type-at, presence-at, application-at, end-at}
 use Rattle.base.specs.Back.{schema-of, presence-count, application-count, end-count, presence-shown, application-shown, end-shown, kind-shown}
@@ -25,8 +30,8 @@ use Rattle.check_sdss.specs.declared.Places.{Places}
 use Rattle.check_rows.specs.Fine.{Presences-fine, Rest-fine}
 use Rattle.check_sds.specs.Held.{type-in, Closed-type, Applied, Ended}
 use Rattle.check_sdss.specs.Sds.{Sds-closed, Sdss-closed, Ready}
-use Rattle.check_rows.proofs.OrderLaws.{row-once, presences-rise, applications-rise}
-use Rattle.lookup.proofs.EndRows.{ends-rise, written-side}
+use Rattle.check_rows.proofs.OrderLaws.{row-once, presences-rise}
+use Rattle.lookup.proofs.EndRows.{written-side}
 use Rattle.check_sdss.proofs.ClosedLaws.{alike}
 
 below-16 : (b : List ℕ) (d : ℕ) → used-sds (schema-of b) d ≡ true → d < 16
@@ -49,7 +54,7 @@ module _ {b : List ℕ} (pres : Presences-fine b) where
   named : (i : ℕ) → i < presence-count b → well-formed ((presence-shown b i) .name) ≡ true
   named i h = pres .rows .named (presence-shown b i) (presence-there b i h)
 
-  rise : Rising b 1280 18 17 (presence-count b)
+  rise : In-order by-name b (presence-count b)
   rise = presences-rise b (pres .presence-rows) named (pres .rows .rises) (pres .rows .unique)
 
   row-below : (i : ℕ) → i < presence-count b → getD b (presence-at i) 0 < 16
@@ -148,7 +153,9 @@ byte-used b t u = go (ltb t 128) refl
 -- ---- before and after the SDSs are gone through
 
 pub ready-of : {b : List ℕ} {n : Places} → Parental b → Presences-fine b → Rest-fine b
-    → Counted (presence-count b) 512 (n .presences) → Counted (application-count b) 256 (n .applications) → Counted (end-count b) 512 (n .ends) → Ready b n
+    → Counted (presence-count b) (limits .presences) (n .presences) → Counted (application-count b) (limits .applications) (n .applications)
+    → Counted (end-count b) (limits .ends) (n .ends) → Ready b n
+unfolding schema-of
 ready-of {b} {n} p pres rest cp ca ce = record {
   long = p .long;
   parental = p;
@@ -157,11 +164,11 @@ ready-of {b} {n} p pres rest cp ca ce = record {
   ends = record {
     long = p .long;
     counted = ce;
-    rise = rw (ce .is) (ends-rise b (rest .end-rows) (rest .ends .rises));
+    rise = rw (ce .is) (things-rise ends-sort b (end-count b) (rest .end-rows) (λ i h. tt) (rest .ends .rises));
     sides = λ i h. written-side b i (rest .end-rows i (omega (arith, ce .is)));
   };
   presences-rise = rw (cp .is) (rise pres);
-  applications-rise = rw (ca .is) (applications-rise b (p .long) (omega (arith, ca .is, ca .fits)) (rest .applications .rises));
+  applications-rise = rw (ca .is) (things-rise applications-sort b (application-count b) (applications-written b (p .long)) (λ i h. tt) (rest .applications .rises));
   types = λ i h. used-below (presence-shown b i .type) (pres .typed (presence-shown b i) (presence-there b i (omega (arith, cp .is))));
 }
   where

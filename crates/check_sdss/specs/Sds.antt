@@ -4,12 +4,14 @@ use mathlib.Core.Path.{_≡_}
 use mathlib.Core.List.{List}
 use mathlib.Core.Bool.{true, false}
 use lib.ListN.{length, getD}
+use Rattle.rules.specs.02-Limits.{limits}
 use Rattle.rules.specs.04-Schema.{present}
 use Rattle.rules.specs.07-Picture.{base-length}
+use Rattle.base.specs.Tables.{In-order, Split-at, applications, by-application, by-name, ends, presences}
 use Rattle.rules.specs.Parts.{Once, Closed, Somewhere, Applications-fit, Ends-fit, Ends-mirrored}
 use Rattle.type_set.specs.declared.TypeSet.{TypeSet}
 use Rattle.type_set.specs.Set.{has}
-use Rattle.rows.specs.Rows.{Counted, Rising, Split}
+use Rattle.rows.specs.Rows.{Counted}
 use Rattle.base.specs.Rows.{presence-at, application-at, end-at}
 use Rattle.base.specs.Back.{schema-of, presence-count, application-count, end-count}
 use Rattle.lookup.specs.Parents.{Parental}
@@ -43,18 +45,18 @@ pub record Sdss-closed (b : List ℕ) : Type 0 where
 pub record Ready (b : List ℕ) (n : Places) : Type 0 where
   pub long : length b ≡ base-length
   pub parental : Parental b
-  pub presences : Counted (presence-count b) 512 (n .presences)
-  pub applications : Counted (application-count b) 256 (n .applications)
+  pub presences : Counted (presence-count b) (limits .presences) (n .presences)
+  pub applications : Counted (application-count b) (limits .applications) (n .applications)
   pub ends : Ends b (n .ends)
-  pub presences-rise : Rising b 1280 18 17 (n .presences)
-  pub applications-rise : Rising b 10496 3 3 (n .applications)
+  pub presences-rise : In-order by-name b (n .presences)
+  pub applications-rise : In-order by-application b (n .applications)
   pub types : (i : ℕ) → i < n .presences → type-in b i < 128
 
 -- the rows before these places are in SDSs below d, the others are not
 pub record At (b : List ℕ) (n : Places) (d : ℕ) (at : Places) : Type 0 where
-  pub presences : Split b 1280 18 (n .presences) d (at .presences)
-  pub applications : Split b 10496 3 (n .applications) d (at .applications)
-  pub ends : Split b 11264 4 (n .ends) d (at .ends)
+  pub presences : Split-at presences b (n .presences) d (at .presences)
+  pub applications : Split-at applications b (n .applications) d (at .applications)
+  pub ends : Split-at ends b (n .ends) d (at .ends)
 
 -- what the check of SDS d answers
 pub record Checks (b : List ℕ) (n : Places) (d : ℕ) (r : Checked) : Type 0 where

@@ -10,7 +10,7 @@ use lib.Seq.{ext-getD, getD-take}
 use borrow.Author.Tests.{ltb-true, ltb-false, eqb-true, eqb-false}
 use Rattle.rules.specs.04-Schema.{Kind, kind-of, parents}
 use Rattle.rules.specs.04-Schema.Kind.{unused, object, attribute, designation, paired}
-use Rattle.rules.specs.07-Picture.{pad, type-row, base-length}
+use Rattle.rules.specs.07-Picture.{pad, type-row, base-length, type-width}
 use Rattle.rules.proofs.07-Picture.{length-pad}
 use Rattle.rows.specs.Rows.{part}
 use Rattle.rows.specs.Decides.{Decides}
@@ -65,14 +65,14 @@ module _ (b : List ℕ) (t : ℕ) (long : length b ≡ base-length) (h : t < 128
   from-places ps e i u l =
       sym (place-byte b t i u) ∙ ap (λ (x : List ℕ). getD x i 0) (sym e) ∙ pad-byte 4 ps i u ∙ List·getD-eq-default ps 0 {n = i} l
 
-  bare-row : (k v r : ℕ) → kind-byte b t ≡ k → value-byte b t ≡ v → reverse-byte b t ≡ r → FewParents b t 0 → bare k v r ≡ part b (type-at t) 8
+  bare-row : (k v r : ℕ) → kind-byte b t ≡ k → value-byte b t ≡ v → reverse-byte b t ≡ r → FewParents b t 0 → bare k v r ≡ part b (type-at t) type-width
   unfolding pad
   bare-row k v r ek ev er f =
       let n : count-byte b t ≡ 0 = omega (arith, f .count) in
       let p : pad 4 [] ≡ parent-places b t = places-from 0 (rw n at (f .places)) in
       rw (row-bytes b t long h) (λ i. sym ek i ∷ sym ev i ∷ sym er i ∷ sym n i ∷ p i)
 
-  row-bare : (k v r : ℕ) → bare k v r ≡ part b (type-at t) 8 → (kind-byte b t ≡ k) × (value-byte b t ≡ v) × (reverse-byte b t ≡ r) × FewParents b t 0
+  row-bare : (k v r : ℕ) → bare k v r ≡ part b (type-at t) type-width → (kind-byte b t ≡ k) × (value-byte b t ≡ v) × (reverse-byte b t ≡ r) × FewParents b t 0
   unfolding pad
   row-bare k v r e =
       let e′ = e ∙ row-bytes b t long h in
@@ -80,10 +80,10 @@ module _ (b : List ℕ) (t : ℕ) (long : length b ≡ base-length) (h : t < 128
       = λ f. sym (ap (λ (x : List ℕ). getD x f 0) e′) in
       (byte 0, byte 1, byte 2, record { count = omega (arith, byte 3); places = rw (byte 3) (from-places [] (ap (drop 4) e′)) })
 
-  fine-of : (k : Kind) → kind-shown b t ≡ k → type-row k ≡ part b (type-at t) 8 → Bounded k → RowFine b t
+  fine-of : (k : Kind) → kind-shown b t ≡ k → type-row k ≡ part b (type-at t) type-width → Bounded k → RowFine b t
   fine-of k e r u = record { row = ap type-row e ∙ r; bounded = subst Bounded (sym e) u }
 
-  of-fine : (k : Kind) → kind-shown b t ≡ k → RowFine b t → type-row k ≡ part b (type-at t) 8
+  of-fine : (k : Kind) → kind-shown b t ≡ k → RowFine b t → type-row k ≡ part b (type-at t) type-width
   of-fine k e f = sym (ap type-row e) ∙ f .row
 
   shown-none : kind-byte b t ≡ 0 → kind-shown b t ≡ unused

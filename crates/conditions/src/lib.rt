@@ -1,4 +1,5 @@
 // The conditions under which the changing calls refuse, each decided.
+use base::Base;
 use rules::Limits;
 ghost use mathlib.Core.Path.{_≡_};
 ghost use Prim.Native.Nat.{_<_};
@@ -36,10 +37,10 @@ pub fn reverse_of(base: &[u8], t: usize) -> usize
     requires { ⌜ Sound (now base) × (t < limits .types) ⌝ }
     ensures { λ r. ⌜ Reverse-of (schema-of (now (base .entry))) t r ⌝ }
 {
-    if base::kind(base, t) != 3 {
+    if base::kind(base, t) != Base::LINK {
         return Limits::TYPES;
     }
-    if base::value(base, t) == 4 {
+    if base::value(base, t) == Base::DESIGNATION {
         return Limits::TYPES;
     }
     base::reverse(base, t)

@@ -1,5 +1,6 @@
 // Whether no type is its own ancestor, from the rows of types alone.
 
+use base::Base;
 use rules::Limits;
 use type_set::TypeSet;
 ghost use mathlib.Core.Path.{_≡_};
@@ -19,7 +20,7 @@ fn is_object(base: &[u8], t: usize) -> bool
     requires { ⌜ length (now base) ≡ base-length ⌝ }
     ensures { λ r. ⌜ r ≡ object-in (now (base .entry)) t ⌝ }
 {
-    lookup::types::is_kind(base, t, 1)
+    lookup::types::is_kind(base, t, Base::OBJECT)
 }
 
 // How many object types there are.

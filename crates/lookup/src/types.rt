@@ -1,4 +1,5 @@
 // Types: the kind of one by its number, and the lowest number that is free.
+use base::Base;
 use rules::Limits;
 ghost use mathlib.Core.Path.{_≡_};
 ghost use Prim.Native.Nat.{_<_};
@@ -28,7 +29,7 @@ pub fn free_type(base: &[u8], from: usize) -> usize
 {
     let mut t = from;
     while t < Limits::TYPES {
-        if base::kind(base, t) == 0 {
+        if base::kind(base, t) == Base::UNUSED {
             return t;
         }
         t += 1;

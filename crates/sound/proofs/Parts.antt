@@ -12,7 +12,6 @@ use Rattle.rules.specs.Parts.{Parents, Reverses, Acyclic, Parts}
 use Rattle.rules.proofs.Parts.{parent-in, parts-of, whole}
 use Rattle.base.specs.Back.{schema-of, Canonical}
 use Rattle.base.proofs.Back.{sound-canonical, sound-good, is-sound}
-use Rattle.base.proofs.Shown.{presence-read, end-read}
 use Rattle.check_types.specs.TypeRows.{KindsFine}
 use Rattle.check_rows.specs.Fine.{Sdss-fine, Presences-fine, Rest-fine}
 use Rattle.check_sdss.specs.Sds.{Sdss-closed}
@@ -45,7 +44,7 @@ whole-of {b} s =
       reverses = p .types .reverses;
       acyclic = p .types .acyclic;
       presences = record {
-        presence-rows = λ i h. rw (presence-read b i) at (c .presence-rows i h);
+        presence-rows = c .presence-rows;
         presence-rest = c .presence-rest;
         rows = p .presences .rows;
         typed = p .presences .typed;
@@ -53,7 +52,7 @@ whole-of {b} s =
       rest = record {
         application-rest = c .application-rest;
         applications = p .applications .rows;
-        end-rows = λ i h. rw (end-read b i) at (c .end-rows i h);
+        end-rows = c .end-rows;
         end-rest = c .end-rest;
         ends = p .ends .rows;
       };
@@ -75,8 +74,8 @@ whole-sound b w = is-sound b canonical (whole parts)
       long = w .long;
       sds-fields = w .sdss .sds-fields;
       type-rows = w .kinds .type-rows;
-      presence-rows = λ i h. rw (presence-read b i) (w .presences .presence-rows i h);
-      end-rows = λ i h. rw (end-read b i) (w .rest .end-rows i h);
+      presence-rows = w .presences .presence-rows;
+      end-rows = w .rest .end-rows;
       presence-rest = w .presences .presence-rest;
       application-rest = w .rest .application-rest;
       end-rest = w .rest .end-rest;

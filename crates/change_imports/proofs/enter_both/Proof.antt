@@ -102,7 +102,7 @@ put-presence-requires c κs =
     let x = c .before .before .before .before .before .before .before .before .before .before .before .before .before .before .before in (
       sound-stored (x .pre .0),
       (
-        (omega (arith, x .pre .1 .0 .0), omega (arith, x .pre .1 .0 .1 .0)),
+        (x .pre .1 .0 .0, (omega (arith, x .pre .1 .0 .1 .0), omega (arith, x .pre .1 .0 .1 .1 .0))),
         (
           x .pre .1 .1 .0,
           (
@@ -120,7 +120,7 @@ put-presence-requires-2 c κs =
     let out = c .before .before .before .put-presence .ensures in (
       shows-stored out,
       (
-        (omega (arith, x .pre .1 .0 .0), omega (arith, x .pre .1 .0 .1 .1)),
+        (x .pre .1 .0 .0, (omega (arith, x .pre .1 .0 .1 .0), omega (arith, x .pre .1 .0 .1 .1 .1))),
         (
           x .pre .1 .1 .1,
           (

@@ -54,7 +54,7 @@ put-presence-requires c κs =
     let x = c .before .before .before .before .before .before .before .before .before in (
       sound-stored (x .pre .0),
       (
-        (omega (arith, x .pre .1 .0 .0), omega (arith, x .pre .1 .0 .1)),
+        (x .pre .1 .0 .0, (omega (arith, x .pre .1 .0 .1 .0), omega (arith, x .pre .1 .0 .1 .1))),
         (x .pre .1 .1, (omega (arith, fits-2 (c .before), presences-long (x .args .base .now)), free-1 (c .before .before .before .before))),
       ),
     )

@@ -56,7 +56,7 @@ enter-one-requires c κs =
     let v = c .before .before .before .before .before .before .before .before .before .before .before .named-by .result in
     let r = ready-1 (c .before .before .before .before .before .before .before .before .before) in
     let name = cut-is (c .before .before .before .before .before .name-length .ensures) ∙ c .before .before .before .before .before .before .before .filled .ensures in
-    (r .sound, ((r .small, r .below), ap well-formed name ∙ filled-formed (sound-good (r .sound)) (x .source) (v .t) (x .new .now) (r .there) (r .formed)))
+    (r .sound, ((r .elsewhere, (r .small, r .below)), ap well-formed name ∙ filled-formed (sound-good (r .sound)) (x .source) (v .t) (x .new .now) (r .there) (r .formed)))
 
 same-length-2 : tie.Need-same-length-2
 same-length-2 c = search needs
@@ -115,7 +115,7 @@ enter-both-requires c κs =
     let other = cut-is (c .before .before .before .before .before .name-length2 .ensures) ∙ c .before .before .before .before .before .before .before .filled2 .ensures in (
       r .sound,
       (
-        (r .small, (r .below, reverse-below named z e)),
+        (r .elsewhere, (r .small, (r .below, reverse-below named z e))),
         (
           ap well-formed name ∙ filled-formed good (x .source) (v .t) (x .new .now) (r .there) (r .formed),
           ap well-formed other ∙ filled-formed good (x .source) (v .reverse) (x .new-reverse .now) (reverse-there named z e) (r .formed-reverse),

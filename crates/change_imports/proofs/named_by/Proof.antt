@@ -184,6 +184,7 @@ returns-9 c =
       told = come-through p;
       ready = λ _. record {
         sound = p .sound;
+        elsewhere = c .before .before .before .before .before .before .before .before .before .before .before .if3 .left;
         small = first-below _ _ _ (known-2 (c .before .before .before .before .before .before .before .before .before .before .before .before));
         below = t .0;
         named = t .1;

@@ -140,6 +140,7 @@ returns-8 c =
       told = come-rest p (r .told);
       ready = λ _. record {
         sound = p .sound;
+        elsewhere = c .before .before .before .before .before .before .before .before .before .if3 .left;
         small = used-below _ (sound-long (p .sound)) _ (used-1 (c .before .before .before .before .before .before .before .before .before .before));
         formed = (formed-2 (c .before .before .before .before .before .before .before), formed-3 (c .before .before .before .before .before));
         categories = categories-fit _ _ (pair-4 (c .before .before .before));

@@ -56,6 +56,7 @@ returns-5 c =
     let f = sym (c .before .is-well-formed .ensures) ∙ not-false _ (c .if4 .left) in
     record {
       told = come-through (come-next p (formed-passes _ f));
+      elsewhere = λ _. c .before .before .if3 .left;
       small = λ _. used-below _ (sound-long (p .sound)) _ (used-1 (c .before .before .before));
       formed = λ _. f;
     }

@@ -203,13 +203,16 @@ put-presence-requires c κs =
       shows-stored out,
       (
         (
-          omega (
-            arith,
-            used-below _ (sound-long s) _ (used-2
-                (c .before .before .before .before .before .before .before .before .before .before .before .before .before .before .before .before
-                .before .before)),
+          c .before .before .before .before .before .before .before .before .before .before .before .before .before .before .before .before .before .if3 .left,
+          (
+            omega (
+              arith,
+              used-below _ (sound-long s) _ (used-2
+                  (c .before .before .before .before .before .before .before .before .before .before .before .before .before .before .before .before
+                  .before .before)),
+            ),
+            omega (arith, type-6 (c .before .before .before .before .before .before .before .before .before .before) .0),
           ),
-          omega (arith, type-6 (c .before .before .before .before .before .before .before .before .before .before) .0),
         ),
         (
           formed-5 (c .before .before .before .before .before .before .before .before .before .before .before .before .before),

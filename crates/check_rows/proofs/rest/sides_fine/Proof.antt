@@ -4,13 +4,14 @@ use Prim.Native.Nat.{ℕ, _+_, _≤_, _<_, _-_}
 use native.Mathlib.Omega.{arith}
 use lib.ListN.{getD}
 use borrow.Author.Count.{below-none, below-more}
+use Rattle.rules.specs.Read.{side-offset}
 use Rattle.rows.proofs.Decides.{decides-yes, decides-no}
 use Rattle.base.specs.Rows.{end-at}
 use Rattle.check_rows.proofs.rest.sides_fine.Statement.{statement}
 use Rattle.check_rows.proofs.rest.sides_fine.Tie as tie
 
 abbrev Inv-loop : tie.InvT-loop
-Inv-loop base n i₀ i = (i ≤ n) × ((k : ℕ) → k < i → getD base (end-at k + 2) 0 ≤ 1)
+Inv-loop base n i₀ i = (i ≤ n) × ((k : ℕ) → k < i → getD base (end-at k + side-offset) 0 ≤ 1)
 
 abbrev μ-loop : tie.MeasureT-loop
 μ-loop base n i₀ i = n - i

@@ -145,7 +145,8 @@ module _ (b : List ℕ) (long : length b ≡ base-length) where
   pub system-of : Sdss-fine b → (f : List ℕ) → f ≡ part b (sds-at 0) (limits .name) → same-bytes f (pad 16 system-name) ≡ true
   unfolding sds-row
   system-of s f e =
-      let z : part b (sds-at 0) (limits .name) ≡ pad 16 system-name = sym (s .sds-fields 0 (omega arith)) ∙ ap (pad 16) (sym (sds-is b 0 (omega arith)) ∙ s .sdss .system) in
+      let z : part b (sds-at 0) (limits .name) ≡ pad 16 system-name
+      = sym (s .sds-fields 0 (omega arith)) ∙ ap (pad 16) (sym (sds-is b 0 (omega arith)) ∙ s .sdss .system) in
       rw (e, z) (same-bytes-refl (pad 16 system-name))
 
   pub sdss-of : ((d : ℕ) → d < 16 → fine-field b d ≡ true) → ((d : ℕ) → d < 16 → Alone b d)

@@ -43,7 +43,8 @@ module _ (b : List ℕ) (from : ℕ) where
     marks = λ t e. absurd (true≢false (sym e ∙ h t));
   }
 
-  pub gathers-more : (i : ℕ) (p q : ℕ → Bool) → Gathers b from i p → from ≤ i → p (type-in b i) ≡ false → ((k : ℕ) → q k ≡ eqb k (type-in b i) || p k) → Gathers b from (i + 1) q
+  pub gathers-more : (i : ℕ) (p q : ℕ → Bool) → Gathers b from i p → from ≤ i → p (type-in b i) ≡ false
+      → ((k : ℕ) → q k ≡ eqb k (type-in b i) || p k) → Gathers b from (i + 1) q
   gathers-more i p q g h n made = record {
     once = λ j k l m u e. once j k l m u e (ltb k i) refl;
     marked = λ j l u. made (type-in b j) ∙ marked j l u (ltb j i) refl;
@@ -174,7 +175,8 @@ module _ (b : List ℕ) (set : ℕ → Bool) (i : ℕ) where
 
   module _ (l o : ℕ) (el : l ≡ getD b (end-at i + link-offset) 0) (eo : o ≡ getD b (end-at i + object-offset) 0) (kl : is-link (kind-of (schema-of b) l) ≡ true) where
     ended-of : set l ≡ true → is-object (kind-of (schema-of b) o) ≡ true → set o ≡ true
-        → ((c r : ℕ) → kind-of (schema-of b) l ≡ paired c r → has-end (schema-of b) ((end-shown b i) .sds) r (other-side ((end-shown b i) .side)) ((end-shown b i) .object) ≡ true)
+        → ((c r : ℕ) → kind-of (schema-of b) l ≡ paired c r
+        → has-end (schema-of b) ((end-shown b i) .sds) r (other-side ((end-shown b i) .side)) ((end-shown b i) .object) ≡ true)
         → Ended b set i
     unfolding has-end
     ended-of hl ko ho m = record {
@@ -190,7 +192,8 @@ module _ (b : List ℕ) (set : ℕ → Bool) (i : ℕ) where
     pub ended-alone : set l ≡ true → is-object (kind-of (schema-of b) o) ≡ true → set o ≡ true → getD b (type-at l + value-offset) 0 ≡ 4 → Ended b set i
     ended-alone hl ko ho v = ended-of hl ko ho (λ c r e. absurd (paired-reverse b l (link-below b l kl) c r e .0 v))
 
-    module _ {n : ℕ} (ends : Ends b n) (below : i < n) (d r s : ℕ) (ed : d ≡ getD b (end-at i) 0) (er : r ≡ getD b (type-at l + reverse-offset) 0) (es : s ≡ getD b (end-at i + side-offset) 0) where
+    module _ {n : ℕ} (ends : Ends b n) (below : i < n) (d r s : ℕ)
+        (ed : d ≡ getD b (end-at i) 0) (er : r ≡ getD b (type-at l + reverse-offset) 0) (es : s ≡ getD b (end-at i + side-offset) 0) where
       mirror-code : side-code (other-side ((end-shown b i) .side)) ≡ 1 - s
       mirror-code = other-code (getD b (end-at i + side-offset) 0) (ends .sides i below) ∙ ap (λ (x : ℕ). 1 - x) (sym es)
 

@@ -78,7 +78,8 @@ module _ {b : List ℕ} {n d p e : ℕ} (count : Counted (presence-count b) (lim
   gathered-twice o x =
       let (i, j, l, m, u, q) = g .twice o in
       let fits = z .fits in
-      let same : i ≡ j = x .once i j (omega (arith, count .is)) (omega (arith, count .is)) (range-in s z i (omega arith) l) (range-in s z j u (omega arith)) q in
+      let same : i ≡ j
+      = x .once i j (omega (arith, count .is)) (omega (arith, count .is)) (range-in s z i (omega arith) l) (range-in s z j u (omega arith)) q in
       omega arith
 
   pub gathered-once : h .once ≡ true → (i j : ℕ) → i < presence-count b → j < presence-count b → getD b (presence-at i) 0 ≡ d → getD b (presence-at j) 0 ≡ d
@@ -86,8 +87,11 @@ module _ {b : List ℕ} {n d p e : ℕ} (count : Counted (presence-count b) (lim
   gathered-once o i j k m u v q = go (ltb i j) refl (ltb j i) refl
     where
       go : (x : Bool) → ltb i j ≡ x → (y : Bool) → ltb j i ≡ y → i ≡ j
-      go true f y w = absurd (g .once o i j (range-of s z i (omega (arith, count .is)) u .0) (ltb-true i j f) (range-of s z j (omega (arith, count .is)) v .1) q)
-      go false f true w = absurd (g .once o j i (range-of s z j (omega (arith, count .is)) v .0) (ltb-true j i w) (range-of s z i (omega (arith, count .is)) u .1) (sym q))
+      go true f y w =
+          absurd (g .once o i j (range-of s z i (omega (arith, count .is)) u .0) (ltb-true i j f) (range-of s z j (omega (arith, count .is)) v .1) q)
+      go false f true w =
+          absurd (g .once o j i (range-of s z j (omega (arith, count .is)) v .0) (ltb-true j i w)
+          (range-of s z i (omega (arith, count .is)) u .1) (sym q))
       go false f false w = omega (arith, ltb-false i j f, ltb-false j i w)
 
 -- ---- all of SDS d

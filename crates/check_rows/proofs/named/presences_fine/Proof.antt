@@ -44,7 +44,8 @@ returns-4 c =
     let n = c .before .before .before .before .before .before .before in
     let long = n .before .before .pre in record {
       holds = λ e. found-presences (n .before .before .args .base .now) long (n .presence-count .ensures) (record {
-        rows = c .before .before .before .before .before .before .presence-rows-fine .ensures .holds (not-false _ (c .before .before .before .before .before .if1 .left));
+        rows = c .before .before .before .before .before .before .presence-rows-fine .ensures .holds
+            (not-false _ (c .before .before .before .before .before .if1 .left));
         rest = c .before .before .before .before .no-presence-from .ensures .holds (not-false _ (c .before .before .before .if2 .left));
         rise = c .before .before .presences-rise .ensures .holds (not-false _ (c .before .if3 .left));
         system = c .system-first .ensures .holds e;

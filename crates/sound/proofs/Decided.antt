@@ -17,7 +17,7 @@ use Rattle.check_rows.specs.Fine.{Sdss-fine, Presences-fine, Rest-fine}
 use Rattle.check_sdss.specs.Sds.{Sdss-closed}
 
 -- all that is decided
-pub record Whole (b : List ℕ) : Type 0 where
+pub record Decided (b : List ℕ) : Type 0 where
   pub long : length b ≡ base-length
   pub sdss : Sdss-fine b
   pub kinds : KindsFine b
@@ -32,8 +32,8 @@ pub record Whole (b : List ℕ) : Type 0 where
 pub parents-objects : {s : Schema} → Parents (s .types) → (t a : ℕ) → Parent s t a → is-object (kind-of s a) ≡ true
 parents-objects p t a by = p .objects t a (parent-in t a by)
 
-pub whole-of : {b : List ℕ} → Sound b → Whole b
-whole-of {b} s =
+pub decided-of : {b : List ℕ} → Sound b → Decided b
+decided-of {b} s =
     let c = sound-canonical s in
     let p = parts-of (sound-good s) in
     record {
@@ -66,8 +66,8 @@ whole-of {b} s =
       };
     }
 
-pub whole-sound : (b : List ℕ) → Whole b → Sound b
-whole-sound b w = is-sound b canonical (whole parts)
+pub decided-sound : (b : List ℕ) → Decided b → Sound b
+decided-sound b w = is-sound b canonical (whole parts)
   where
     canonical : Canonical b
     canonical = record {

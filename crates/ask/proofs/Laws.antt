@@ -7,6 +7,7 @@ use mathlib.Core.Bool.{Bool, true, false, not}
 use lib.Dec.{leb, ltb}
 use lib.ListN.{length, getD, take, drop}
 use borrow.Author.Tests.{leb-true, leb-false, lt-ltb, le-ltb}
+use Rattle.rules.specs.02-Limits.{limits}
 use Rattle.rules.specs.declared.Answer.{Answer}
 use Rattle.rules.specs.04-Schema.{Schema, Presence, system-presence, holds-type, present, local-name}
 use Rattle.rules.specs.07-Picture.{Sound, name-start}
@@ -14,7 +15,7 @@ use Rattle.rules.specs.09-Refusals.{Outcome, not-present}
 use Rattle.rules.specs.09-Refusals.Outcome.{done}
 use Rattle.rules.specs.11-Asks.{place, name, name-refusals}
 use Rattle.rules.specs.12-Contracts.{Answered, Handed, stretch}
-use Rattle.rules.specs.Read.{strip}
+use Rattle.rules.specs.Read.{strip, name-offset}
 use Rattle.rules.proofs.09-Refusals.{Left}
 use Rattle.rules.proofs.11-Asks.{place-is, local-at, name-start-is, name-within}
 use Rattle.rows.specs.Rows.{part}
@@ -61,10 +62,10 @@ module _ (b : List ℕ) (d t : ℕ) where
           (λ i k. ap (holds-type d t) (presence-is b i system-presence (omega arith)) ∙ first-is .others i k)
           (ap (holds-type d t) (presence-is b r system-presence h) ∙ first-is .found h)
 
-      pub start-is : presence-at r + 1 ≡ name-start (schema-of b) (place (holds-type d t) ((schema-of b) .presences))
+      pub start-is : presence-at r + name-offset ≡ name-start (schema-of b) (place (holds-type d t) ((schema-of b) .presences))
       start-is = sym (name-start-is (schema-of b) (place (holds-type d t) ((schema-of b) .presences)) ∙ ap (λ (k : ℕ). 1280 + k * 18 + 1) row-is)
 
-      pub length-is : length (strip (part b (presence-at r + 1) 16)) ≡ length (local-name (schema-of b) d t)
+      pub length-is : length (strip (part b (presence-at r + name-offset) (limits .name))) ≡ length (local-name (schema-of b) d t)
       length-is =
           ap length (sym (local-at (schema-of b) d t here .1
           ∙ ap (λ (k : ℕ). (getD ((schema-of b) .presences) k system-presence) .name) row-is

@@ -102,14 +102,14 @@ pub fn name_place(base: &[u8], sds: usize, t: usize) -> Answer
     if !sound::is_sound(base) {
         return Answer::refused(1);
     }
-    if !lookup::is_sds(base, sds) {
+    if !lookup::sdss::is_sds(base, sds) {
         return Answer::refused(2);
     }
-    let row = lookup::presence_row(base, sds, t);
+    let row = lookup::presences::presence_row(base, sds, t);
     if row == base::used::presence_count(base) {
         return Answer::refused(6);
     }
-    Answer::done(base::name_at(row), lookup::name_length(base, row), 0)
+    Answer::done(base::name_at(row), lookup::named::name_length(base, row), 0)
 }
 
 // The part of the base that holds it; empty where `name_place` refuses.

@@ -5,13 +5,14 @@ ghost use Prim.Native.Nat.{ℕ, _≤_, _<_};
 ghost use mathlib.Core.List.{List};
 ghost use lib.Dec.{eqb};
 ghost use Rattle.rules.specs.01-Lists.{among};
+ghost use Rattle.rules.specs.02-Limits.{limits};
 ghost use Rattle.rules.specs.07-Picture.{Sound};
 ghost use Rattle.base.specs.Back.{schema-of};
 ghost use Rattle.type_set.specs.Set.{has};
 ghost use Rattle.ask_scans.specs.Scans.{object-scan, link-scan, sources, Scanned};
 
 fn one(t: usize) -> TypeSet
-    requires { ⌜ t < 128 ⌝ }
+    requires { ⌜ t < limits .types ⌝ }
     ensures { λ r. ⌜ ((k : ℕ) → has r k ≡ eqb k t) ⌝ }
 {
     let none = TypeSet::empty();
@@ -22,7 +23,7 @@ fn one(t: usize) -> TypeSet
 
 // Codes 0 to 3: child, descendant, parent, ancestor.
 fn kin(base: &[u8], t: usize, code: usize) -> TypeSet
-    requires { ⌜ Sound (now base) × ((t < 128) × (code < 4)) ⌝ }
+    requires { ⌜ Sound (now base) × ((t < limits .types) × (code < 4)) ⌝ }
     ensures { λ r. ⌜ ((w : List ℕ) (k : ℕ) → has r k ≡ object-scan (schema-of (now (base .entry))) w t code k) ⌝ }
 {
     let s = one(t);
@@ -40,7 +41,7 @@ fn kin(base: &[u8], t: usize, code: usize) -> TypeSet
 
 // The types whose attribute and link types count: the type, and with "all" its ancestors.
 fn sources(base: &[u8], t: usize, all: bool) -> TypeSet
-    requires { ⌜ Sound (now base) × (t < 128) ⌝ }
+    requires { ⌜ Sound (now base) × (t < limits .types) ⌝ }
     ensures { λ r. ⌜ ((k : ℕ) → has r k ≡ among (sources (schema-of (now (base .entry))) all t) k) ⌝ }
 {
     let s = one(t);
@@ -52,7 +53,7 @@ fn sources(base: &[u8], t: usize, all: bool) -> TypeSet
 
 // Codes 4 to 9: attribute, link-origin and link-destination, each without and with "all".
 fn had(base: &[u8], sdss: TypeSet, t: usize, code: usize) -> TypeSet
-    requires { ⌜ Sound (now base) × ((t < 128) × ((4 ≤ code) × (code < 10))) ⌝ }
+    requires { ⌜ Sound (now base) × ((t < limits .types) × ((4 ≤ code) × (code < 10))) ⌝ }
     ensures { λ r. ⌜ Scanned (schema-of (now (base .entry))) (has sdss) (λ w. object-scan (schema-of (now (base .entry))) w t code) (has r) ⌝ }
 {
     let types = sources(base, t, code % 2 == 1);
@@ -66,7 +67,7 @@ fn had(base: &[u8], sdss: TypeSet, t: usize, code: usize) -> TypeSet
 }
 
 pub fn of_object(base: &[u8], sdss: TypeSet, t: usize, code: usize) -> TypeSet
-    requires { ⌜ Sound (now base) × ((t < 128) × (code < 10)) ⌝ }
+    requires { ⌜ Sound (now base) × ((t < limits .types) × (code < 10)) ⌝ }
     ensures { λ r. ⌜ Scanned (schema-of (now (base .entry))) (has sdss) (λ w. object-scan (schema-of (now (base .entry))) w t code) (has r) ⌝ }
 {
     if code < 4 {
@@ -91,7 +92,7 @@ fn ends(base: &[u8], sdss: TypeSet, t: usize, code: usize) -> TypeSet
 
 // Code 4 besides: the attribute types that are applied to it.
 pub fn of_link(base: &[u8], sdss: TypeSet, t: usize, code: usize) -> TypeSet
-    requires { ⌜ Sound (now base) × ((t < 128) × (code < 5)) ⌝ }
+    requires { ⌜ Sound (now base) × ((t < limits .types) × (code < 5)) ⌝ }
     ensures { λ r. ⌜ Scanned (schema-of (now (base .entry))) (has sdss) (λ w. link-scan (schema-of (now (base .entry))) w t code) (has r) ⌝ }
 {
     if code < 4 {

@@ -1,4 +1,5 @@
 // What the calls that ask about a type test of their inputs, once, in the order of their refusals; and what they then look through.
+use base::Base;
 use type_set::TypeSet;
 ghost use mathlib.Core.Path.{_≡_};
 ghost use lib.ListN.{length};
@@ -30,9 +31,9 @@ fn is_of_kind(base: &[u8], t: usize, link: bool) -> bool
     ensures { λ r. ⌜ r ≡ of-kind link (kind-of (schema-of (now (base .entry))) t) ⌝ }
 {
     if link {
-        return lookup::is_kind(base, t, 3);
+        return lookup::types::is_kind(base, t, Base::LINK);
     }
-    lookup::is_kind(base, t, 1)
+    lookup::types::is_kind(base, t, Base::OBJECT)
 }
 
 // `known` is whether the call knows the scan code that it was given, if it takes one.

@@ -1,33 +1,29 @@
 -- The picture of a schema that can be stored shows that schema, as does that of a good one, and canonical bytes are the picture of
--- the schema that they show. Assumes nothing.
+-- the schema that they show: for one table, and then for the five. Assumes nothing.
 use Prim.Native.Nat.{ℕ, _+_, _*_, _-_, _≤_, _<_}
-use native.Mathlib.Nat.{zero-add}
+use native.Mathlib.Nat.{add-mul, mul-le-mul-right}
 use native.Mathlib.Omega.{arith}
 use mathlib.Core.Path.{_≡_, refl, sym, ap, _∙_, subst}
-use mathlib.Core.List.{List, [], _∷_, _++_, append-nil}
-use mathlib.Core.List.List·Memᴰ.{List·Memᴰ·head}
-use mathlib.Core.Bool.{true, false≢true}
+use mathlib.Core.List.{List, [], _∷_, _++_}
 use lib.ListN.{length, getD, take, drop, replicate, length-drop, length-take, take-append-drop}
 use lib.Seq.{take-at, drop-at, drop-drop, drop-append-le, take-all}
 use Rattle.rules.specs.01-Lists.{_∈_}
-use Rattle.rules.specs.03-Names.{Name, well-formed}
-use Rattle.rules.specs.04-Schema.{Schema, Application, End, sds-name, kind-of, system-presence}
-use Rattle.rules.specs.04-Schema.Kind.{unused}
+use Rattle.rules.specs.04-Schema.{Schema, Application, End}
 use Rattle.rules.specs.04-Schema.Side.{origin}
 use Rattle.rules.specs.06-Good.{Good}
-use Rattle.rules.specs.07-Picture.{pad, sds-row, type-row, presence-row, application-row, end-row, table, sds-table, type-table}
-use Rattle.rules.specs.07-Picture.{presence-table, application-table, end-table, picture, Sound}
+use Rattle.rules.specs.07-Picture.{application-width, application-row, base-length, picture, Sound}
+use Rattle.rules.specs.Read.{read-application}
 use Rattle.rules.proofs.01-Lists.{place-in}
-use Rattle.rules.proofs.03-Names.{formed-no-zero}
-use Rattle.rules.proofs.07-Picture.{wide-sds, wide-type, wide-presence}
-use Rattle.rules.specs.Read.{strip, read-kind, read-presence, read-application, read-end}
-use Rattle.rules.proofs.07-Picture.{wide-application, wide-end, length-table, picture-length, sds-back, fitting, kind-back, presence-back}
-use Rattle.rules.proofs.07-Picture.{application-back, end-back, zeros-long}
+use Rattle.rules.proofs.07-Picture.{length-table, picture-length, sds-back, fitting, kind-back, presence-used, application-used, end-used, zeros-long}
 use Rattle.rows.specs.Rows.{part, rows, filled}
 use Rattle.rows.proofs.Rows.{part-part, rows-table, table-rows, table-part, table-rest, rows-append, filled-most, filled-table}
-use Rattle.base.specs.Rows.{sds-at}
-use Rattle.base.specs.Stored.{Storable}
-use Rattle.base.specs.Back.{presence-count, application-count, end-count, schema-of, Canonical}
+use Rattle.rows.proofs.TableLaws.{row-fits}
+use Rattle.base.specs.Tables.{Table, Sorted, end, row-of, Used, used-rows, first-things, things, bytes-of, Written, Blank-from}
+use Rattle.base.specs.Tables.{sdss, types, presences, applications, ends}
+use Rattle.base.specs.Stored.{Numbered, Ordered, Storable}
+use Rattle.base.specs.Back.{schema-of, Canonical}
+use Rattle.base.proofs.Tables.{Placed, Sorts, sdss-placed, types-placed, presences-placed, applications-placed, ends-placed}
+use Rattle.base.proofs.Tables.{presences-sort, applications-sort, ends-sort}
 
 -- what stands past the last application and end
 abbrev pub no-application : Application
@@ -36,178 +32,145 @@ no-application = record { sds = 0; to = 0; attribute = 0 }
 abbrev pub no-end : End
 no-end = record { sds = 0; link = 0; side = origin; object = 0 }
 
--- ---- the tables of a picture, from where they start
+-- the bytes of some rows, and of the others
+split-rows : (w : ℕ) {m n : ℕ} → m ≤ n → m * w + (n - m) * w ≡ n * w
+split-rows w {m} {n} h = sym (add-mul m (n - m) w) ∙ ap (λ (k : ℕ). k * w) (omega arith)
 
-module _ (s : Schema) where
-  pub long-sdss : length (sds-table s) ≡ 256
-  long-sdss = length-table 16 sds-row wide-sds 16 (s .sdss)
+-- ---- one table of a picture
 
-  pub long-types : length (type-table s) ≡ 1024
-  long-types = length-table 8 type-row wide-type 128 (s .types)
+module _ {A : Type 0} {t : Table A} {of : Schema → List A} (p : Placed t of) (s : Schema) where
+  from-start : drop (t .start) (picture s) ≡ bytes-of t (of s) ++ p .behind s
+  from-start = ap (drop (t .start)) (p .whole s) ∙ drop-at (p .ahead s) (bytes-of t (of s) ++ p .behind s) (t .start) (sym (p .long s))
 
-  pub long-presences : length (presence-table s) ≡ 9216
-  long-presences = length-table 18 presence-row wide-presence 512 (s .presences)
+  module _ (room : length (of s) ≤ t .room) where
+    rows-counted : ((a : A) → a ∈ of s → Used t a) → used-rows t (picture s) ≡ length (of s)
+    rows-counted used =
+        ap (filled (t .width) (t .room)) from-start
+        ∙ filled-table (t .width) (t .row) (p .wide) (t .room) (of s) (p .behind s) room used
 
-  pub long-applications : length (application-table s) ≡ 768
-  long-applications = length-table 3 application-row wide-application 256 (s .applications)
+    -- a row of it
+    pub row-there : (d : A) (k : ℕ) → k < length (of s) → row-of t (picture s) k ≡ t .row (getD (of s) k d)
+    row-there d k h =
+        let w = t .width in
+        ap (take w) (sym (drop-drop (k * w) (t .start) (picture s)) ∙ ap (drop (k * w)) from-start)
+        ∙ table-part w (t .read) (t .row) (p .wide) (t .room) (of s) (p .behind s) k d h room
 
-  pub long-ends : length (end-table s) ≡ 2048
-  long-ends = length-table 4 end-row wide-end 512 (s .ends)
+    module _ {n : ℕ} (count : n ≡ length (of s)) where
+      -- the room behind its rows
+      rest-blank : Blank-from t n (picture s)
+      rest-blank =
+          let w = t .width in
+          let m = length (of s) in
+          let left = (t .room - m) * w in
+          rw count
+          (ap (take left)
+          (sym (drop-drop (m * w) (t .start) (picture s)) ∙ ap (drop (m * w)) from-start
+          ∙ drop-append-le (m * w) (bytes-of t (of s)) (p .behind s)
+              (omega (arith, length-table w (t .row) (p .wide) (t .room) (of s), mul-le-mul-right w room))
+          ∙ ap (λ (x : List ℕ). x ++ p .behind s) (table-rest w (t .read) (t .row) (p .wide) (t .room) (of s) room))
+          ∙ take-at (replicate left 0) (p .behind s) left (zeros-long left))
 
-  from-types : drop 256 (picture s) ≡ type-table s ++ (presence-table s ++ (application-table s ++ end-table s))
-  unfolding picture
-  from-types = drop-at (sds-table s) (type-table s ++ (presence-table s ++ (application-table s ++ end-table s))) 256 long-sdss
+      module _ (back : (a : A) → a ∈ of s → t .read (t .row a) ≡ a) where
+        things-back : first-things t n (picture s) ≡ of s
+        things-back =
+            let w = t .width in
+            let m = length (of s) in
+            let bytes = bytes-of t (of s) in
+            ap (rows w (t .read) n) from-start ∙ ap (λ (j : ℕ). rows w (t .read) j (bytes ++ p .behind s)) count
+            ∙ rows-append w (t .read) m bytes (p .behind s) (omega (arith, length-table w (t .row) (p .wide) (t .room) (of s), mul-le-mul-right w room))
+            ∙ rows-table w (t .read) (t .row) (p .wide) (t .room) (of s) room back
 
-  from-presences : drop 1280 (picture s) ≡ presence-table s ++ (application-table s ++ end-table s)
-  from-presences =
-      sym (drop-drop 1024 256 (picture s)) ∙ ap (drop 1024) from-types
-      ∙ drop-at (type-table s) (presence-table s ++ (application-table s ++ end-table s)) 1024 long-types
+        rows-written : Written t n (picture s)
+        rows-written i h =
+            let d = t .read [] in
+            let l : i < length (of s) = omega arith in
+            let e = row-there d i l in
+            ap (λ (r : List ℕ). t .row (t .read r)) e ∙ ap (t .row) (back (getD (of s) i d) (place-in d (of s) i l)) ∙ sym e
 
-  from-applications : drop 10496 (picture s) ≡ application-table s ++ end-table s
-  from-applications =
-      sym (drop-drop 9216 1280 (picture s)) ∙ ap (drop 9216) from-presences
-      ∙ drop-at (presence-table s) (application-table s ++ end-table s) 9216 long-presences
+-- things in their order are read back, and counted
+module _ {A : Type 0} {t : Table A} {o : Sorted t} (l : Sorts o) {of : Schema → List A} (p : Placed t of) (s : Schema) (k : Ordered o (of s)) where
+  ordered-count : used-rows t (picture s) ≡ length (of s)
+  ordered-count = rows-counted p s (k .room) (k .used)
 
-  from-ends : drop 11264 (picture s) ≡ end-table s ++ []
-  from-ends =
-      sym (drop-drop 768 10496 (picture s)) ∙ ap (drop 768) from-applications
-      ∙ drop-at (application-table s) (end-table s) 768 long-applications ∙ sym (append-nil (end-table s))
+  fit-back : (a : A) → a ∈ of s → t .read (t .row a) ≡ a
+  fit-back a i = l .back a (k .fit a i)
 
--- the first byte of a name's field is not 0
-name-first : (n : Name) (r : List ℕ) → well-formed n ≡ true → getD (pad 16 n ++ r) 0 0 ≡ 0 → ⊥
-unfolding pad well-formed
-name-first [] r f e = false≢true f
-name-first (x ∷ n) r f e = formed-no-zero (x ∷ n) f (List·Memᴰ·head (sym e))
+  ordered-back : things t (picture s) ≡ of s
+  ordered-back = things-back p s (k .room) ordered-count fit-back
 
--- ---- the picture of a schema that can be stored shows it
+  ordered-written : Written t (used-rows t (picture s)) (picture s)
+  ordered-written = rows-written p s (k .room) ordered-count fit-back
 
--- the rows of a table, read back
-whole : {A : Type 0} (w : ℕ) (read : List ℕ → A) (row : A → List ℕ) (wide : (a : A) → length (row a) ≡ w) (n m : ℕ) (rs : List A) (l r : List ℕ)
-    → l ≡ table w row n rs ++ r → m ≡ length rs → length rs ≤ n → length rs * w ≤ n * w → ((a : A) → a ∈ rs → read (row a) ≡ a) → rows w read m l ≡ rs
-whole w read row wide n m rs l r e c h k f =
-    ap (rows w read m) e ∙ ap (λ (j : ℕ). rows w read j (table w row n rs ++ r)) c
-    ∙ rows-append w read (length rs) (table w row n rs) r (omega (arith, length-table w row wide n rs))
-    ∙ rows-table w read row wide n rs h f
+  ordered-blank : Blank-from t (used-rows t (picture s)) (picture s)
+  ordered-blank = rest-blank p s (k .room) ordered-count
+
+module _ {A : Type 0} {t : Table A} {of : Schema → List A} (p : Placed t of) (s : Schema) (k : Numbered t (of s)) where
+  few : length (of s) ≤ t .room
+  few = omega (arith, k .room)
+
+  numbered-back : first-things t (t .room) (picture s) ≡ of s
+  numbered-back = things-back p s few (sym (k .room)) (k .back)
+
+  numbered-written : Written t (t .room) (picture s)
+  numbered-written = rows-written p s few (sym (k .room)) (k .back)
+
+-- ---- the picture of a schema that can be stored shows it, and is canonical
 
 module _ {s : Schema} (st : Storable s) where
-  presences-counted : presence-count (picture s) ≡ length (s .presences)
-  unfolding presence-row
-  presences-counted =
-      ap (filled 18 1 512) (from-presences s)
-      ∙ filled-table 18 1 presence-row wide-presence (omega arith) 512 (s .presences) (application-table s ++ end-table s) (st .presences .room)
-      (λ p i e. name-first (p .name) (p .type ∷ []) (st .presences .used p i) e)
-
-  applications-counted : application-count (picture s) ≡ length (s .applications)
-  unfolding application-row
-  applications-counted =
-      ap (filled 3 0 256) (from-applications s)
-      ∙ filled-table 3 0 application-row wide-application (omega arith) 256 (s .applications) (end-table s) (st .applications .room)
-      (λ x i e. st .applications .used x i e)
-
-  ends-counted : end-count (picture s) ≡ length (s .ends)
-  unfolding end-row
-  ends-counted =
-      ap (filled 4 0 512) (from-ends s)
-      ∙ filled-table 4 0 end-row wide-end (omega arith) 512 (s .ends) [] (st .ends .room)
-      (λ x i e. st .ends .used x i e)
-
   pub storable-back : schema-of (picture s) ≡ s
-  unfolding schema-of picture
-  storable-back =
-      let sdss : rows 16 strip 16 (picture s) ≡ s .sdss
-      = whole 16 strip sds-row wide-sds 16 16 (s .sdss) (picture s) (type-table s ++ (presence-table s ++ (application-table s ++ end-table s))) refl (sym (st .sds-room))
-      (omega (arith, st .sds-room)) (omega (arith, st .sds-room)) (st .sds-shown) in
-      let types : rows 8 read-kind 128 (drop 256 (picture s)) ≡ s .types
-      = whole 8 read-kind type-row wide-type 128 128 (s .types) (drop 256 (picture s)) (presence-table s ++ (application-table s ++ end-table s))
-      (from-types s) (sym (st .type-room))
-      (omega (arith, st .type-room)) (omega (arith, st .type-room)) (st .kind-shown) in
-      let presences : rows 18 read-presence (presence-count (picture s)) (drop 1280 (picture s)) ≡ s .presences
-      = whole 18 read-presence presence-row wide-presence 512 (presence-count (picture s)) (s .presences) (drop 1280 (picture s))
-      (application-table s ++ end-table s) (from-presences s) presences-counted
-      (st .presences .room) (omega (arith, st .presences .room)) (λ p i. presence-back p (st .presences .used p i)) in
-      let applications : rows 3 read-application (application-count (picture s)) (drop 10496 (picture s)) ≡ s .applications
-      = whole 3 read-application application-row wide-application 256 (application-count (picture s)) (s .applications) (drop 10496 (picture s))
-      (end-table s) (from-applications s) applications-counted
-      (st .applications .room) (omega (arith, st .applications .room)) (λ x i. application-back x) in
-      let ends : rows 4 read-end (end-count (picture s)) (drop 11264 (picture s)) ≡ s .ends
-      = whole 4 read-end end-row wide-end 512 (end-count (picture s)) (s .ends) (drop 11264 (picture s)) [] (from-ends s) ends-counted
-      (st .ends .room) (omega (arith, st .ends .room)) (λ x i. end-back x) in
-      λ i. record { sdss = sdss i; types = types i; presences = presences i; applications = applications i; ends = ends i }
+  unfolding schema-of
+  storable-back = λ i. record {
+    sdss = numbered-back sdss-placed s (st .by-sds) i;
+    types = numbered-back types-placed s (st .by-type) i;
+    presences = ordered-back presences-sort presences-placed s (st .presences) i;
+    applications = ordered-back applications-sort applications-placed s (st .applications) i;
+    ends = ordered-back ends-sort ends-placed s (st .ends) i;
+  }
 
--- ---- such a picture is canonical
-
--- a row of a table that starts at `at`
-pub row-there : {A : Type 0} (w : ℕ) (row : A → List ℕ) (wide : (a : A) → length (row a) ≡ w) (n : ℕ) (rs : List A) (b r : List ℕ) (at : ℕ) (d : A)
-    → drop at b ≡ table w row n rs ++ r → length rs ≤ n → (k : ℕ) → k < length rs → part b (at + k * w) w ≡ row (getD rs k d)
-row-there w row wide n rs b r at d e h k q =
-    ap (take w) (sym (drop-drop (k * w) at b) ∙ ap (drop (k * w)) e) ∙ table-part w (λ x. d) row wide n rs r k d q h
-
-rest-there : {A : Type 0} (w : ℕ) (row : A → List ℕ) (wide : (a : A) → length (row a) ≡ w) (n m : ℕ) (rs : List A) (b r : List ℕ) (at : ℕ) (d : A)
-    → drop at b ≡ table w row n rs ++ r → m ≡ length rs → length rs ≤ n → length rs * w + (n - length rs) * w ≡ n * w
-    → part b (at + m * w) ((n - m) * w) ≡ replicate ((n - m) * w) 0
-rest-there w row wide n m rs b r at d e c h k =
-    rw c
-    (ap (take ((n - length rs) * w))
-    (sym (drop-drop (length rs * w) at b) ∙ ap (drop (length rs * w)) e
-    ∙ drop-append-le (length rs * w) (table w row n rs) r (omega (arith, length-table w row wide n rs)) ∙ ap (λ (x : List ℕ). x ++ r) (table-rest w (λ x. d) row wide n rs h))
-    ∙ take-at (replicate ((n - length rs) * w) 0) r ((n - length rs) * w) (zeros-long ((n - length rs) * w)))
-
-module _ {s : Schema} (st : Storable s) where
   pub storable-canonical : Canonical (picture s)
-  unfolding picture
   storable-canonical = record {
     long = picture-length s;
-    sds-fields = λ d h.
-        let e = row-there 16 sds-row wide-sds 16 (s .sdss) (picture s) (type-table s ++ (presence-table s ++ (application-table s ++ end-table s))) 0 [] refl
-        (omega (arith, st .sds-room)) d (omega (arith, st .sds-room)) in
-        let e′ : part (picture s) (sds-at d) 16 ≡ sds-row (sds-name s d) = subst (λ (n : ℕ). part (picture s) n 16 ≡ sds-row (sds-name s d)) (zero-add (d * 16)) e in
-        rw e′ (ap sds-row (st .sds-shown (sds-name s d) (place-in [] (s .sdss) d (omega (arith, st .sds-room)))));
-    type-rows = λ t h.
-        let e = row-there 8 type-row wide-type 128 (s .types) (picture s) (presence-table s ++ (application-table s ++ end-table s)) 256 unused (from-types s)
-        (omega (arith, st .type-room)) t (omega (arith, st .type-room)) in
-        rw e (ap type-row (st .kind-shown (kind-of s t) (place-in unused (s .types) t (omega (arith, st .type-room)))));
-    presence-rows = λ i h.
-        let l : i < length (s .presences) = omega (arith, presences-counted st) in
-        let e = row-there 18 presence-row wide-presence 512 (s .presences) (picture s) (application-table s ++ end-table s) 1280 system-presence (from-presences s)
-        (st .presences .room) i l in
-        rw e (ap presence-row (presence-back _ (st .presences .used _ (place-in system-presence (s .presences) i l))));
-    end-rows = λ i h.
-        let l : i < length (s .ends) = omega (arith, ends-counted st) in
-        let e = row-there 4 end-row wide-end 512 (s .ends) (picture s) [] 11264 no-end (from-ends s) (st .ends .room) i l in
-        rw e (ap end-row (end-back (getD (s .ends) i no-end)));
-    presence-rest = rest-there 18 presence-row wide-presence 512 (presence-count (picture s)) (s .presences) (picture s) (application-table s ++ end-table s) 1280 system-presence
-        (from-presences s) (presences-counted st) (st .presences .room) (let r = st .presences .room in omega arith);
-    application-rest = rest-there 3 application-row wide-application 256 (application-count (picture s)) (s .applications) (picture s) (end-table s) 10496 no-application
-        (from-applications s) (applications-counted st) (st .applications .room) (let r = st .applications .room in omega arith);
-    end-rest = rest-there 4 end-row wide-end 512 (end-count (picture s)) (s .ends) (picture s) [] 11264 no-end
-        (from-ends s) (ends-counted st) (st .ends .room) (let r = st .ends .room in omega arith);
+    sds-fields = numbered-written sdss-placed s (st .by-sds);
+    type-rows = numbered-written types-placed s (st .by-type);
+    presence-rows = ordered-written presences-sort presences-placed s (st .presences);
+    end-rows = ordered-written ends-sort ends-placed s (st .ends);
+    presence-rest = ordered-blank presences-sort presences-placed s (st .presences);
+    application-rest = ordered-blank applications-sort applications-placed s (st .applications);
+    end-rest = ordered-blank ends-sort ends-placed s (st .ends);
   }
 
 -- ---- canonical bytes are the picture of the schema that they show
 
--- n rows that start at `at`, each written back as it stands, with zeros behind them
-part-table : {A : Type 0} (w : ℕ) (read : List ℕ → A) (row : A → List ℕ) (wide : (a : A) → length (row a) ≡ w) (n m : ℕ) (b : List ℕ) (at : ℕ)
-    → m ≤ n → m * w ≤ n * w → (n - m) * w ≡ n * w - m * w → at + n * w ≤ length b
-    → ((k : ℕ) → k < m → k * w + w ≤ m * w)
-    → ((k : ℕ) → k < m → row (read (part b (at + k * w) w)) ≡ part b (at + k * w) w)
-    → part b (at + m * w) ((n - m) * w) ≡ replicate ((n - m) * w) 0
-    → table w row n (rows w read m (drop at b)) ≡ part b at (n * w)
-part-table w read row wide n m b at h k q long inside f z =
-    let l = part b at (n * w) in
-    let ll : length l ≡ n * w = length-take (n * w) (drop at b) ∙ omega (arith, length-drop at b) in
-    let split : drop at b ≡ l ++ drop (n * w) (drop at b) = sym (take-append-drop (n * w) (drop at b)) in
-    let same : rows w read m (drop at b) ≡ rows w read m l = ap (rows w read m) split ∙ rows-append w read m l (drop (n * w) (drop at b)) (omega arith) in
-    let inner : (j v : ℕ) → j + v ≤ n * w → part l j v ≡ part b (at + j) v = part-part b at (n * w) in
-    ap (table w row n) same
-    ∙ table-rows w read row wide n m l h ll
-    (λ j u. rw (inner (j * w) w (let i = inside j u in omega arith)) (f j u))
-    (tail-zeros l (m * w) ((n - m) * w) (omega arith) (inner (m * w) ((n - m) * w) (omega arith) ∙ z))
+-- the bytes of a table
+abbrev whole-of : {A : Type 0} → Table A → List ℕ → List ℕ
+whole-of t b = part b (t .start) (t .room * t .width)
+
+-- n rows, each written back as it stands, with zeros behind them
+written-whole : {A : Type 0} {t : Table A} {of : Schema → List A} → Placed t of → (b : List ℕ) (n : ℕ) → n ≤ t .room → end t ≤ length b
+    → Written t n b → Blank-from t n b → bytes-of t (first-things t n b) ≡ whole-of t b
+written-whole {t = t} p b n few long f z =
+    let w = t .width in
+    let size = t .room * w in
+    let l = whole-of t b in
+    let le = mul-le-mul-right w few in
+    let ll : length l ≡ size = length-take size (drop (t .start) b) ∙ omega (arith, length-drop (t .start) b) in
+    let split : drop (t .start) b ≡ l ++ drop size (drop (t .start) b) = sym (take-append-drop size (drop (t .start) b)) in
+    let same : first-things t n b ≡ rows w (t .read) n l
+    = ap (rows w (t .read) n) split ∙ rows-append w (t .read) n l (drop size (drop (t .start) b)) (omega arith) in
+    let inner : (j v : ℕ) → j + v ≤ size → part l j v ≡ part b (t .start + j) v = part-part b (t .start) size in
+    ap (bytes-of t) same
+    ∙ table-rows w (t .read) (t .row) (p .wide) (t .room) n l few ll
+    (λ j u. rw (inner (j * w) w (omega (arith, row-fits w u))) (f j u))
+    (tail-zeros l (n * w) ((t .room - n) * w) (omega (arith, split-rows w few)) (inner (n * w) ((t .room - n) * w) (omega (arith, split-rows w few)) ∙ z))
   where
     tail-zeros : (l : List ℕ) (j v : ℕ) → length l ≡ j + v → part l j v ≡ replicate v 0 → drop j l ≡ replicate v 0
     tail-zeros l j v e p = sym (take-all v (drop j l) (omega (arith, length-drop j l))) ∙ p
 
+pub rows-few : {A : Type 0} (t : Table A) (b : List ℕ) → used-rows t b ≤ t .room
+rows-few t b = filled-most (t .width) (t .room) (drop (t .start) b)
+
 -- three bytes are an application
-application-any : (r : List ℕ) → length r ≡ 3 → application-row (read-application r) ≡ r
+application-any : (r : List ℕ) → length r ≡ application-width → application-row (read-application r) ≡ r
 unfolding application-row read-application
 application-any [] e = absurd (omega arith)
 application-any (x ∷ []) e = absurd (omega arith)
@@ -215,52 +178,48 @@ application-any (x ∷ y ∷ []) e = absurd (omega arith)
 application-any (x ∷ y ∷ z ∷ []) e = refl
 application-any (x ∷ y ∷ z ∷ w ∷ r) e = absurd (omega arith)
 
--- a part, and what stands behind it
-next-part : (b : List ℕ) (at n e : ℕ) (r : List ℕ) → at + n ≡ e → r ≡ drop e b → part b at n ++ r ≡ drop at b
-next-part b at n e r q h =
-    ap (λ (x : List ℕ). part b at n ++ x) (h ∙ ap (λ (k : ℕ). drop k b) (sym q) ∙ sym (drop-drop n at b)) ∙ take-append-drop n (drop at b)
+pub applications-written : (b : List ℕ) → length b ≡ base-length → Written applications (used-rows applications b) b
+applications-written b long k h =
+    let at = applications .start + k * applications .width in
+    application-any (row-of applications b k)
+    (length-take (applications .width) (drop at b) ∙ omega (arith, length-drop at b, rows-few applications b))
 
-parts : (b : List ℕ) → length b ≡ 13312 → part b 0 256 ++ (part b 256 1024 ++ (part b 1280 9216 ++ (part b 10496 768 ++ part b 11264 2048))) ≡ b
+-- a part, and what stands behind it
+next-part : {A B : Type 0} (t : Table A) (u : Table B) (b r : List ℕ) → end t ≡ u .start → r ≡ drop (u .start) b → whole-of t b ++ r ≡ drop (t .start) b
+next-part t u b r q h =
+    let n = t .room * t .width in
+    ap (λ (x : List ℕ). whole-of t b ++ x) (h ∙ ap (λ (k : ℕ). drop k b) (sym q) ∙ sym (drop-drop n (t .start) b)) ∙ take-append-drop n (drop (t .start) b)
+
+parts : (b : List ℕ) → length b ≡ base-length
+    → whole-of sdss b ++ (whole-of types b ++ (whole-of presences b ++ (whole-of applications b ++ whole-of ends b))) ≡ b
 parts b e =
-    next-part b 0 256 256 _ refl
-    (next-part b 256 1024 1280 _ refl
-    (next-part b 1280 9216 10496 _ refl
-    (next-part b 10496 768 11264 _ refl
-    (take-all 2048 (drop 11264 b) (omega (arith, length-drop 11264 b))))))
+    next-part sdss types b _ refl
+    (next-part types presences b _ refl
+    (next-part presences applications b _ refl
+    (next-part applications ends b _ refl
+    (take-all (ends .room * ends .width) (drop (ends .start) b) (omega (arith, length-drop (ends .start) b))))))
 
 pub canonical-picture : (b : List ℕ) → Canonical b → picture (schema-of b) ≡ b
 unfolding picture schema-of
 canonical-picture b c =
-    let long : length b ≡ 13312 = c .long in
-    let np = filled-most 18 1 512 (drop 1280 b) in
-    let na = filled-most 3 0 256 (drop 10496 b) in
-    let ne = filled-most 4 0 512 (drop 11264 b) in
-    let sdss : table 16 sds-row 16 (rows 16 strip 16 b) ≡ part b 0 256
-    = part-table 16 strip sds-row wide-sds 16 16 b 0 (omega arith) (omega arith) refl (omega arith) (λ k h. omega arith)
-    (λ k h. subst (λ (n : ℕ). sds-row (strip (part b n 16)) ≡ part b n 16) (sym (zero-add (k * 16))) (c .sds-fields k h)) refl in
-    let types : table 8 type-row 128 (rows 8 read-kind 128 (drop 256 b)) ≡ part b 256 1024
-    = part-table 8 read-kind type-row wide-type 128 128 b 256 (omega arith) (omega arith) refl (omega arith) (λ k h. omega arith) (c .type-rows) refl in
-    let presences : table 18 presence-row 512 (rows 18 read-presence (presence-count b) (drop 1280 b)) ≡ part b 1280 9216
-    = part-table 18 read-presence presence-row wide-presence 512 (presence-count b) b 1280 np (omega arith) (omega arith) (omega arith) (λ k h. omega arith)
-    (c .presence-rows) (c .presence-rest) in
-    let applications : table 3 application-row 256 (rows 3 read-application (application-count b) (drop 10496 b)) ≡ part b 10496 768
-    = part-table 3 read-application application-row wide-application 256 (application-count b) b 10496 na (omega arith) (omega arith) (omega arith) (λ k h. omega arith)
-    (λ k h. application-any (part b (10496 + k * 3) 3) (length-take 3 (drop (10496 + k * 3) b) ∙ omega (arith, length-drop (10496 + k * 3) b))) (c .application-rest) in
-    let ends : table 4 end-row 512 (rows 4 read-end (end-count b) (drop 11264 b)) ≡ part b 11264 2048
-    = part-table 4 read-end end-row wide-end 512 (end-count b) b 11264 ne (omega arith) (omega arith) (omega arith) (λ k h. omega arith) (c .end-rows) (c .end-rest) in
-    rw (sdss, types, presences, applications, ends) (parts b long)
+    let long = c .long in
+    let a = written-whole sdss-placed b (sdss .room) (omega arith) (omega arith) (c .sds-fields) refl in
+    let t = written-whole types-placed b (types .room) (omega arith) (omega arith) (c .type-rows) refl in
+    let p = written-whole presences-placed b (used-rows presences b) (rows-few presences b) (omega arith) (c .presence-rows) (c .presence-rest) in
+    let x = written-whole applications-placed b (used-rows applications b) (rows-few applications b) (omega arith) (applications-written b long)
+    (c .application-rest) in
+    let e = written-whole ends-placed b (used-rows ends b) (rows-few ends b) (omega arith) (c .end-rows) (c .end-rest) in
+    (λ i. a i ++ (t i ++ (p i ++ (x i ++ e i)))) ∙ parts b long
 
 -- ---- a good schema can be stored
 
 pub good-storable : {s : Schema} → Good s → Storable s
 good-storable good = record {
-  sds-room = good .sds-room;
-  type-room = good .type-room;
-  sds-shown = sds-back good;
-  kind-shown = λ k i. kind-back (fitting good k i);
-  presences = record { room = good .presence-room; used = good .presence-named; rise = good .presences-rising };
-  applications = record { room = good .application-room; used = good .system-no-application; rise = good .applications-rising };
-  ends = record { room = good .end-room; used = good .system-no-end; rise = good .ends-rising };
+  by-sds = record { room = good .sds-room; back = sds-back good };
+  by-type = record { room = good .type-room; back = λ k i. kind-back (fitting good k i) };
+  presences = record { room = good .presence-room; used = presence-used good; fit = good .presence-named; rise = good .presences-rising };
+  applications = record { room = good .application-room; used = application-used good; fit = λ x i. tt; rise = good .applications-rising };
+  ends = record { room = good .end-room; used = end-used good; fit = λ e i. tt; rise = good .ends-rising };
 }
 
 pub way-back : {s : Schema} → Good s → schema-of (picture s) ≡ s

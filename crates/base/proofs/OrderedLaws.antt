@@ -1,83 +1,30 @@
--- Rows kept in their order: the order of their bytes, a row put in, a row taken out. One law for the three tables. Assumes nothing.
+-- Rows kept in their order: a row put in, a row taken out. One law for all tables whose rows rise. Assumes nothing.
 use Prim.Native.Nat.{ℕ, zero, suc, _+_, _*_, _≤_, _<_}
 use native.Mathlib.Nat.{mul-le-mul-right}
 use native.Mathlib.Omega.{arith}
 use mathlib.Core.Path.{_≡_, refl, sym, ap, _∙_, subst}
 use mathlib.Core.Logic.{⊎-elim}
-use mathlib.Core.List.{List, [], _∷_, _++_, append-nil, List·Memᴰ·cases-cons}
+use mathlib.Core.List.{List, [], _∷_, _++_, List·Memᴰ·cases-cons}
 use mathlib.Core.List.List·Memᴰ.{List·Memᴰ·head, List·Memᴰ·tail}
-use mathlib.Core.Bool.{Bool, true, false, not, _&&_, _||_, true≢false, and-false, or-false}
-use lib.Dec.{ltb, eqb}
-use lib.ListN.{length, getD, take, drop, length-append, length-take, length-drop}
-use lib.Seq.{drop-at}
-use borrow.Author.Tests.{ltb-true, ltb-false, eq-eqb, ne-eqb}
+use mathlib.Core.Bool.{Bool, true, false, true≢false}
+use lib.Dec.{ltb}
+use lib.ListN.{length, getD, take, drop, replicate, length-append, length-take, length-drop}
+use lib.Seq.{drop-at, drop-drop}
+use borrow.Author.Tests.{ltb-true, ltb-false}
 use Rattle.rules.specs.01-Lists.{_∈_, bytes-before, without, rising, put}
-use Rattle.rules.specs.04-Schema.{Presence, Application, End, presence-before, application-before, end-before}
-use Rattle.rules.specs.07-Picture.{pad, presence-row, application-row, end-row, table}
 use Rattle.rules.proofs.Bools.{and-both, and-of}
-use Rattle.rules.proofs.01-Lists.{place-in, before-irreflexive, before-transitive, before-connected, rising-at}
+use Rattle.rules.proofs.01-Lists.{place-in, before-irreflexive, before-transitive, before-connected, rising-at, at-rising}
 use Rattle.rules.proofs.Edits.{put-long, put-in, put-place, tail-rising, put-rising}
-use Rattle.rules.proofs.03-Names.{pad-before}
-use Rattle.rules.proofs.07-Picture.{length-pad, length-table, wide-presence, wide-application, wide-end}
-use Rattle.rows.specs.Rows.{part}
+use Rattle.rules.proofs.07-Picture.{zeros-long, length-table}
+use Rattle.rows.specs.Rows.{row-at, Rising}
 use Rattle.rows.specs.Table.{Rises, Put-in, closed}
+use Rattle.rows.proofs.Rows.{table-part}
 use Rattle.rows.proofs.Scan.{rising-far}
 use Rattle.rows.proofs.TableLaws.{row-fits, without-at, table-opened, table-closed}
-use Rattle.base.specs.Stored.{Named, Applied, Ended, Ordered, less-row}
-use Rattle.base.proofs.Back.{row-there}
-
--- ---- the bytes of two rows stand as the rows do
-
-last-byte : (x y : ℕ) → ltb x y || (eqb x y && false) ≡ ltb x y
-last-byte x y = rw (and-false (eqb x y)) (or-false (ltb x y))
-
--- a byte behind each of two fields
-append-before : (a b : List ℕ) (x y : ℕ) → length a ≡ length b
-    → bytes-before (a ++ (x ∷ [])) (b ++ (y ∷ [])) ≡ bytes-before a b || (not (bytes-before b a) && ltb x y)
-unfolding bytes-before
-append-before [] [] x y e = last-byte x y
-append-before [] (d ∷ b) x y e = absurd (omega arith)
-append-before (c ∷ a) [] x y e = absurd (omega arith)
-append-before (c ∷ a) (d ∷ b) x y e = go (ltb c d) refl (ltb d c) refl (append-before a b x y (omega arith))
-  where
-    go : (s : Bool) → ltb c d ≡ s → (t : Bool) → ltb d c ≡ t
-        → bytes-before (a ++ (x ∷ [])) (b ++ (y ∷ [])) ≡ bytes-before a b || (not (bytes-before b a) && ltb x y)
-        → (ltb c d || (eqb c d && bytes-before (a ++ (x ∷ [])) (b ++ (y ∷ []))))
-        ≡ (ltb c d || (eqb c d && bytes-before a b)) || (not (ltb d c || (eqb d c && bytes-before b a)) && ltb x y)
-    go true p t q ih = rw p
-    go false p true q ih = let u = ltb-true d c q in rw (p, q, ne-eqb c d (λ s. omega arith))
-    go false p false q ih =
-        let same : c ≡ d = omega (arith, ltb-false c d p, ltb-false d c q) in
-        rw (p, q, eq-eqb c d same, eq-eqb d c (sym same)) ih
-
-pub presence-rows : (p q : Presence) → Named p → Named q → bytes-before (presence-row p) (presence-row q) ≡ presence-before p q
-unfolding bytes-before presence-row presence-before
-presence-rows p q f g =
-    ap (λ (t : Bool). ltb (p .sds) (q .sds) || (eqb (p .sds) (q .sds) && t))
-    (append-before (pad 16 (p .name)) (pad 16 (q .name)) (p .type) (q .type) (length-pad 16 (p .name) ∙ sym (length-pad 16 (q .name)))
-    ∙ rw (pad-before (p .name) (q .name) f g, pad-before (q .name) (p .name) g f))
-
-pub application-rows : (x y : Application) → bytes-before (application-row x) (application-row y) ≡ application-before x y
-unfolding bytes-before application-row application-before
-application-rows x y = rw (last-byte (x .attribute) (y .attribute))
-
-pub end-rows : (x y : End) → bytes-before (end-row x) (end-row y) ≡ end-before x y
-unfolding bytes-before end-row end-before
-end-rows x y = rw (last-byte (x .object) (y .object))
-
--- all in which the three tables differ
-pub record Rows-of {A : Type 0} (w : ℕ) (row : A → List ℕ) (Used : A → Type 0) (before : A → A → Bool) : Type 0 where
-  pub wide : (a : A) → length (row a) ≡ w
-  pub order : (x y : A) → Used x → Used y → bytes-before (row x) (row y) ≡ before x y
-
-pub of-presences : Rows-of 18 presence-row Named presence-before
-of-presences = record { wide = wide-presence; order = presence-rows }
-
-pub of-applications : Rows-of 3 application-row Applied application-before
-of-applications = record { wide = wide-application; order = λ x y f g. application-rows x y }
-
-pub of-ends : Rows-of 4 end-row Ended end-before
-of-ends = record { wide = wide-end; order = λ x y f g. end-rows x y }
+use Rattle.base.specs.Tables.{Table, Sorted, at, end, row-of, shown, Used, first-things, bytes-of, Written}
+use Rattle.base.specs.Stored.{Ordered, less-row}
+use Rattle.base.proofs.Tables.{Sorts}
+use Rattle.base.proofs.Shown.{things-long, thing-at}
 
 -- ---- a list with one element more or less
 
@@ -110,109 +57,146 @@ module _ {A : Type 0} (before : A → A → Bool) where
 -- ---- rows of a table
 
 -- no row has the bytes of that of a
-abbrev pub Unlike : {A : Type 0} → (A → List ℕ) → A → List A → Type 0
-Unlike {A} row a rs = (x : A) → x ∈ rs → row x ≡ row a → ⊥
+abbrev pub Unlike : {A : Type 0} → Table A → A → List A → Type 0
+Unlike {A} t a rs = (x : A) → x ∈ rs → t .row x ≡ t .row a → ⊥
 
-module _ {A : Type 0} {w : ℕ} {row : A → List ℕ} {Used : A → Type 0} {before : A → A → Bool} (t : Rows-of w row Used before)
-    {n : ℕ} {rs : List A} (o : Ordered Used before n rs) where
+first-zero : (w : ℕ) → getD (replicate {A = ℕ} w 0) 0 0 ≡ 0
+first-zero zero = refl
+first-zero (suc w) = refl
+
+-- a thing that is not in SDS 0 has a row that is not all 0
+pub elsewhere-used : {A : Type 0} {t : Table A} {o : Sorted t} → Sorts o → (a : A) → (o .sds a ≡ 0 → ⊥) → Used t a
+elsewhere-used {t = t} l a other e = other (sym (l .first a) ∙ ap (λ (r : List ℕ). getD r 0 0) e ∙ first-zero (t .width))
+
+module _ {A : Type 0} {t : Table A} {o : Sorted t} (l : Sorts o) {rs : List A} (k : Ordered o rs) where
   -- a row more, unlike all others
-  pub ordered-put : (a : A) → Used a → length rs < n → Unlike row a rs → Ordered Used before n (put before a rs)
-  ordered-put a u h other = record {
-    room = omega (arith, put-long before a rs);
-    used = λ x i. ⊎-elim (λ e. subst Used (sym e) u) (λ m. o .used x m) (put-in before a rs i);
-    rise = put-rising before a rs (o .rise) (λ x i e. go x i e (before a x) refl);
+  pub ordered-put : (a : A) → Used t a → o .Fit a → length rs < t .room → Unlike t a rs → Ordered o (put (o .before) a rs)
+  ordered-put a u f h other = record {
+    room = omega (arith, put-long (o .before) a rs);
+    used = λ x i. ⊎-elim (λ e. subst (Used t) (sym e) u) (λ m. k .used x m) (put-in (o .before) a rs i);
+    fit = λ x i. ⊎-elim (λ e. subst (o .Fit) (sym e) f) (λ m. k .fit x m) (put-in (o .before) a rs i);
+    rise = put-rising (o .before) a rs (k .rise) (λ x i e. go x i e (o .before a x) refl);
   }
     where
-      go : (x : A) → x ∈ rs → before x a ≡ false → (s : Bool) → before a x ≡ s → before a x ≡ true
+      go : (x : A) → x ∈ rs → o .before x a ≡ false → (s : Bool) → o .before a x ≡ s → o .before a x ≡ true
       go x i e true q = q
       go x i e false q =
-          let v = o .used x i in
-          absurd (other x i (before-connected (row x) (row a) (t .order x a v u ∙ e) (t .order a x u v ∙ q)))
+          let g = k .fit x i in
+          absurd (other x i (before-connected (t .row x) (t .row a) (l .order x a g f ∙ e) (l .order a x f g ∙ q)))
 
   -- a row less
-  pub ordered-less : (k : ℕ) → Ordered Used before n (less-row k rs)
-  ordered-less k = record {
-    room = omega (arith, o .room, length-append (take k rs) (drop (suc k) rs), length-take k rs, length-drop (suc k) rs);
-    used = λ x i. o .used x (less-in k rs i);
-    rise = less-rising before k rs (o .rise) (λ x y z i j l p q.
-        let u = o .used x i in
-        let v = o .used z l in
-        sym (t .order x z u v)
-        ∙ before-transitive (row x) (row y) (row z) (t .order x y u (o .used y j) ∙ p) (t .order y z (o .used y j) v ∙ q));
+  pub ordered-less : (i : ℕ) → Ordered o (less-row i rs)
+  ordered-less i = record {
+    room = omega (arith, k .room, length-append (take i rs) (drop (suc i) rs), length-take i rs, length-drop (suc i) rs);
+    used = λ x m. k .used x (less-in i rs m);
+    fit = λ x m. k .fit x (less-in i rs m);
+    rise = less-rising (o .before) i rs (k .rise) (λ x y z a b c p q.
+        let f = k .fit x a in
+        let g = k .fit y b in
+        let h = k .fit z c in
+        sym (l .order x z f h) ∙ before-transitive (t .row x) (t .row y) (t .row z) (l .order x y f g ∙ p) (l .order y z g h ∙ q));
   }
 
-  used-at : (d : A) (i : ℕ) → i < length rs → Used (getD rs i d)
-  used-at d i h = o .used (getD rs i d) (place-in d rs i h)
+  fit-at : (d : A) (i : ℕ) → i < length rs → o .Fit (getD rs i d)
+  fit-at d i h = k .fit (getD rs i d) (place-in d rs i h)
 
-  -- they stand in b from `start` on
-  module _ {start : ℕ} {b : List ℕ} (pre post : List ℕ) (long : start ≡ length pre) (whole : b ≡ pre ++ (table w row n rs ++ post)) where
-    from-start : drop start b ≡ table w row n rs ++ post
-    from-start = ap (drop start) whole ∙ drop-at pre (table w row n rs ++ post) start (sym long)
+  -- they stand in b
+  module _ {b : List ℕ} (pre post : List ℕ) (long : t .start ≡ length pre) (whole : b ≡ pre ++ (bytes-of t rs ++ post)) where
+    row-is : (d : A) (i : ℕ) → i < length rs → row-of t b i ≡ t .row (getD rs i d)
+    row-is d i h =
+        let w = t .width in
+        ap (take w) (sym (drop-drop (i * w) (t .start) b)
+        ∙ ap (drop (i * w)) (ap (drop (t .start)) whole ∙ drop-at pre (bytes-of t rs ++ post) (t .start) (sym long)))
+        ∙ table-part w (t .read) (t .row) (l .wide) (t .room) rs post i d h (k .room)
 
-    row-is : (d : A) (i : ℕ) → i < length rs → part b (start + i * w) w ≡ row (getD rs i d)
-    row-is d i h = row-there w row (t .wide) n rs b post start d from-start (o .room) i h
-
-    table-fits : start + n * w ≤ length b
+    table-fits : end t ≤ length b
     table-fits =
         omega (
           arith,
           ap length whole,
-          length-append pre (table w row n rs ++ post),
-          length-append (table w row n rs) post,
-          length-table w row (t .wide) n rs,
+          length-append pre (bytes-of t rs ++ post),
+          length-append (bytes-of t rs) post,
+          length-table (t .width) (t .row) (l .wide) (t .room) rs,
         )
 
-    rises : (d : A) → Rises b start w (length rs)
+    rises : (d : A) → Rises b (t .start) (t .width) (length rs)
     rises d = record {
-      room = omega (arith, table-fits, mul-le-mul-right w (o .room));
-      rise = rising-far b start w w (length rs) (λ i h.
+      room = omega (arith, table-fits, mul-le-mul-right (t .width) (k .room));
+      rise = rising-far b (t .start) (t .width) (t .width) (length rs) (λ i h.
           rw (row-is d i (omega arith), row-is d (suc i) h)
-          (t .order (getD rs i d) (getD rs (suc i) d) (used-at d i (omega arith)) (used-at d (suc i) h) ∙ rising-at before d rs (o .rise) i h));
+          (l .order (getD rs i d) (getD rs (suc i) d) (fit-at d i (omega arith)) (fit-at d (suc i) h) ∙ rising-at (o .before) d rs (k .rise) i h));
     }
 
-    module _ (a : A) (less : length rs < n) {count : ℕ} {key : List ℕ} (many : count ≡ length rs) (is : key ≡ row a) where
+    module _ (a : A) (less : length rs < t .room) {count : ℕ} {key : List ℕ} (many : count ≡ length rs) (is : key ≡ t .row a) where
       -- the place of a row is found by halving, and there is room for it
-      pub put-ready : Rises b start (length key) count × (start + count * length key + length key ≤ length b)
-      put-ready = rw (is, many, t .wide a) (rises a, omega (arith, table-fits, row-fits w less))
+      pub put-ready : Rises b (t .start) (length key) count × (t .start + count * length key + length key ≤ length b)
+      put-ready = rw (is, many, l .wide a) (rises a, omega (arith, table-fits, row-fits (t .width) less))
 
       -- put in at its place among the bytes it is put in at its place in the list
-      pub put-opened : Used a → {b′ : List ℕ} → Put-in b start count key b′ → b′ ≡ pre ++ (table w row n (put before a rs) ++ post)
-      put-opened u {b′} x₀ =
-          let x : Put-in b start (length rs) (row a) b′ = rw (is, many) at x₀ in
-          let k = x .at in
+      pub put-opened : o .Fit a → {b′ : List ℕ} → Put-in b (t .start) count key b′ → b′ ≡ pre ++ (bytes-of t (put (o .before) a rs) ++ post)
+      put-opened f {b′} x₀ =
+          let x : Put-in b (t .start) (length rs) (t .row a) b′ = rw (is, many) at x₀ in
+          let i = x .at in
           let p = x .place in
-          let there : (i : ℕ) → i < length rs → before (getD rs i a) a ≡ bytes-before (part b (start + i * length (row a)) (length (row a))) (row a)
-          = λ i l. rw (t .wide a, row-is a i l) (sym (t .order (getD rs i a) a (used-at a i l) u)) in
-          let here : put before a rs ≡ take k rs ++ a ∷ drop k rs
-          = put-place before a a rs k (p .most) (λ i l. there i (omega (arith, p .most)) ∙ p .earlier i l) (λ m. there k m ∙ p .later k (omega arith) m) in
-          x .is ∙ rw (t .wide a, whole, long, here) (table-opened w row (t .wide) n rs pre post k a (p .most) less)
+          let there : (j : ℕ) → j < length rs → o .before (getD rs j a) a ≡ bytes-before (row-at b (t .start) (length (t .row a)) j) (t .row a)
+          = λ j m. rw (l .wide a, row-is a j m) (sym (l .order (getD rs j a) a (fit-at a j m) f)) in
+          let here : put (o .before) a rs ≡ take i rs ++ a ∷ drop i rs
+          = put-place (o .before) a a rs i (p .most) (λ j m. there j (omega (arith, p .most)) ∙ p .earlier j m) (λ m. there i m ∙ p .later i (omega arith) m) in
+          x .is ∙ rw (l .wide a, whole, long, here) (table-opened (t .width) (t .row) (l .wide) (t .room) rs pre post i a (p .most) less)
 
-    pub take-closed : {count : ℕ} → count ≡ length rs → (k : ℕ) → k < count
-        → closed b (start + k * w) (start + count * w) w ≡ pre ++ (table w row n (less-row k rs) ++ post)
-    take-closed many k h = rw (whole, long, many) (table-closed w row (t .wide) n rs pre post k (omega arith) (o .room))
+    pub take-closed : {count : ℕ} → count ≡ length rs → (i : ℕ) → i < count
+        → closed b (at t i) (at t count) (t .width) ≡ pre ++ (bytes-of t (less-row i rs) ++ post)
+    take-closed many i h = rw (whole, long, many) (table-closed (t .width) (t .row) (l .wide) (t .room) rs pre post i (omega arith) (k .room))
 
   -- no element stands twice
   once : (d : A) (i j : ℕ) → i < length rs → j < length rs → getD rs i d ≡ getD rs j d → i ≡ j
-  once d i j h k e = go (ltb i j) refl (ltb j i) refl
+  once d i j h m e = go (ltb i j) refl (ltb j i) refl
     where
-      whole : table w row n rs ≡ [] ++ (table w row n rs ++ [])
-      whole = sym (append-nil (table w row n rs))
+      pre : List ℕ
+      pre = replicate (t .start) 0
+
+      long : t .start ≡ length pre
+      long = sym (zeros-long (t .start))
+
+      whole : pre ++ (bytes-of t rs ++ []) ≡ pre ++ (bytes-of t rs ++ [])
+      whole = refl
 
       never : (i j : ℕ) → j < length rs → i < j → getD rs i d ≡ getD rs j d → ⊥
-      never i j k l e =
-          true≢false (sym (rises [] [] refl whole d .rise i j l k)
-          ∙ rw (row-is [] [] refl whole d i (omega arith), row-is [] [] refl whole d j k, e) (before-irreflexive (row (getD rs j d))))
+      never i j m q e =
+          true≢false (sym (rises pre [] long whole d .rise i j q m)
+          ∙ rw (row-is pre [] long whole d i (omega arith), row-is pre [] long whole d j m, e) (before-irreflexive (t .row (getD rs j d))))
 
       go : (x : Bool) → ltb i j ≡ x → (y : Bool) → ltb j i ≡ y → i ≡ j
-      go true p y q = absurd (never i j k (ltb-true i j p) e)
+      go true p y q = absurd (never i j m (ltb-true i j p) e)
       go false p true q = absurd (never j i h (ltb-true j i q) (sym e))
       go false p false q = omega (arith, ltb-false i j p, ltb-false j i q)
 
   -- taking out row i is taking out what passes a test, where row i does and whatever does is like it
   pub without-row : (d : A) (q : A → Bool) (i : ℕ) → i < length rs → q (getD rs i d) ≡ true → ((y : A) → y ∈ rs → q y ≡ true → y ≡ getD rs i d)
       → without q rs ≡ less-row i rs
-  without-row d q i h e alone = without-at q d rs i h e (λ j l ne. go j l ne (q (getD rs j d)) refl)
+  without-row d q i h e alone = without-at q d rs i h e (λ j m ne. go j m ne (q (getD rs j d)) refl)
     where
       go : (j : ℕ) → j < length rs → (j ≡ i → ⊥) → (x : Bool) → q (getD rs j d) ≡ x → q (getD rs j d) ≡ false
-      go j l ne true p = absurd (ne (once d j i l h (alone (getD rs j d) (place-in d rs j l) p)))
-      go j l ne false p = p
+      go j m ne true p = absurd (ne (once d j i m h (alone (getD rs j d) (place-in d rs j m) p)))
+      go j m ne false p = p
+
+-- ---- the order of n rows, each as it would be written, is that of what they show
+
+module _ {A : Type 0} {t : Table A} {o : Sorted t} (l : Sorts o) (b : List ℕ) (n : ℕ) (w : Written t n b)
+    (fit : (i : ℕ) → i < n → o .Fit (shown t b i)) where
+  rows-order : (i j : ℕ) → i < n → j < n → bytes-before (row-of t b i) (row-of t b j) ≡ o .before (shown t b i) (shown t b j)
+  rows-order i j h k = (λ x. bytes-before (sym (w i h) x) (sym (w j k) x)) ∙ l .order (shown t b i) (shown t b j) (fit i h) (fit j k)
+
+  things-order : (i : ℕ) → suc i < n → o .before (getD (first-things t n b) i (t .read [])) (getD (first-things t n b) (suc i) (t .read []))
+      ≡ bytes-before (row-of t b i) (row-of t b (suc i))
+  things-order i k =
+      (λ x. o .before (thing-at t b n i (t .read []) (omega arith) x) (thing-at t b n (suc i) (t .read []) k x)) ∙ sym (rows-order i (suc i) (omega arith) k)
+
+  pub rise-things : Rising b (t .start) (t .width) (t .width) n → rising (o .before) (first-things t n b) ≡ true
+  rise-things r =
+      at-rising (o .before) (t .read []) (first-things t n b)
+      (λ i h. let k : suc i < n = omega (arith, things-long t b n) in things-order i k ∙ r i k)
+
+  pub things-rise : rising (o .before) (first-things t n b) ≡ true → Rising b (t .start) (t .width) (t .width) n
+  things-rise r i k =
+      sym (things-order i k) ∙ rising-at (o .before) (t .read []) (first-things t n b) r i (omega (arith, things-long t b n))

@@ -2,189 +2,190 @@
 use Prim.Native.Nat.{ℕ, _+_, _*_, _≤_, _<_}
 use native.Mathlib.Nat.{add-zero}
 use native.Mathlib.Omega.{arith}
-use mathlib.Core.Path.{_≡_, sym, ap, _∙_}
+use mathlib.Core.Path.{_≡_, ap, _∙_, subst}
 use mathlib.Core.List.{List, []}
 use lib.ListN.{length, getD, take, drop, List·getD-eq-default}
-use lib.Seq.{drop-drop, getD-drop}
+use lib.Seq.{drop-drop}
 use borrow.Author.Tests.{ne-eqb}
 use Rattle.rules.specs.01-Lists.{_∈_}
-use Rattle.rules.specs.04-Schema.{Presence, Application, End, sds-name, kind-of, system-presence}
+use Rattle.rules.specs.02-Limits.{limits}
+use Rattle.rules.specs.04-Schema.{Presence, Application, End, sds-name, kind-of}
 use Rattle.rules.specs.04-Schema.Kind.{unused, object, attribute, designation, paired}
-use Rattle.rules.proofs.01-Lists.{place-in}
-use Rattle.rules.specs.Read.{strip, read-kind, read-presence, read-application, read-end}
-use Rattle.rows.specs.Rows.{part, rows, filled}
-use Rattle.rows.proofs.Rows.{part-byte, part-part, length-rows, rows-at, rows-in, filled-used}
-use Rattle.base.specs.Rows.{type-at, presence-at, application-at, end-at}
+use Rattle.rules.specs.Read.{value-offset, reverse-offset, count-offset, parents-offset, name-offset, type-offset, to-offset, attribute-offset, link-offset}
+use Rattle.rules.specs.Read.{side-offset, object-offset, strip, read-kind, read-presence, read-application, read-side, read-end}
+use Rattle.rows.specs.Rows.{part}
+use Rattle.rows.proofs.Rows.{part-byte, part-part, length-rows, rows-at, rows-there, rows-in}
+use Rattle.base.specs.Tables.{Table, at, row-of, shown, used-rows, first-things, things, sdss, types, presences, applications, ends}
+use Rattle.base.specs.Rows.{type-at, presence-at}
 use Rattle.base.specs.Back.{presence-count, application-count, end-count, schema-of, sds-shown, kind-shown}
-use Rattle.base.specs.Back.{presence-shown}
-use Rattle.base.specs.Back.{application-shown, end-shown}
-use Rattle.base.proofs.Back.{no-application, no-end}
+use Rattle.base.specs.Back.{presence-shown, application-shown, end-shown}
+
+-- ---- any table
+
+module _ {A : Type 0} (t : Table A) (b : List ℕ) where
+  -- a row that is counted from where its table starts
+  from-start : (i : ℕ) → part (drop (t .start) b) (i * t .width) (t .width) ≡ row-of t b i
+  from-start i = ap (take (t .width)) (drop-drop (i * t .width) (t .start) b)
+
+  -- a byte of a row
+  row-byte : (i f : ℕ) → f < t .width → getD (row-of t b i) f 0 ≡ getD b (at t i + f) 0
+  row-byte i f h = part-byte b (at t i) (t .width) f h
+
+  row-first : (i : ℕ) → 0 < t .width → getD (row-of t b i) 0 0 ≡ getD b (at t i) 0
+  row-first i h = row-byte i 0 h ∙ ap (λ (n : ℕ). getD b n 0) (add-zero (at t i))
+
+  pub things-long : (n : ℕ) → length (first-things t n b) ≡ n
+  things-long n = length-rows (t .width) (t .read) n (drop (t .start) b)
+
+  pub thing-at : (n i : ℕ) (d : A) → i < n → getD (first-things t n b) i d ≡ shown t b i
+  thing-at n i d h = rows-at (t .width) (t .read) n (drop (t .start) b) i d h ∙ ap (t .read) (from-start i)
+
+  -- what a row shows, said in some other way
+  module _ (show : ℕ → A) (same : (i : ℕ) → shown t b i ≡ show i) where
+    thing-is : (i : ℕ) (d : A) → i < used-rows t b → getD (things t b) i d ≡ show i
+    thing-is i d h = thing-at (used-rows t b) i d h ∙ same i
+
+    thing-there : (i : ℕ) → i < used-rows t b → show i ∈ things t b
+    thing-there i h =
+        subst (λ (x : A). x ∈ things t b) (ap (t .read) (from-start i) ∙ same i)
+        (rows-there (t .width) (t .read) (used-rows t b) (drop (t .start) b) i h)
+
+    thing-in : (x : A) → x ∈ things t b → (i : ℕ) × (i < used-rows t b) × (x ≡ show i)
+    thing-in x m =
+        let (i, h, e) = rows-in (t .width) (t .read) (used-rows t b) (drop (t .start) b) x m in
+        (i, h, e ∙ ap (t .read) (from-start i) ∙ same i)
 
 module _ (b : List ℕ) where
-  -- a row that is counted from where its table starts
-  from-start : (at k w : ℕ) → part (drop at b) k w ≡ part b (at + k) w
-  from-start at k w = ap (take w) (drop-drop k at b)
-
   -- ---- SDSs and types, by number
 
-  pub sdss-long : length ((schema-of b) .sdss) ≡ 16
+  pub sdss-long : length ((schema-of b) .sdss) ≡ limits .sdss
   unfolding schema-of
-  sdss-long = length-rows 16 strip 16 b
+  sdss-long = things-long sdss b (sdss .room)
 
-  pub types-long : length ((schema-of b) .types) ≡ 128
+  pub types-long : length ((schema-of b) .types) ≡ limits .types
   unfolding schema-of
-  types-long = length-rows 8 read-kind 128 (drop 256 b)
+  types-long = things-long types b (types .room)
 
-  pub sds-is : (d : ℕ) → d < 16 → sds-name (schema-of b) d ≡ sds-shown b d
+  pub sds-is : (d : ℕ) → d < limits .sdss → sds-name (schema-of b) d ≡ sds-shown b d
   unfolding schema-of
-  sds-is d h = rows-at 16 strip 16 b d [] h
+  sds-is d h = thing-at sdss b (sdss .room) d [] h
 
-  pub sds-none : (d : ℕ) → 16 ≤ d → sds-name (schema-of b) d ≡ []
-  unfolding schema-of
-  sds-none d h = List·getD-eq-default (rows 16 strip 16 b) [] {n = d} (omega (arith, length-rows 16 strip 16 b))
+  pub sds-none : (d : ℕ) → limits .sdss ≤ d → sds-name (schema-of b) d ≡ []
+  sds-none d h = List·getD-eq-default ((schema-of b) .sdss) [] {n = d} (omega (arith, sdss-long))
 
-  pub kind-is : (t : ℕ) → t < 128 → kind-of (schema-of b) t ≡ kind-shown b t
+  pub kind-is : (t : ℕ) → t < limits .types → kind-of (schema-of b) t ≡ kind-shown b t
   unfolding schema-of
-  kind-is t h = rows-at 8 read-kind 128 (drop 256 b) t unused h ∙ ap read-kind (from-start 256 (t * 8) 8)
+  kind-is t h = thing-at types b (types .room) t unused h
 
-  pub kind-none : (t : ℕ) → 128 ≤ t → kind-of (schema-of b) t ≡ unused
-  unfolding schema-of
-  kind-none t h = List·getD-eq-default (rows 8 read-kind 128 (drop 256 b)) unused {n = t} (omega (arith, length-rows 8 read-kind 128 (drop 256 b)))
+  pub kind-none : (t : ℕ) → limits .types ≤ t → kind-of (schema-of b) t ≡ unused
+  kind-none t h = List·getD-eq-default ((schema-of b) .types) unused {n = t} (omega (arith, types-long))
 
   -- ---- the kind that bytes show
 
   module _ (t : ℕ) where
-    type-byte : (f : ℕ) → f < 8 → getD (part b (type-at t) 8) f 0 ≡ getD b (type-at t + f) 0
-    type-byte f h = part-byte b (type-at t) 8 f h
+    -- the bytes of its row
+    byte : (f : ℕ) → f < types .width → getD (row-of types b t) f 0 ≡ getD b (type-at t + f) 0
+    byte = row-byte types b t
 
-    first-byte : getD (part b (type-at t) 8) 0 0 ≡ getD b (type-at t) 0
-    first-byte = type-byte 0 (omega arith) ∙ ap (λ (n : ℕ). getD b n 0) (omega arith)
+    first-byte : getD (row-of types b t) 0 0 ≡ getD b (type-at t) 0
+    first-byte = row-first types b t (omega arith)
 
-    pub shows-object : getD b (type-at t) 0 ≡ 1 → getD b (type-at t + 3) 0 ≤ 4 → kind-shown b t ≡ object (part b (type-at t + 4) (getD b (type-at t + 3) 0))
+    pub shows-object : getD b (type-at t) 0 ≡ 1 → getD b (type-at t + count-offset) 0 ≤ 4
+        → kind-shown b t ≡ object (part b (type-at t + parents-offset) (getD b (type-at t + count-offset) 0))
     unfolding read-kind
     shows-object e h =
-        rw (first-byte, e, type-byte 3 (omega arith))
-        (ap object (part-part b (type-at t) 8 4 (getD b (type-at t + 3) 0) (omega arith)))
+        rw (first-byte, e, byte count-offset (omega arith))
+        (ap object (part-part b (type-at t) (types .width) parents-offset (getD b (type-at t + count-offset) 0) (omega arith)))
 
-    pub shows-attribute : getD b (type-at t) 0 ≡ 2 → kind-shown b t ≡ attribute (getD b (type-at t + 1) 0)
+    pub shows-attribute : getD b (type-at t) 0 ≡ 2 → kind-shown b t ≡ attribute (getD b (type-at t + value-offset) 0)
     unfolding read-kind
-    shows-attribute e = rw (first-byte, e, type-byte 1 (omega arith))
+    shows-attribute e = rw (first-byte, e, byte value-offset (omega arith))
 
-    pub shows-designation : getD b (type-at t) 0 ≡ 3 → getD b (type-at t + 1) 0 ≡ 4 → kind-shown b t ≡ designation
+    pub shows-designation : getD b (type-at t) 0 ≡ 3 → getD b (type-at t + value-offset) 0 ≡ 4 → kind-shown b t ≡ designation
     unfolding read-kind
-    shows-designation e f = rw (first-byte, e, type-byte 1 (omega arith), f)
+    shows-designation e f = rw (first-byte, e, byte value-offset (omega arith), f)
 
-    pub shows-paired : getD b (type-at t) 0 ≡ 3 → (getD b (type-at t + 1) 0 ≡ 4 → ⊥) → kind-shown b t ≡ paired (getD b (type-at t + 1) 0) (getD b (type-at t + 2) 0)
+    pub shows-paired : getD b (type-at t) 0 ≡ 3 → (getD b (type-at t + value-offset) 0 ≡ 4 → ⊥)
+        → kind-shown b t ≡ paired (getD b (type-at t + value-offset) 0) (getD b (type-at t + reverse-offset) 0)
     unfolding read-kind
-    shows-paired e f = rw (first-byte, e, type-byte 1 (omega arith), type-byte 2 (omega arith), ne-eqb (getD b (type-at t + 1) 0) 4 f)
+    shows-paired e f =
+        rw (first-byte, e, byte value-offset (omega arith), byte reverse-offset (omega arith), ne-eqb (getD b (type-at t + value-offset) 0) 4 f)
 
     pub shows-unused : (getD b (type-at t) 0 ≡ 1 → ⊥) → (getD b (type-at t) 0 ≡ 2 → ⊥) → (getD b (type-at t) 0 ≡ 3 → ⊥) → kind-shown b t ≡ unused
     unfolding read-kind
     shows-unused e f g = rw (first-byte, ne-eqb (getD b (type-at t) 0) 1 e, ne-eqb (getD b (type-at t) 0) 2 f, ne-eqb (getD b (type-at t) 0) 3 g)
 
-  -- ---- presences, applications and ends, row by row
+  -- ---- presences, applications and ends, row by row: which bytes are which field, and then as any table
+
+  pub presence-read : (i : ℕ) → shown presences b i ≡ presence-shown b i
+  unfolding read-presence
+  presence-read i = λ j. record {
+    sds = row-first presences b i (omega arith) j;
+    name = strip (part-part b (presence-at i) (presences .width) name-offset (limits .name) (omega arith) j);
+    type = row-byte presences b i type-offset (omega arith) j;
+  }
+
+  pub application-read : (i : ℕ) → shown applications b i ≡ application-shown b i
+  unfolding read-application
+  application-read i = λ j. record {
+    sds = row-first applications b i (omega arith) j;
+    to = row-byte applications b i to-offset (omega arith) j;
+    attribute = row-byte applications b i attribute-offset (omega arith) j;
+  }
+
+  pub end-read : (i : ℕ) → shown ends b i ≡ end-shown b i
+  unfolding read-end
+  end-read i = λ j. record {
+    sds = row-first ends b i (omega arith) j;
+    link = row-byte ends b i link-offset (omega arith) j;
+    side = read-side (row-byte ends b i side-offset (omega arith) j);
+    object = row-byte ends b i object-offset (omega arith) j;
+  }
 
   pub presences-long : length ((schema-of b) .presences) ≡ presence-count b
   unfolding schema-of
-  presences-long = length-rows 18 read-presence (presence-count b) (drop 1280 b)
-
-  read-presence-at : (i : ℕ) → read-presence (part (drop 1280 b) (i * 18) 18) ≡ presence-shown b i
-  unfolding read-presence
-  read-presence-at i =
-      let r = part b (presence-at i) 18 in
-      let same : part (drop 1280 b) (i * 18) 18 ≡ r = from-start 1280 (i * 18) 18 in
-      let sds : getD r 0 0 ≡ getD b (presence-at i) 0 = part-byte b (presence-at i) 18 0 (omega arith) ∙ ap (λ (n : ℕ). getD b n 0) (omega arith) in
-      let name : take 16 (drop 1 r) ≡ part b (presence-at i + 1) 16 = part-part b (presence-at i) 18 1 16 (omega arith) in
-      let type : getD r 17 0 ≡ getD b (presence-at i + 17) 0 = part-byte b (presence-at i) 18 17 (omega arith) in
-      ap read-presence same ∙ (λ j. record { sds = sds j; name = strip (name j); type = type j })
-
-  pub presence-read : (i : ℕ) → read-presence (part b (presence-at i) 18) ≡ presence-shown b i
-  presence-read i = sym (ap read-presence (from-start 1280 (i * 18) 18)) ∙ read-presence-at i
+  presences-long = things-long presences b (presence-count b)
 
   pub presence-is : (i : ℕ) (d : Presence) → i < presence-count b → getD ((schema-of b) .presences) i d ≡ presence-shown b i
   unfolding schema-of
-  presence-is i d h = rows-at 18 read-presence (presence-count b) (drop 1280 b) i d h ∙ read-presence-at i
+  presence-is = thing-is presences b (presence-shown b) presence-read
 
   pub presence-there : (i : ℕ) → i < presence-count b → presence-shown b i ∈ (schema-of b) .presences
-  presence-there i h = rw (← presence-is i system-presence h) (place-in system-presence ((schema-of b) .presences) i (omega (arith, presences-long)))
+  unfolding schema-of
+  presence-there = thing-there presences b (presence-shown b) presence-read
 
   pub presence-in : (p : Presence) → p ∈ (schema-of b) .presences → (i : ℕ) × (i < presence-count b) × (p ≡ presence-shown b i)
   unfolding schema-of
-  presence-in p m =
-      let (i, h, e) = rows-in 18 read-presence (presence-count b) (drop 1280 b) system-presence p m in
-      (i, h, e ∙ read-presence-at i)
+  presence-in = thing-in presences b (presence-shown b) presence-read
 
   pub applications-long : length ((schema-of b) .applications) ≡ application-count b
   unfolding schema-of
-  applications-long = length-rows 3 read-application (application-count b) (drop 10496 b)
-
-  read-application-at : (i : ℕ) → read-application (part (drop 10496 b) (i * 3) 3) ≡ application-shown b i
-  unfolding read-application
-  read-application-at i =
-      let r = part b (application-at i) 3 in
-      let same : part (drop 10496 b) (i * 3) 3 ≡ r = from-start 10496 (i * 3) 3 in
-      let sds : getD r 0 0 ≡ getD b (application-at i) 0 = part-byte b (application-at i) 3 0 (omega arith) ∙ ap (λ (n : ℕ). getD b n 0) (omega arith) in
-      let to : getD r 1 0 ≡ getD b (application-at i + 1) 0 = part-byte b (application-at i) 3 1 (omega arith) in
-      let attribute : getD r 2 0 ≡ getD b (application-at i + 2) 0 = part-byte b (application-at i) 3 2 (omega arith) in
-      ap read-application same ∙ (λ j. record { sds = sds j; to = to j; attribute = attribute j })
+  applications-long = things-long applications b (application-count b)
 
   pub application-is : (i : ℕ) (d : Application) → i < application-count b → getD ((schema-of b) .applications) i d ≡ application-shown b i
   unfolding schema-of
-  application-is i d h = rows-at 3 read-application (application-count b) (drop 10496 b) i d h ∙ read-application-at i
+  application-is = thing-is applications b (application-shown b) application-read
 
   pub application-there : (i : ℕ) → i < application-count b → application-shown b i ∈ (schema-of b) .applications
-  application-there i h =
-      rw (← application-is i no-application h) (place-in no-application ((schema-of b) .applications) i (omega (arith, applications-long)))
+  unfolding schema-of
+  application-there = thing-there applications b (application-shown b) application-read
 
   pub application-in : (x : Application) → x ∈ (schema-of b) .applications → (i : ℕ) × (i < application-count b) × (x ≡ application-shown b i)
   unfolding schema-of
-  application-in x m =
-      let (i, h, e) = rows-in 3 read-application (application-count b) (drop 10496 b) no-application x m in
-      (i, h, e ∙ read-application-at i)
+  application-in = thing-in applications b (application-shown b) application-read
 
   pub ends-long : length ((schema-of b) .ends) ≡ end-count b
   unfolding schema-of
-  ends-long = length-rows 4 read-end (end-count b) (drop 11264 b)
-
-  read-end-at : (i : ℕ) → read-end (part (drop 11264 b) (i * 4) 4) ≡ end-shown b i
-  unfolding read-end
-  read-end-at i =
-      let r = part b (end-at i) 4 in
-      let same : part (drop 11264 b) (i * 4) 4 ≡ r = from-start 11264 (i * 4) 4 in
-      let sds : getD r 0 0 ≡ getD b (end-at i) 0 = part-byte b (end-at i) 4 0 (omega arith) ∙ ap (λ (n : ℕ). getD b n 0) (omega arith) in
-      let link : getD r 1 0 ≡ getD b (end-at i + 1) 0 = part-byte b (end-at i) 4 1 (omega arith) in
-      let side : getD r 2 0 ≡ getD b (end-at i + 2) 0 = part-byte b (end-at i) 4 2 (omega arith) in
-      let object : getD r 3 0 ≡ getD b (end-at i + 3) 0 = part-byte b (end-at i) 4 3 (omega arith) in
-      ap read-end same ∙ (λ j. record { sds = sds j; link = link j; side = Rattle.rules.specs.Read.read-side (side j); object = object j })
-
-  pub end-read : (i : ℕ) → read-end (part b (end-at i) 4) ≡ end-shown b i
-  end-read i = sym (ap read-end (from-start 11264 (i * 4) 4)) ∙ read-end-at i
+  ends-long = things-long ends b (end-count b)
 
   pub end-is : (i : ℕ) (d : End) → i < end-count b → getD ((schema-of b) .ends) i d ≡ end-shown b i
   unfolding schema-of
-  end-is i d h = rows-at 4 read-end (end-count b) (drop 11264 b) i d h ∙ read-end-at i
+  end-is = thing-is ends b (end-shown b) end-read
 
   pub end-there : (i : ℕ) → i < end-count b → end-shown b i ∈ (schema-of b) .ends
-  end-there i h = rw (← end-is i no-end h) (place-in no-end ((schema-of b) .ends) i (omega (arith, ends-long)))
+  unfolding schema-of
+  end-there = thing-there ends b (end-shown b) end-read
 
   pub end-in : (x : End) → x ∈ (schema-of b) .ends → (i : ℕ) × (i < end-count b) × (x ≡ end-shown b i)
   unfolding schema-of
-  end-in x m =
-      let (i, h, e) = rows-in 4 read-end (end-count b) (drop 11264 b) no-end x m in
-      (i, h, e ∙ read-end-at i)
-
-  -- ---- no application and no end is in SDS 0, since that byte is what tells a used row
-
-  used-row : (at w n i : ℕ) → i < filled w 0 n (drop at b) → getD b (at + i * w) 0 ≡ 0 → ⊥
-  used-row at w n i h e =
-      filled-used w 0 n (drop at b) i h (ap (λ (k : ℕ). getD (drop at b) k 0) (add-zero (i * w)) ∙ getD-drop at b (i * w) 0 ∙ e)
-
-  pub used-application : (x : Application) → x ∈ (schema-of b) .applications → x .sds ≡ 0 → ⊥
-  used-application x m z =
-      let (i, h, e) = application-in x m in
-      used-row 10496 3 256 i h (sym (ap (λ (y : Application). y .sds) e) ∙ z)
-
-  pub used-end : (x : End) → x ∈ (schema-of b) .ends → x .sds ≡ 0 → ⊥
-  used-end x m z =
-      let (i, h, e) = end-in x m in
-      used-row 11264 4 512 i h (sym (ap (λ (y : End). y .sds) e) ∙ z)
+  end-in = thing-in ends b (end-shown b) end-read

@@ -1,57 +1,71 @@
 -- The way back: the schema that the bytes of a base show, whatever they hold.
-use Prim.Native.Nat.{ℕ, _+_, _-_, _*_, _<_}
+use Prim.Native.Nat.{ℕ, _+_}
 use mathlib.Core.Path.{_≡_}
 use mathlib.Core.List.{List}
-use lib.ListN.{length, getD, drop, replicate}
+use lib.ListN.{length, getD}
+use Rattle.rules.specs.02-Limits.{limits}
 use Rattle.rules.specs.03-Names.{Name}
 use Rattle.rules.specs.04-Schema.{Schema, Kind, Presence, Application, End}
-use Rattle.rules.specs.07-Picture.{sds-row, type-row, presence-row, end-row, base-length}
-use Rattle.rules.specs.Read.{strip, read-kind, read-presence, read-application, read-side, read-end}
-use Rattle.rows.specs.Rows.{part, rows, filled}
-use Rattle.base.specs.Rows.{sds-at, type-at, presence-at, application-at, end-at}
+use Rattle.rules.specs.07-Picture.{base-length}
+use Rattle.rules.specs.Read.{name-offset, type-offset, to-offset, attribute-offset, link-offset, side-offset, object-offset, strip, read-side}
+use Rattle.rows.specs.Rows.{part}
+use Rattle.base.specs.Tables.{shown, used-rows, first-things, things, Written, Blank-from, sdss, types, presences, applications, ends}
+use Rattle.base.specs.Rows.{presence-at, application-at, end-at}
 
--- a used presence has a name; a used application or end has an SDS other than 0
 abbrev pub presence-count : List ℕ → ℕ
-presence-count b = filled 18 1 512 (drop 1280 b)
+presence-count b = used-rows presences b
 
 abbrev pub application-count : List ℕ → ℕ
-application-count b = filled 3 0 256 (drop 10496 b)
+application-count b = used-rows applications b
 
 abbrev pub end-count : List ℕ → ℕ
-end-count b = filled 4 0 512 (drop 11264 b)
+end-count b = used-rows ends b
 
 unfoldable pub schema-of : List ℕ → Schema
 schema-of b = record {
-  sdss = rows 16 strip 16 b;
-  types = rows 8 read-kind 128 (drop 256 b);
-  presences = rows 18 read-presence (presence-count b) (drop 1280 b);
-  applications = rows 3 read-application (application-count b) (drop 10496 b);
-  ends = rows 4 read-end (end-count b) (drop 11264 b);
+  sdss = first-things sdss (sdss .room) b;
+  types = first-things types (types .room) b;
+  presences = things presences b;
+  applications = things applications b;
+  ends = things ends b;
 }
 
--- what row i of each table shows
+-- what row i of each table shows, field by field
 abbrev pub sds-shown : List ℕ → ℕ → Name
-sds-shown b d = strip (part b (sds-at d) 16)
+sds-shown b d = shown sdss b d
 
 abbrev pub kind-shown : List ℕ → ℕ → Kind
-kind-shown b t = read-kind (part b (type-at t) 8)
+kind-shown b t = shown types b t
 
 abbrev pub presence-shown : List ℕ → ℕ → Presence
-presence-shown b i = record { sds = getD b (presence-at i) 0; name = strip (part b (presence-at i + 1) 16); type = getD b (presence-at i + 17) 0 }
+presence-shown b i = record {
+  sds = getD b (presence-at i) 0;
+  name = strip (part b (presence-at i + name-offset) (limits .name));
+  type = getD b (presence-at i + type-offset) 0;
+}
 
 abbrev pub application-shown : List ℕ → ℕ → Application
-application-shown b i = record { sds = getD b (application-at i) 0; to = getD b (application-at i + 1) 0; attribute = getD b (application-at i + 2) 0 }
+application-shown b i = record {
+  sds = getD b (application-at i) 0;
+  to = getD b (application-at i + to-offset) 0;
+  attribute = getD b (application-at i + attribute-offset) 0;
+}
 
 abbrev pub end-shown : List ℕ → ℕ → End
-end-shown b i = record { sds = getD b (end-at i) 0; link = getD b (end-at i + 1) 0; side = read-side (getD b (end-at i + 2) 0); object = getD b (end-at i + 3) 0 }
+end-shown b i = record {
+  sds = getD b (end-at i) 0;
+  link = getD b (end-at i + link-offset) 0;
+  side = read-side (getD b (end-at i + side-offset) 0);
+  object = getD b (end-at i + object-offset) 0;
+}
 
 -- each row is as it would be written, and unused room is zero: what makes bytes the picture of the schema that they show
 pub record Canonical (b : List ℕ) : Type 0 where
   pub long : length b ≡ base-length
-  pub sds-fields : (d : ℕ) → d < 16 → sds-row (strip (part b (sds-at d) 16)) ≡ part b (sds-at d) 16
-  pub type-rows : (t : ℕ) → t < 128 → type-row (read-kind (part b (type-at t) 8)) ≡ part b (type-at t) 8
-  pub presence-rows : (i : ℕ) → i < presence-count b → presence-row (read-presence (part b (presence-at i) 18)) ≡ part b (presence-at i) 18
-  pub end-rows : (i : ℕ) → i < end-count b → end-row (read-end (part b (end-at i) 4)) ≡ part b (end-at i) 4
-  pub presence-rest : part b (presence-at (presence-count b)) ((512 - presence-count b) * 18) ≡ replicate ((512 - presence-count b) * 18) 0
-  pub application-rest : part b (application-at (application-count b)) ((256 - application-count b) * 3) ≡ replicate ((256 - application-count b) * 3) 0
-  pub end-rest : part b (end-at (end-count b)) ((512 - end-count b) * 4) ≡ replicate ((512 - end-count b) * 4) 0
+  pub sds-fields : Written sdss (sdss .room) b
+  pub type-rows : Written types (types .room) b
+  pub presence-rows : Written presences (presence-count b) b
+  pub end-rows : Written ends (end-count b) b
+  pub presence-rest : Blank-from presences (presence-count b) b
+  pub application-rest : Blank-from applications (application-count b) b
+  pub end-rest : Blank-from ends (end-count b) b

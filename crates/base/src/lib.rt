@@ -1,5 +1,5 @@
-// The lent base: here alone stands where a row starts and how wide it is. Everything above reads fields by their number of SDS, type
-// or row.
+// The lent base: here alone stands where a row starts, how wide it is and which of its bytes holds what. Everything above reads
+// fields by their number of SDS, type or row.
 pub mod order;
 pub mod split;
 pub mod used;
@@ -8,7 +8,10 @@ use rules::Limits;
 ghost use mathlib.Core.Path.{_≡_};
 ghost use Prim.Native.Nat.{_+_, _<_};
 ghost use lib.ListN.{length};
+ghost use Rattle.rules.specs.02-Limits.{limits};
 ghost use Rattle.rules.specs.07-Picture.{base-length};
+ghost use Rattle.rules.specs.Read.{value-offset, reverse-offset, count-offset, parents-offset, name-offset, type-offset, to-offset, attribute-offset};
+ghost use Rattle.rules.specs.Read.{link-offset, side-offset, object-offset};
 ghost use Rattle.rows.specs.Rows.{part, Reads};
 ghost use Rattle.base.specs.Rows.{sds-at, type-at, presence-at, application-at, end-at};
 
@@ -25,7 +28,9 @@ impl Base {
 
     pub const END_WIDTH: usize = 4;
 
-    pub const TYPES_AT: usize = Limits::SDSS * Base::SDS_WIDTH;
+    pub const SDSS_AT: usize = 0;
+
+    pub const TYPES_AT: usize = Base::SDSS_AT + Limits::SDSS * Base::SDS_WIDTH;
 
     pub const PRESENCES_AT: usize = Base::TYPES_AT + Limits::TYPES * Base::TYPE_WIDTH;
 
@@ -36,16 +41,54 @@ impl Base {
         + Limits::APPLICATIONS * Base::APPLICATION_WIDTH;
 
     pub const LENGTH: usize = Base::ENDS_AT + Limits::ENDS * Base::END_WIDTH;
+
+    // Which byte of its row holds what; the first holds a type's kind, and the SDS of the others.
+
+    pub const VALUE_OFFSET: usize = 1;
+
+    pub const REVERSE_OFFSET: usize = 2;
+
+    pub const COUNT_OFFSET: usize = 3;
+
+    pub const PARENTS_OFFSET: usize = 4;
+
+    pub const NAME_OFFSET: usize = 1;
+
+    pub const TYPE_OFFSET: usize = Base::NAME_OFFSET + Limits::NAME;
+
+    pub const TO_OFFSET: usize = 1;
+
+    pub const ATTRIBUTE_OFFSET: usize = 2;
+
+    pub const LINK_OFFSET: usize = 1;
+
+    pub const SIDE_OFFSET: usize = 2;
+
+    pub const OBJECT_OFFSET: usize = 3;
+
+    // What the first byte of a type says it is, and two categories of links.
+
+    pub const UNUSED: usize = 0;
+
+    pub const OBJECT: usize = 1;
+
+    pub const ATTRIBUTE: usize = 2;
+
+    pub const LINK: usize = 3;
+
+    pub const IMPLICIT: usize = 3;
+
+    pub const DESIGNATION: usize = 4;
 }
 
 // ---- SDSs
 
 // The field of 16 bytes that holds the name of an SDS.
 pub fn sds_field(base: &[u8], d: usize) -> &[u8]
-    requires { ⌜ (length (now base) ≡ base-length) × (d < 16) ⌝ }
-    ensures { λ r. ⌜ now r ≡ part (now (base .entry)) (sds-at d) 16 ⌝ }
+    requires { ⌜ (length (now base) ≡ base-length) × (d < limits .sdss) ⌝ }
+    ensures { λ r. ⌜ now r ≡ part (now (base .entry)) (sds-at d) (limits .name) ⌝ }
 {
-    let at = d * Base::SDS_WIDTH;
+    let at = Base::SDSS_AT + d * Base::SDS_WIDTH;
     let end = at + Base::SDS_WIDTH;
     &base[at..end]
 }
@@ -53,7 +96,7 @@ pub fn sds_field(base: &[u8], d: usize) -> &[u8]
 // ---- types
 
 pub fn kind(base: &[u8], t: usize) -> usize
-    requires { ⌜ (length (now base) ≡ base-length) × (t < 128) ⌝ }
+    requires { ⌜ (length (now base) ≡ base-length) × (t < limits .types) ⌝ }
     ensures { λ r. ⌜ Reads (now (base .entry)) (type-at t) r ⌝ }
 {
     rows::byte(base, Base::TYPES_AT + t * Base::TYPE_WIDTH)
@@ -61,38 +104,50 @@ pub fn kind(base: &[u8], t: usize) -> usize
 
 // An attribute type's value kind, or a link type's category.
 pub fn value(base: &[u8], t: usize) -> usize
-    requires { ⌜ (length (now base) ≡ base-length) × (t < 128) ⌝ }
-    ensures { λ r. ⌜ Reads (now (base .entry)) (type-at t + 1) r ⌝ }
+    requires { ⌜ (length (now base) ≡ base-length) × (t < limits .types) ⌝ }
+    ensures { λ r. ⌜ Reads (now (base .entry)) (type-at t + value-offset) r ⌝ }
 {
-    rows::byte(base, Base::TYPES_AT + t * Base::TYPE_WIDTH + 1)
+    rows::byte(
+        base,
+        Base::TYPES_AT + t * Base::TYPE_WIDTH + Base::VALUE_OFFSET,
+    )
 }
 
 pub fn reverse(base: &[u8], t: usize) -> usize
-    requires { ⌜ (length (now base) ≡ base-length) × (t < 128) ⌝ }
-    ensures { λ r. ⌜ Reads (now (base .entry)) (type-at t + 2) r ⌝ }
+    requires { ⌜ (length (now base) ≡ base-length) × (t < limits .types) ⌝ }
+    ensures { λ r. ⌜ Reads (now (base .entry)) (type-at t + reverse-offset) r ⌝ }
 {
-    rows::byte(base, Base::TYPES_AT + t * Base::TYPE_WIDTH + 2)
+    rows::byte(
+        base,
+        Base::TYPES_AT + t * Base::TYPE_WIDTH + Base::REVERSE_OFFSET,
+    )
 }
 
 pub fn parent_count(base: &[u8], t: usize) -> usize
-    requires { ⌜ (length (now base) ≡ base-length) × (t < 128) ⌝ }
-    ensures { λ r. ⌜ Reads (now (base .entry)) (type-at t + 3) r ⌝ }
+    requires { ⌜ (length (now base) ≡ base-length) × (t < limits .types) ⌝ }
+    ensures { λ r. ⌜ Reads (now (base .entry)) (type-at t + count-offset) r ⌝ }
 {
-    rows::byte(base, Base::TYPES_AT + t * Base::TYPE_WIDTH + 3)
+    rows::byte(
+        base,
+        Base::TYPES_AT + t * Base::TYPE_WIDTH + Base::COUNT_OFFSET,
+    )
 }
 
 // The parent in place i of 4.
 pub fn parent(base: &[u8], t: usize, i: usize) -> usize
-    requires { ⌜ (length (now base) ≡ base-length) × ((t < 128) × (i < 4)) ⌝ }
-    ensures { λ r. ⌜ Reads (now (base .entry)) (type-at t + 4 + i) r ⌝ }
+    requires { ⌜ (length (now base) ≡ base-length) × ((t < limits .types) × (i < 4)) ⌝ }
+    ensures { λ r. ⌜ Reads (now (base .entry)) (type-at t + parents-offset + i) r ⌝ }
 {
-    rows::byte(base, Base::TYPES_AT + t * Base::TYPE_WIDTH + 4 + i)
+    rows::byte(
+        base,
+        Base::TYPES_AT + t * Base::TYPE_WIDTH + Base::PARENTS_OFFSET + i,
+    )
 }
 
 // ---- presences
 
 pub fn presence_sds(base: &[u8], i: usize) -> usize
-    requires { ⌜ (length (now base) ≡ base-length) × (i < 512) ⌝ }
+    requires { ⌜ (length (now base) ≡ base-length) × (i < limits .presences) ⌝ }
     ensures { λ r. ⌜ Reads (now (base .entry)) (presence-at i) r ⌝ }
 {
     rows::byte(base, Base::PRESENCES_AT + i * Base::PRESENCE_WIDTH)
@@ -100,8 +155,8 @@ pub fn presence_sds(base: &[u8], i: usize) -> usize
 
 // The field of 16 bytes that holds the local name.
 pub fn presence_field(base: &[u8], i: usize) -> &[u8]
-    requires { ⌜ (length (now base) ≡ base-length) × (i < 512) ⌝ }
-    ensures { λ r. ⌜ now r ≡ part (now (base .entry)) (presence-at i + 1) 16 ⌝ }
+    requires { ⌜ (length (now base) ≡ base-length) × (i < limits .presences) ⌝ }
+    ensures { λ r. ⌜ now r ≡ part (now (base .entry)) (presence-at i + name-offset) (limits .name) ⌝ }
 {
     let at = name_at(i);
     let end = at + Limits::NAME;
@@ -110,75 +165,81 @@ pub fn presence_field(base: &[u8], i: usize) -> &[u8]
 
 // Where that name starts.
 pub fn name_at(i: usize) -> usize
-    requires { ⌜ i < 512 ⌝ }
-    ensures { λ r. ⌜ r ≡ presence-at i + 1 ⌝ }
+    requires { ⌜ i < limits .presences ⌝ }
+    ensures { λ r. ⌜ r ≡ presence-at i + name-offset ⌝ }
 {
-    Base::PRESENCES_AT + i * Base::PRESENCE_WIDTH + 1
+    Base::PRESENCES_AT + i * Base::PRESENCE_WIDTH + Base::NAME_OFFSET
 }
 
 pub fn presence_type(base: &[u8], i: usize) -> usize
-    requires { ⌜ (length (now base) ≡ base-length) × (i < 512) ⌝ }
-    ensures { λ r. ⌜ Reads (now (base .entry)) (presence-at i + 17) r ⌝ }
+    requires { ⌜ (length (now base) ≡ base-length) × (i < limits .presences) ⌝ }
+    ensures { λ r. ⌜ Reads (now (base .entry)) (presence-at i + type-offset) r ⌝ }
 {
-    rows::byte(base, Base::PRESENCES_AT + i * Base::PRESENCE_WIDTH + 17)
+    rows::byte(
+        base,
+        Base::PRESENCES_AT + i * Base::PRESENCE_WIDTH + Base::TYPE_OFFSET,
+    )
 }
 
 // ---- applications
 
 pub fn application_sds(base: &[u8], i: usize) -> usize
-    requires { ⌜ (length (now base) ≡ base-length) × (i < 256) ⌝ }
+    requires { ⌜ (length (now base) ≡ base-length) × (i < limits .applications) ⌝ }
     ensures { λ r. ⌜ Reads (now (base .entry)) (application-at i) r ⌝ }
 {
     rows::byte(base, Base::APPLICATIONS_AT + i * Base::APPLICATION_WIDTH)
 }
 
 pub fn application_to(base: &[u8], i: usize) -> usize
-    requires { ⌜ (length (now base) ≡ base-length) × (i < 256) ⌝ }
-    ensures { λ r. ⌜ Reads (now (base .entry)) (application-at i + 1) r ⌝ }
+    requires { ⌜ (length (now base) ≡ base-length) × (i < limits .applications) ⌝ }
+    ensures { λ r. ⌜ Reads (now (base .entry)) (application-at i + to-offset) r ⌝ }
 {
     rows::byte(
         base,
-        Base::APPLICATIONS_AT + i * Base::APPLICATION_WIDTH + 1,
+        Base::APPLICATIONS_AT + i * Base::APPLICATION_WIDTH + Base::TO_OFFSET,
     )
 }
 
 pub fn application_attribute(base: &[u8], i: usize) -> usize
-    requires { ⌜ (length (now base) ≡ base-length) × (i < 256) ⌝ }
-    ensures { λ r. ⌜ Reads (now (base .entry)) (application-at i + 2) r ⌝ }
+    requires { ⌜ (length (now base) ≡ base-length) × (i < limits .applications) ⌝ }
+    ensures { λ r. ⌜ Reads (now (base .entry)) (application-at i + attribute-offset) r ⌝ }
 {
     rows::byte(
         base,
-        Base::APPLICATIONS_AT + i * Base::APPLICATION_WIDTH + 2,
+        Base::APPLICATIONS_AT + i * Base::APPLICATION_WIDTH + Base::ATTRIBUTE_OFFSET,
     )
 }
 
 // ---- ends
 
 pub fn end_sds(base: &[u8], i: usize) -> usize
-    requires { ⌜ (length (now base) ≡ base-length) × (i < 512) ⌝ }
+    requires { ⌜ (length (now base) ≡ base-length) × (i < limits .ends) ⌝ }
     ensures { λ r. ⌜ Reads (now (base .entry)) (end-at i) r ⌝ }
 {
     rows::byte(base, Base::ENDS_AT + i * Base::END_WIDTH)
 }
 
 pub fn end_link(base: &[u8], i: usize) -> usize
-    requires { ⌜ (length (now base) ≡ base-length) × (i < 512) ⌝ }
-    ensures { λ r. ⌜ Reads (now (base .entry)) (end-at i + 1) r ⌝ }
+    requires { ⌜ (length (now base) ≡ base-length) × (i < limits .ends) ⌝ }
+    ensures { λ r. ⌜ Reads (now (base .entry)) (end-at i + link-offset) r ⌝ }
 {
-    rows::byte(base, Base::ENDS_AT + i * Base::END_WIDTH + 1)
+    rows::byte(base, Base::ENDS_AT + i * Base::END_WIDTH + Base::LINK_OFFSET)
 }
 
 // 0 origin, 1 destination.
 pub fn end_side(base: &[u8], i: usize) -> usize
-    requires { ⌜ (length (now base) ≡ base-length) × (i < 512) ⌝ }
-    ensures { λ r. ⌜ Reads (now (base .entry)) (end-at i + 2) r ⌝ }
+    requires { ⌜ (length (now base) ≡ base-length) × (i < limits .ends) ⌝ }
+    ensures { λ r. ⌜ Reads (now (base .entry)) (end-at i + side-offset) r ⌝ }
 {
-    rows::byte(base, Base::ENDS_AT + i * Base::END_WIDTH + 2)
+    rows::byte(base, Base::ENDS_AT + i * Base::END_WIDTH + Base::SIDE_OFFSET)
 }
 
 pub fn end_object(base: &[u8], i: usize) -> usize
-    requires { ⌜ (length (now base) ≡ base-length) × (i < 512) ⌝ }
-    ensures { λ r. ⌜ Reads (now (base .entry)) (end-at i + 3) r ⌝ }
+    requires { ⌜ (length (now base) ≡ base-length) × (i < limits .ends) ⌝ }
+    ensures { λ r. ⌜ Reads (now (base .entry)) (end-at i + object-offset) r ⌝ }
 {
-    rows::byte(base, Base::ENDS_AT + i * Base::END_WIDTH + 3)
+    rows::byte(
+        base,
+        Base::ENDS_AT + i * Base::END_WIDTH + Base::OBJECT_OFFSET,
+    )
 }

@@ -3,14 +3,15 @@ use super::Base;
 ghost use mathlib.Core.Path.{_≡_};
 ghost use Prim.Native.Nat.{_≤_};
 ghost use lib.ListN.{length};
+ghost use Rattle.rules.specs.02-Limits.{limits};
 ghost use Rattle.rules.specs.07-Picture.{base-length};
-ghost use Rattle.rows.specs.Rows.{Rising};
 ghost use Rattle.rows.specs.Decides.{Decides};
+ghost use Rattle.base.specs.Tables.{In-order, by-name, by-application, by-end};
 
 // By SDS and name: with no two rows of one SDS that have one name. A row's key is kept for the comparison with the next one.
 pub fn presences_rise(base: &[u8], n: usize) -> bool
-    requires { ⌜ (length (now base) ≡ base-length) × (n ≤ 512) ⌝ }
-    ensures { λ r. ⌜ Decides (Rising (now (base .entry)) 1280 18 17 n) r ⌝ }
+    requires { ⌜ (length (now base) ≡ base-length) × (n ≤ limits .presences) ⌝ }
+    ensures { λ r. ⌜ Decides (In-order by-name (now (base .entry)) n) r ⌝ }
 {
     let mut at = Base::PRESENCES_AT;
     let mut row = rows::order::key_at(base, at);
@@ -28,8 +29,8 @@ pub fn presences_rise(base: &[u8], n: usize) -> bool
 }
 
 pub fn applications_rise(base: &[u8], n: usize) -> bool
-    requires { ⌜ (length (now base) ≡ base-length) × (n ≤ 256) ⌝ }
-    ensures { λ r. ⌜ Decides (Rising (now (base .entry)) 10496 3 3 n) r ⌝ }
+    requires { ⌜ (length (now base) ≡ base-length) × (n ≤ limits .applications) ⌝ }
+    ensures { λ r. ⌜ Decides (In-order by-application (now (base .entry)) n) r ⌝ }
 {
     rows::order::rise(
         base,
@@ -41,8 +42,8 @@ pub fn applications_rise(base: &[u8], n: usize) -> bool
 }
 
 pub fn ends_rise(base: &[u8], n: usize) -> bool
-    requires { ⌜ (length (now base) ≡ base-length) × (n ≤ 512) ⌝ }
-    ensures { λ r. ⌜ Decides (Rising (now (base .entry)) 11264 4 4 n) r ⌝ }
+    requires { ⌜ (length (now base) ≡ base-length) × (n ≤ limits .ends) ⌝ }
+    ensures { λ r. ⌜ Decides (In-order by-end (now (base .entry)) n) r ⌝ }
 {
     rows::order::rise(base, Base::ENDS_AT, Base::END_WIDTH, Base::END_WIDTH, n)
 }

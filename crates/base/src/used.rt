@@ -2,21 +2,22 @@
 use super::Base;
 use rules::Limits;
 ghost use mathlib.Core.Path.{_≡_};
-ghost use Prim.Native.Nat.{_*_, _-_, _≤_};
-ghost use lib.ListN.{length, replicate};
+ghost use Prim.Native.Nat.{_≤_};
+ghost use lib.ListN.{length};
+ghost use Rattle.rules.specs.02-Limits.{limits};
 ghost use Rattle.rules.specs.07-Picture.{base-length};
-ghost use Rattle.rows.specs.Rows.{part, Counted};
+ghost use Rattle.rows.specs.Rows.{Counted};
 ghost use Rattle.rows.specs.Decides.{Decides};
-ghost use Rattle.base.specs.Rows.{presence-at, application-at, end-at};
+ghost use Rattle.base.specs.Tables.{Blank-from, presences, applications, ends};
 ghost use Rattle.base.specs.Back.{presence-count, application-count, end-count};
 
 pub fn presence_count(base: &[u8]) -> usize
     requires { ⌜ length (now base) ≡ base-length ⌝ }
-    ensures { λ r. ⌜ Counted (presence-count (now (base .entry))) 512 r ⌝ }
+    ensures { λ r. ⌜ Counted (presence-count (now (base .entry))) (limits .presences) r ⌝ }
 {
     rows::used::filled(
         base,
-        Base::PRESENCES_AT + 1,
+        Base::PRESENCES_AT,
         Base::PRESENCE_WIDTH,
         Limits::PRESENCES,
     )
@@ -24,7 +25,7 @@ pub fn presence_count(base: &[u8]) -> usize
 
 pub fn application_count(base: &[u8]) -> usize
     requires { ⌜ length (now base) ≡ base-length ⌝ }
-    ensures { λ r. ⌜ Counted (application-count (now (base .entry))) 256 r ⌝ }
+    ensures { λ r. ⌜ Counted (application-count (now (base .entry))) (limits .applications) r ⌝ }
 {
     rows::used::filled(
         base,
@@ -36,14 +37,14 @@ pub fn application_count(base: &[u8]) -> usize
 
 pub fn end_count(base: &[u8]) -> usize
     requires { ⌜ length (now base) ≡ base-length ⌝ }
-    ensures { λ r. ⌜ Counted (end-count (now (base .entry))) 512 r ⌝ }
+    ensures { λ r. ⌜ Counted (end-count (now (base .entry))) (limits .ends) r ⌝ }
 {
     rows::used::filled(base, Base::ENDS_AT, Base::END_WIDTH, Limits::ENDS)
 }
 
 pub fn no_presence_from(base: &[u8], n: usize) -> bool
-    requires { ⌜ (length (now base) ≡ base-length) × (n ≤ 512) ⌝ }
-    ensures { λ r. ⌜ Decides (part (now (base .entry)) (presence-at n) ((512 - n) * 18) ≡ replicate ((512 - n) * 18) 0) r ⌝ }
+    requires { ⌜ (length (now base) ≡ base-length) × (n ≤ limits .presences) ⌝ }
+    ensures { λ r. ⌜ Decides (Blank-from presences n (now (base .entry))) r ⌝ }
 {
     rows::used::is_zero(
         base,
@@ -53,8 +54,8 @@ pub fn no_presence_from(base: &[u8], n: usize) -> bool
 }
 
 pub fn no_application_from(base: &[u8], n: usize) -> bool
-    requires { ⌜ (length (now base) ≡ base-length) × (n ≤ 256) ⌝ }
-    ensures { λ r. ⌜ Decides (part (now (base .entry)) (application-at n) ((256 - n) * 3) ≡ replicate ((256 - n) * 3) 0) r ⌝ }
+    requires { ⌜ (length (now base) ≡ base-length) × (n ≤ limits .applications) ⌝ }
+    ensures { λ r. ⌜ Decides (Blank-from applications n (now (base .entry))) r ⌝ }
 {
     rows::used::is_zero(
         base,
@@ -64,8 +65,8 @@ pub fn no_application_from(base: &[u8], n: usize) -> bool
 }
 
 pub fn no_end_from(base: &[u8], n: usize) -> bool
-    requires { ⌜ (length (now base) ≡ base-length) × (n ≤ 512) ⌝ }
-    ensures { λ r. ⌜ Decides (part (now (base .entry)) (end-at n) ((512 - n) * 4) ≡ replicate ((512 - n) * 4) 0) r ⌝ }
+    requires { ⌜ (length (now base) ≡ base-length) × (n ≤ limits .ends) ⌝ }
+    ensures { λ r. ⌜ Decides (Blank-from ends n (now (base .entry))) r ⌝ }
 {
     rows::used::is_zero(base, Base::ENDS_AT + n * Base::END_WIDTH, Base::LENGTH)
 }

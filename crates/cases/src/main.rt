@@ -6,6 +6,7 @@ mod changes;
 mod print;
 mod read;
 
+use base::Base;
 use run_words::input::Input;
 use run_words::input::next_line;
 ghost use Prim.Native.Nat.{_≤_};
@@ -97,7 +98,7 @@ fn tell_all(base: &mut [u8], read: &mut [u8], line: &mut [u8], out: &mut [u8])
 }
 
 fn main() {
-    let mut base = [0u8; 13312];
+    let mut base = [0u8; Base::LENGTH];
     let mut read = [0u8; 4096];
     let mut line = [0u8; 128];
     let mut out = [0u8; 512];

@@ -6,15 +6,16 @@ use mathlib.Core.List.{List, [], _∷_, _++_}
 use mathlib.Core.Bool.{Bool, true, false, not, _&&_}
 use lib.Dec.{eqb, ltb}
 use lib.ListN.{length}
-use borrow.Author.Tests.{eqb-true, lt-ltb, le-ltb}
+use borrow.Author.Tests.{lt-ltb, le-ltb}
 use Rattle.rules.specs.01-Lists.{without, put}
+use Rattle.rules.specs.02-Limits.{limits}
 use Rattle.rules.specs.03-Names.{Name}
 use Rattle.rules.specs.04-Schema.{Schema, Application, kind-of, is-attribute, type-named, applied, is-application, application-before}
 use Rattle.rules.specs.07-Picture.{Sound, picture}
 use Rattle.rules.specs.09-Refusals.{_when_, Refusals, no-object, no-attribute, no-link, applications-full}
 use Rattle.rules.specs.09-Refusals.Outcome.{done}
 use Rattle.rules.specs.10-Changes.{with-applications, application-refusals, apply, unapply}
-use Rattle.rules.proofs.Bools.{or-left, and-both}
+use Rattle.rules.proofs.Bools.{or-left}
 use Rattle.rules.proofs.09-Refusals.{Left}
 use Rattle.rows.specs.Rows.{Counted}
 use Rattle.base.specs.Back.{schema-of, application-count, application-shown}
@@ -23,7 +24,7 @@ use Rattle.base.specs.Stored.{less-row, Shows}
 use Rattle.base.proofs.Shown.{applications-long}
 use Rattle.base.proofs.StoredLaws.{sound-stored}
 use Rattle.edit.proofs.TakenLaws.{application-without}
-use Rattle.lookup.specs.Kinds.{kind-code}
+use Rattle.rules.specs.04-Schema.{kind-code}
 use Rattle.lookup.proofs.KindBytes.{told-object, told-attribute, told-link}
 use Rattle.change_applications.specs.Applying.{wrong-kind}
 use Rattle.conditions.specs.Aimed.{Both}
@@ -93,25 +94,21 @@ module _ {b : List ℕ} {d : ℕ} {a n : Name} {u t : ℕ} (x : Both b d a n u t
 
   module _ {r : ℕ} (found : First-row (application-count b) (λ i. is-application d t u (application-shown b i)) r) where
     -- whether there is a row, by their count
-    row-told : {k : ℕ} → Counted (application-count b) 256 k
+    row-told : {k : ℕ} → Counted (application-count b) (limits .applications) k
         → ltb r k ≡ applied (schema-of b) d (type-named (schema-of b) d n) (type-named (schema-of b) d a)
     row-told c = same-applied (applied-row b d t u (c .is) found)
 
-    pub row-none : {k : ℕ} → Counted (application-count b) 256 k → k ≤ r
+    pub row-none : {k : ℕ} → Counted (application-count b) (limits .applications) k → k ≤ r
         → not (applied (schema-of b) d (type-named (schema-of b) d n) (type-named (schema-of b) d a)) ≡ true
     row-none {k} c h = ap not (sym (row-told c) ∙ le-ltb r k h)
 
-    pub row-some : {k : ℕ} → Counted (application-count b) 256 k → r < k
+    pub row-some : {k : ℕ} → Counted (application-count b) (limits .applications) k → r < k
         → not (applied (schema-of b) d (type-named (schema-of b) d n) (type-named (schema-of b) d a)) ≡ false
     row-some {k} c h = ap not (sym (row-told c) ∙ lt-ltb r k h)
 
     row-gone : Sound b → r < application-count b
         → without (is-application d t u) ((schema-of b) .applications) ≡ less-row r ((schema-of b) .applications)
-    row-gone sound h =
-        let y = application-shown b r in
-        let (e, more) = and-both (eqb (y .sds) d) (eqb (y .to) t && eqb (y .attribute) u) (found .found h) in
-        let (f, g) = and-both (eqb (y .to) t) (eqb (y .attribute) u) more in
-        application-without (sound-stored sound) r d t u h (eqb-true (y .sds) d e) (eqb-true (y .to) t f) (eqb-true (y .attribute) u g)
+    row-gone sound h = application-without (sound-stored sound) r d t u h (found .found h)
 
     pub taken-off : Sound b → r < application-count b → {b₁ : List ℕ} → Shows b₁ (with-applications (schema-of b) (less-row r ((schema-of b) .applications)))
         → b₁ ≡ picture (less-application d (type-named (schema-of b) d n) (type-named (schema-of b) d a) (schema-of b))
@@ -120,7 +117,7 @@ module _ {b : List ℕ} {d : ℕ} {a n : Name} {u t : ℕ} (x : Both b d a n u t
         ∙ same-types (λ y z. picture (less-application d y z (schema-of b)))
 
 -- room for one more
-module _ (b : List ℕ) {k : ℕ} (c : Counted (application-count b) 256 k) where
+module _ (b : List ℕ) {k : ℕ} (c : Counted (application-count b) (limits .applications) k) where
   pub full : 256 ≤ k → applications-full (schema-of b) 1 ≡ true
   unfolding applications-full
   full h = lt-ltb 256 (length ((schema-of b) .applications) + 1) (omega (arith, applications-long b, c .is))

@@ -1,4 +1,5 @@
 // Attribute types applied to object and link types, and taken off them again.
+use base::Base;
 use conditions::aimed::Told;
 use rules::Answer;
 use rules::Limits;
@@ -16,13 +17,13 @@ fn is_wrong_kind(base: &[u8], a: usize, t: usize) -> bool
     requires { ⌜ length (now base) ≡ base-length ⌝ }
     ensures { λ r. ⌜ r ≡ wrong-kind (schema-of (now (base .entry))) a t ⌝ }
 {
-    if !lookup::is_kind(base, a, 2) {
+    if !lookup::types::is_kind(base, a, Base::ATTRIBUTE) {
         return true;
     }
-    if lookup::is_kind(base, t, 1) {
+    if lookup::types::is_kind(base, t, Base::OBJECT) {
         return false;
     }
-    !lookup::is_kind(base, t, 3)
+    !lookup::types::is_kind(base, t, Base::LINK)
 }
 
 // What both calls test, once, in the order of their refusals; then the attribute type, and the type that it is to be applied to.
@@ -65,7 +66,7 @@ pub fn unapply(base: &mut [u8], sds: usize, attribute: &[u8], to: &[u8]) -> Answ
     if asked.no != 0 {
         return Answer::refused(asked.no);
     }
-    let row = conditions::application_row(base, sds, asked.two, asked.one);
+    let row = lookup::applications::application_row(base, sds, asked.two, asked.one);
     if base::used::application_count(base) <= row {
         return Answer::refused(13);
     }

@@ -8,6 +8,7 @@ use lib.Dec.{ltb}
 use lib.ListN.{length}
 use borrow.Author.Tests.{eq-eqb, ne-eqb, ltb-true, ltb-false, lt-ltb, le-ltb}
 use Rattle.rules.specs.01-Lists.{any, all, without, put}
+use Rattle.rules.specs.02-Limits.{limits}
 use Rattle.rules.specs.03-Names.{Name}
 use Rattle.rules.specs.04-Schema.{Schema, Side, End, kind-of, is-link, is-object, reverse, with-reverse, type-named}
 use Rattle.rules.specs.04-Schema.{other-side, is-end, has-end, end-before}
@@ -16,13 +17,13 @@ use Rattle.rules.specs.04-Schema.Side.{origin, destination}
 use Rattle.rules.specs.06-Good.{Good}
 use Rattle.rules.specs.07-Picture.{Sound, picture}
 use Rattle.rules.specs.09-Refusals.{_when_, Outcome, Refusals, verdict, no-link, no-object, ends-full}
-use Rattle.rules.specs.09-Refusals.Outcome.{done}
+use Rattle.rules.specs.09-Refusals.Outcome.{refused, done}
 use Rattle.rules.specs.10-Changes.{with-ends, put-all, both-ends, end-refusals, add-end, is-one-of, remove-end}
 use Rattle.rules.proofs.Bools.{or-left, or-right}
 use Rattle.rules.proofs.01-Lists.{any-at, any-where}
 use Rattle.rules.proofs.Edits.{put-long, put-none, without-keeps, without-same, without-twice}
 use Rattle.rules.specs.Read.{read-side}
-use Rattle.rules.proofs.09-Refusals.{Left}
+use Rattle.rules.proofs.09-Refusals.{Left, passes, stops, ends}
 use Rattle.rows.specs.Rows.{Reads, Counted}
 use Rattle.base.specs.Rows.{type-at}
 use Rattle.base.specs.Back.{schema-of, end-count}
@@ -37,7 +38,7 @@ use Rattle.conditions.specs.Aimed.{Both}
 use Rattle.conditions.proofs.AimedLaws.{aimed-well, neither}
 use Rattle.change_ends.specs.Ends.{Ends-told}
 use Rattle.conditions.specs.Reverse.{one-or-none, Reverse-of}
-use Rattle.conditions.specs.Conditions.{End-place}
+use Rattle.lookup.specs.Found.{End-place}
 use Rattle.base.proofs.TestedLaws.{begun-passes}
 use Rattle.conditions.proofs.ConditionLaws.{end-place-has}
 
@@ -107,7 +108,7 @@ module _ {b : List ℕ} {d : ℕ} {n m : Name} {no l o : ℕ} (told : Ends-told 
 
 -- ---- room for the ends of a link type and its reverse
 
-module _ (b : List ℕ) {r k : ℕ} (c : Counted (end-count b) 512 k) where
+module _ (b : List ℕ) {r k : ℕ} (c : Counted (end-count b) (limits .ends) k) where
   pub full-two : r < 128 → ltb 512 (k + 2) ≡ ends-full (schema-of b) (suc (length (one-or-none r)))
   unfolding ends-full
   full-two h =
@@ -180,8 +181,28 @@ pub add-tests : {b : List ℕ} {d : ℕ} {n m : Name} {no l o : ℕ} → Ends-to
 add-tests {b} {d} {n} {m} told z side =
     told-passes told z (λ l o. add-rest side d l o (schema-of b)) (λ l o. done 0 0 0 (added side d l o (schema-of b))) (add-left side d n m (schema-of b))
 
-pub full-is : {s : Schema} {l r : ℕ} → Reverse-of s l r → ends-full s (suc (length (one-or-none r))) ≡ ends-full s (length (with-reverse s l))
+full-is : {s : Schema} {l r : ℕ} → Reverse-of s l r → ends-full s (suc (length (one-or-none r))) ≡ ends-full s (length (with-reverse s l))
 full-is {s} rev = ap (λ (l : List ℕ). ends-full s (suc (length l))) (sym (rev .is))
+
+-- what the call goes on with where nothing refuses
+pub record Addable (b : List ℕ) (d : ℕ) (n m : Name) (l o r : ℕ) (side : Side) : Type 0 where
+  pub through : Through b d l o
+  pub reversed : Reverse-of (schema-of b) l r
+  pub free : has-end (schema-of b) d l side o ≡ false
+  pub room : ends-full (schema-of b) (suc (length (one-or-none r))) ≡ false
+  pub rule : add-end side d n m (schema-of b) ≡ done 0 0 0 (added side d l o (schema-of b))
+
+module _ (side : Side) {b : List ℕ} {d : ℕ} {n m : Name} {no l o : ℕ} (told : Ends-told b d n m no l o) (z : no ≡ 0)
+    (free : has-end (schema-of b) d l side o ≡ false) {r : ℕ} (rev : Reverse-of (schema-of b) l r) where
+  full-left : Left (add-end side d n m (schema-of b)) ((14 when ends-full (schema-of b) (length (with-reverse (schema-of b) l))) ∷ [])
+      (done 0 0 0 (added side d l o (schema-of b)))
+  full-left = passes (add-tests told z side) free
+
+  pub add-full : ends-full (schema-of b) (suc (length (one-or-none r))) ≡ true → add-end side d n m (schema-of b) ≡ refused 14 0
+  add-full e = stops full-left (sym (full-is rev) ∙ e)
+
+  pub addable : ends-full (schema-of b) (suc (length (one-or-none r))) ≡ false → Addable b d n m l o r side
+  addable e = record { through = goes-through told z; reversed = rev; free = free; room = e; rule = ends (passes full-left (sym (full-is rev) ∙ e)) }
 
 module _ (b : List ℕ) {l r : ℕ} (rev : Reverse-of (schema-of b) l r) (room : ends-full (schema-of b) (suc (length (one-or-none r))) ≡ false) where
   pub room-first : length ((schema-of b) .ends) < 512
@@ -246,18 +267,35 @@ unfolding remove-end
 remove-left side d n m s = record { is = refl }
 
 -- the test that is left, of the types that were found
-pub remove-tests : {b : List ℕ} {d : ℕ} {n m : Name} {no l o : ℕ} → Ends-told b d n m no l o → no ≡ 0 → (side : Side)
+remove-tests : {b : List ℕ} {d : ℕ} {n m : Name} {no l o : ℕ} → Ends-told b d n m no l o → no ≡ 0 → (side : Side)
     → Left (remove-end side d n m (schema-of b)) (remove-rest side d l o (schema-of b))
     (done 0 0 0 (removed side d l o (schema-of b)))
 remove-tests {b} {d} {n} {m} told z side =
     told-passes told z (λ l o. remove-rest side d l o (schema-of b)) (λ l o. done 0 0 0 (removed side d l o (schema-of b))) (remove-left side d n m (schema-of b))
 
-module _ {b : List ℕ} {d l o row k : ℕ} {side : Side} (count : Counted (end-count b) 512 k) (place : End-place b d l side o row) where
-  pub row-none : k ≤ row → not (has-end (schema-of b) d l side o) ≡ true
-  row-none h = ap not (sym (end-place-has (count .is) place) ∙ le-ltb row k h)
+-- what the call goes on with where nothing refuses
+pub record Removable (b : List ℕ) (d : ℕ) (n m : Name) (l o row : ℕ) (side : Side) : Type 0 where
+  pub through : Through b d l o
+  pub place : End-place b d l side o row
+  pub row-below : row < end-count b
+  pub there : has-end (schema-of b) d l side o ≡ true
+  pub rule : remove-end side d n m (schema-of b) ≡ done 0 0 0 (removed side d l o (schema-of b))
 
-  pub row-some : row < k → has-end (schema-of b) d l side o ≡ true
-  row-some h = sym (end-place-has (count .is) place) ∙ lt-ltb row k h
+module _ {b : List ℕ} {d : ℕ} {n m : Name} {no l o row k : ℕ} {side : Side} (told : Ends-told b d n m no l o) (z : no ≡ 0)
+    (place : End-place b d l side o row) (count : Counted (end-count b) (limits .ends) k) where
+  pub remove-none : k ≤ row → remove-end side d n m (schema-of b) ≡ refused 13 0
+  remove-none h = stops (remove-tests told z side) (ap not (sym (end-place-has (count .is) place) ∙ le-ltb row k h))
+
+  pub removable : row < k → Removable b d n m l o row side
+  removable h =
+      let there = sym (end-place-has (count .is) place) ∙ lt-ltb row k h in
+      record {
+        through = goes-through told z;
+        place = place;
+        row-below = omega (arith, count .is);
+        there = there;
+        rule = ends (passes (remove-tests told z side) (ap not there));
+      }
 
 -- without one end, or without it and its mirror
 module _ (s : Schema) (d l o : ℕ) (side : Side) where

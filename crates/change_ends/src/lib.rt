@@ -1,4 +1,5 @@
 // The ends of link types: what the four calls test of their inputs, once, in the order of their refusals; and the calls.
+use base::Base;
 use conditions::aimed::Told;
 use rules::Answer;
 use rules::Limits;
@@ -22,10 +23,10 @@ fn aimed_at(base: &[u8], sds: usize, link: &[u8], object: &[u8]) -> Told
     if told.no != 0 {
         return told;
     }
-    if base::kind(base, told.one) != 3 {
+    if base::kind(base, told.one) != Base::LINK {
         return Told::refused(7);
     }
-    if base::kind(base, told.two) != 1 {
+    if base::kind(base, told.two) != Base::OBJECT {
         return Told::refused(7);
     }
     told
@@ -78,7 +79,7 @@ fn remove_end(base: &mut [u8], sds: usize, link: &[u8], object: &[u8], side: usi
     if aim.no != 0 {
         return Answer::refused(aim.no);
     }
-    let row = conditions::end_row(base, sds, aim.one, side, aim.two);
+    let row = lookup::ends::end_row(base, sds, aim.one, side, aim.two);
     if base::used::end_count(base) <= row {
         return Answer::refused(13);
     }
@@ -87,7 +88,7 @@ fn remove_end(base: &mut [u8], sds: usize, link: &[u8], object: &[u8], side: usi
     if reverse == Limits::TYPES {
         return Answer::done(0, 0, 0);
     }
-    let mirror = conditions::end_row(base, sds, reverse, 1 - side, aim.two);
+    let mirror = lookup::ends::end_row(base, sds, reverse, 1 - side, aim.two);
     edit::take_end(base, mirror);
     Answer::done(0, 0, 0)
 }

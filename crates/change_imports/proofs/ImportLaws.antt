@@ -7,6 +7,7 @@ use mathlib.Core.Bool.{Bool, true, false, not, cond, _&&_, _||_, true≢false}
 use lib.Dec.{leb, ltb, eqb}
 use lib.ListN.{length, getD, take, replicate}
 use borrow.Author.Tests.{eq-eqb, ne-eqb, ltb-true, ltb-false, lt-ltb, le-ltb, le-leb, lt-leb, leb-false}
+use Rattle.rules.specs.02-Limits.{limits}
 use Rattle.rules.specs.declared.Answer.{Answer}
 use Rattle.rules.specs.01-Lists.{all, first, put}
 use Rattle.rules.specs.03-Names.{Name, well-formed, blank, same-name}
@@ -22,7 +23,7 @@ use Rattle.rules.proofs.Bools.{and-rest, or-neither}
 use Rattle.rules.proofs.Edits.{put-long, put-none, first-in}
 use Rattle.rules.proofs.03-Names.{formed-long}
 use Rattle.rules.proofs.07-Picture.{strip-pad}
-use Rattle.rules.specs.Read.{strip}
+use Rattle.rules.specs.Read.{strip, name-offset}
 use Rattle.rules.proofs.09-Refusals.{Left}
 use Rattle.rows.specs.Rows.{part}
 use Rattle.rows.specs.Table.{written}
@@ -44,7 +45,7 @@ use Rattle.conditions.specs.Aimed.{With-reverse, Refused-or}
 use Rattle.conditions.proofs.ReverseLaws.{one-is, none-is}
 use Rattle.base.proofs.TestedLaws.{tested-sound, tested-passes}
 use Rattle.conditions.proofs.AimedLaws.{system-not, name-borne, all-passed}
-use Rattle.change_presences.proofs.HeldLaws.{held-named}
+use Rattle.rules.proofs.08-Working.{named-present}
 use Rattle.change_imports.specs.Import.{first-refusals, presence-of, enter-refusals, enter}
 
 -- ---- the tests of the SDSs, of the names and of the reverse
@@ -136,11 +137,11 @@ module _ {b : List ℕ} {d t r : ℕ} (found : Presence-row b (presence-count b)
   pub row-room : r < 512
   row-room = omega (arith, row-below b d t found e, sound-good s .presence-room, presences-long b)
 
-  pub own-long : {own : Name} → own ≡ part b (presence-at r + 1) 16 → length own ≡ 16
-  own-long o = ap length o ∙ length-part b (presence-at r + 1) 16 (omega (arith, sound-long s, row-room))
+  pub own-long : {own : Name} → own ≡ part b (presence-at r + name-offset) (limits .name) → length own ≡ 16
+  own-long o = ap length o ∙ length-part b (presence-at r + name-offset) (limits .name) (omega (arith, sound-long s, row-room))
 
   -- the whole field of its name in the source is
-  pub own-filled : (n : Name) {own field : Name} → length n ≡ 0 → own ≡ part b (presence-at r + 1) 16 → field ≡ written (replicate 16 0) 0 own
+  pub own-filled : (n : Name) {own field : Name} → length n ≡ 0 → own ≡ part b (presence-at r + name-offset) (limits .name) → field ≡ written (replicate 16 0) 0 own
       → strip field ≡ filled (schema-of b) d t n
   own-filled n {own} z o w =
       ap strip (w ∙ written-over (replicate 16 0) [] own (sym (own-long o)) ∙ append-nil own ∙ o) ∙ row-name b d t found e ∙ rw (eq-eqb (length n) 0 z)
@@ -234,7 +235,7 @@ importable {b} {target} {source} {n} {new} {new-reverse} {t = t} told z =
       small = first-below s target source (passed .fails 2);
       outside = system-not target (passed .fails 3);
       below = found .type .below;
-      there = held-named (sound-good sound) n (name-borne s source n (passed .fails 6)) named .there;
+      there = named-present s source n (name-borne s source n (passed .fails 6)) named;
       reversed = found .pair;
       formed = formed;
       formed-reverse = formed-reverse;

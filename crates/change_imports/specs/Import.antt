@@ -4,6 +4,7 @@ use mathlib.Core.Path.{_≡_}
 use mathlib.Core.List.{List, [], _∷_, map}
 use mathlib.Core.Bool.{true}
 use lib.ListN.{length}
+use Rattle.rules.specs.02-Limits.{limits}
 use Rattle.rules.specs.03-Names.{Name, well-formed}
 use Rattle.rules.specs.04-Schema.{Schema, Presence, presence-before}
 use Rattle.rules.specs.09-Refusals.{Outcome, Refusals, _when_, verdict}
@@ -18,9 +19,9 @@ first-refusals target source n new new-reverse s = until 11 (import-refusals tar
 
 -- type t can come into SDS d under that name
 pub record Enters (d : ℕ) (n : Name) (t : ℕ) : Type 0 where
-  pub small : d < 16
+  pub small : d < limits .sdss
   pub outside : d ≡ 0 → ⊥
-  pub below : t < 128
+  pub below : t < limits .types
   pub formed : well-formed n ≡ true
 
 abbrev pub presence-of : ℕ → Name → ℕ → Presence

@@ -25,10 +25,10 @@ fn is_one_unknown(base: &[u8], target: usize, source: usize) -> bool
     requires { ⌜ length (now base) ≡ base-length ⌝ }
     ensures { λ r. ⌜ r ≡ unknown-sds (schema-of (now (base .entry))) target || unknown-sds (schema-of (now (base .entry))) source ⌝ }
 {
-    if !lookup::is_sds(base, target) {
+    if !lookup::sdss::is_sds(base, target) {
         return true;
     }
-    !lookup::is_sds(base, source)
+    !lookup::sdss::is_sds(base, source)
 }
 
 // A new name may be blank.
@@ -88,7 +88,7 @@ fn named_by(
     if is_one_malformed(name, new, new_reverse) {
         return Told::refused(4);
     }
-    let t = working::find::type_in(base, source, name);
+    let t = lookup::named::type_in(base, source, name);
     if t == Limits::TYPES {
         return Told::refused(6);
     }
@@ -120,7 +120,7 @@ fn filled(base: &[u8], source: usize, t: usize, new: &[u8]) -> [u8; Limits::NAME
 {
     let mut field: [u8; Limits::NAME] = [0; Limits::NAME];
     if new.len() == 0 {
-        let row = lookup::presence_row(base, source, t);
+        let row = lookup::presences::presence_row(base, source, t);
         rows::table::write(&mut field, 0, base::presence_field(base, row));
         return field;
     }
@@ -136,7 +136,7 @@ fn enter_one(base: &mut [u8], d: usize, name: &[u8], t: usize) -> Answer
     requires { ⌜ Enters d (now name) t ⌝ }
     ensures { λ a. ⌜ Kept (now (base .entry)) (enter d (presence-of d (now (name .entry)) t ∷ []) t 0) a (now (base .exit)) ⌝ }
 {
-    if working::find::type_in(base, d, name) != Limits::TYPES {
+    if lookup::named::type_in(base, d, name) != Limits::TYPES {
         return Answer::refused(11);
     }
     if Limits::PRESENCES <= base::used::presence_count(base) {

@@ -26,7 +26,7 @@ use Rattle.base.proofs.Kept.{kept-done}
 use Rattle.base.proofs.StoredLaws.{shows-has, shows-stored, shows-next}
 use Rattle.base.specs.Tested.{Tested}
 use Rattle.conditions.specs.Aimed.{Aimed}
-use Rattle.conditions.proofs.NameLaws.{Two-names, two-names}
+use Rattle.rules.proofs.NameTests.{Two-names, two-names}
 use Rattle.conditions.proofs.AimedLaws.{all-passed, aimed-well, both-formed}
 use Rattle.change_types.specs.Create.{Ready}
 use Rattle.change_pairs.specs.Pair.{Two-free}
@@ -125,13 +125,13 @@ module _ {b : List ℕ} {d : ℕ} {n m : Name} {c c′ t r : ℕ} (x : Pair-read
 
     module _ {b₃ : List ℕ} (v : Becomes b₂ r (paired c′ t) b₃) where
       -- what its presence needs
-      pub reverse-ready : Stored b₃ × (((d < 256) × (r < 256))
+      pub reverse-ready : Stored b₃ × (((d ≡ 0 → ⊥) × ((d < 256) × (r < 256)))
           × ((well-formed m ≡ true) × ((length ((schema-of b₃) .presences) < 512) × (bears (schema-of b₃) d m ≡ false))))
       reverse-ready =
           let small : (d < 256) × (r < 256) = (omega (arith, x .aim .below), omega (arith, f .reverse-below)) in (
             shows-stored v,
             (
-              small,
+              (x .aim .outside, small),
               (
                 x .formed .1,
                 (room-typed b₂ r (paired c′ t) v d m room-left, free-typed b₂ r (paired c′ t) v d m reverse-free),

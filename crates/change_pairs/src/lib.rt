@@ -1,4 +1,5 @@
 // A pair of link types, each the reverse of the other.
+use base::Base;
 use conditions::aimed::Told;
 use rules::Answer;
 use rules::Limits;
@@ -21,10 +22,10 @@ fn is_no_pair(category: usize, back: usize) -> bool
     if 3 < back {
         return true;
     }
-    if category != 3 {
+    if category != Base::IMPLICIT {
         return false;
     }
-    back == 3
+    back == Base::IMPLICIT
 }
 
 // Room for two types more, each with a presence; then the numbers that the forward type and its reverse take.
@@ -32,11 +33,11 @@ fn room_for_two(base: &[u8]) -> Told
     requires { ⌜ Sound (now base) ⌝ }
     ensures { λ r. ⌜ Refused-or (now (base .entry)) (room-refusals (now (base .entry))) (r .no) (Two-free (now (base .entry)) (r .one) (r .two)) ⌝ }
 {
-    let t = conditions::free_type(base, 0);
+    let t = lookup::types::free_type(base, 0);
     if Limits::TYPES <= t {
         return Told::refused(14);
     }
-    let r = conditions::free_type(base, t + 1);
+    let r = lookup::types::free_type(base, t + 1);
     if Limits::TYPES <= r {
         return Told::refused(14);
     }
@@ -89,9 +90,9 @@ pub fn new_pair(
     if places.no != 0 {
         return Answer::refused(places.no);
     }
-    edit::write_type(base, places.one, 3, category, places.two, b"");
+    edit::write_type(base, places.one, Base::LINK, category, places.two, b"");
     edit::put_presence(base, sds, name, places.one);
-    edit::write_type(base, places.two, 3, back, places.one, b"");
+    edit::write_type(base, places.two, Base::LINK, back, places.one, b"");
     edit::put_presence(base, sds, reverse, places.two);
     Answer::done(places.one, places.two, 0)
 }

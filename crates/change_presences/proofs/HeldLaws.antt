@@ -1,18 +1,16 @@
 -- A type that is in an SDS by one presence, and the row of that presence. Assumes nothing.
 use Prim.Native.Nat.{ℕ, _<_}
-use mathlib.Core.Path.{_≡_, refl, sym, _∙_, subst}
-use mathlib.Core.List.{List, []}
+use mathlib.Core.Path.{_≡_, sym, _∙_, subst}
+use mathlib.Core.List.{List}
 use mathlib.Core.Bool.{true}
 use lib.Dec.{eqb}
-use borrow.Author.Tests.{eqb-true, eq-eqb, ltb-true}
-use Rattle.rules.specs.01-Lists.{_∈_, first}
-use Rattle.rules.specs.03-Names.{Name, same-name}
-use Rattle.rules.specs.04-Schema.{Schema, Presence, holds-type, holds-name, present, bears, type-named}
+use borrow.Author.Tests.{eqb-true, ltb-true}
+use Rattle.rules.specs.03-Names.{Name}
+use Rattle.rules.specs.04-Schema.{Schema, Presence, holds-type, present, bears, type-named}
 use Rattle.rules.specs.06-Good.{Good}
 use Rattle.rules.specs.10-Changes.{with-presences}
-use Rattle.rules.proofs.Bools.{and-both, and-of}
-use Rattle.rules.proofs.01-Lists.{any-at}
-use Rattle.rules.proofs.Edits.{first-in}
+use Rattle.rules.proofs.Bools.{and-both}
+use Rattle.rules.proofs.08-Working.{named-present}
 use Rattle.base.specs.Back.{schema-of, presence-count, presence-shown}
 use Rattle.lookup.specs.Found.{Presence-row}
 use Rattle.base.specs.Stored.{less-row, Shows, Stored}
@@ -20,16 +18,6 @@ use Rattle.base.proofs.Shown.{presence-there}
 use Rattle.edit.proofs.TakenLaws.{presence-without}
 use Rattle.lookup.proofs.Walked.{some-presence, first-presence, presence-first}
 use Rattle.change_presences.specs.Remove.{Held-once, less-presence}
-
--- the type that bears a name is there under it
-pub bearer : (s : Schema) (d : ℕ) (n : Name) → bears s d n ≡ true
-    → (p : Presence) × (p ∈ s .presences) × (p .sds ≡ d) × (same-name (p .name) n ≡ true) × (p .type ≡ type-named s d n)
-unfolding bears type-named
-bearer s d n e =
-    let p = first (holds-name d n) (record { sds = 0; name = []; type = 0 }) (s .presences) in
-    let (i, h) = first-in (holds-name d n) (record { sds = 0; name = []; type = 0 }) (s .presences) e in
-    let (x, y) = and-both (eqb (p .sds) d) (same-name (p .name) n) h in
-    (p, i, eqb-true (p .sds) d x, y, refl)
 
 -- in a good schema a type that is there is there once
 module _ {s : Schema} (good : Good s) where
@@ -43,10 +31,7 @@ module _ {s : Schema} (good : Good s) where
   }
 
   pub held-named : {d t : ℕ} (n : Name) → bears s d n ≡ true → t ≡ type-named s d n → Held-once s d t
-  unfolding present
-  held-named {d} {t} n e q =
-      let (p, i, at, same, type) = bearer s d n e in
-      held d t (any-at (holds-type d t) i (and-of (eqb (p .sds) d) (eqb (p .type) t) (eq-eqb (p .sds) d at) (eq-eqb (p .type) t (type ∙ sym q))))
+  held-named {d} {t} n e q = held d t (named-present s d n e q)
 
 pub held-row : {b : List ℕ} → Good (schema-of b) → {d t r : ℕ} → Presence-row b (presence-count b) d t r → r < presence-count b
     → Held-once (schema-of b) d t

@@ -15,7 +15,7 @@ use Rattle.rules.specs.07-Picture.{Sound, picture}
 use Rattle.rules.specs.09-Refusals.{Outcome, still-used}
 use Rattle.rules.specs.09-Refusals.Outcome.{done}
 use Rattle.rules.specs.10-Changes.{with-presences, less-gone, remove-type, remove-type-refusals}
-use Rattle.rules.proofs.Bools.{and-both}
+use Rattle.rules.proofs.Bools.{and-both, or-first, or-next}
 use Rattle.rules.proofs.01-Lists.{any-at, any-where}
 use Rattle.rules.proofs.Edits.{without-in, without-keeps, without-same, without-twice}
 use Rattle.rules.proofs.09-Refusals.{Left}
@@ -27,7 +27,6 @@ use Rattle.base.proofs.TestedLaws.{tested-sound, tested-passes}
 use Rattle.conditions.specs.Aimed.{With-reverse, Refused-or}
 use Rattle.conditions.specs.Reverse.{one-or-none, Reverse-of}
 use Rattle.conditions.proofs.AimedLaws.{all-passed, name-borne}
-use Rattle.conditions.proofs.ConditionLaws.{or-first, or-next}
 use Rattle.conditions.proofs.ReverseLaws.{one-is, none-is}
 use Rattle.change_presences.specs.Remove.{Held-once, less-presence}
 use Rattle.change_presences.proofs.HeldLaws.{held, held-named}

@@ -18,21 +18,21 @@ use Rattle.rules.specs.10-Changes.{with-presences, rename, rename-refusals}
 use Rattle.rules.proofs.Bools.{and-both, and-of}
 use Rattle.rules.proofs.01-Lists.{any-at, any-none}
 use Rattle.rules.proofs.Edits.{without-in}
-use Rattle.rules.proofs.03-Names.{same-name-is}
+use Rattle.rules.proofs.03-Names.{same-asked}
 use Rattle.rules.proofs.09-Refusals.{Left}
 use Rattle.base.specs.Back.{schema-of, presence-count}
-use Rattle.lookup.specs.Found.{Presence-row}
+use Rattle.lookup.specs.Found.{Presence-row, Named-in}
 use Rattle.base.specs.Stored.{less-row, Shows}
 use Rattle.base.proofs.Back.{sound-good}
 use Rattle.base.proofs.Shown.{presences-long}
 use Rattle.base.proofs.StoredLaws.{sound-stored, shows-schema}
-use Rattle.working.specs.Listed.{Named-in}
 use Rattle.base.proofs.TestedLaws.{tested-passes}
 use Rattle.conditions.specs.Aimed.{Aimed, Type-of, Refused-or}
-use Rattle.conditions.proofs.NameLaws.{borne, not-borne}
+use Rattle.lookup.proofs.NamedLaws.{borne, not-borne}
 use Rattle.conditions.proofs.AimedLaws.{all-passed, aimed-well, both-formed, name-borne}
 use Rattle.change_presences.specs.Remove.{less-presence}
-use Rattle.change_presences.proofs.HeldLaws.{bearer, held-named, held-row, row-below, row-taken}
+use Rattle.change_presences.proofs.HeldLaws.{held-named, held-row, row-below, row-taken}
+use Rattle.rules.proofs.08-Working.{bearer}
 
 -- ---- a row less
 
@@ -59,7 +59,7 @@ module _ {s : Schema} (good : Good s) (d : ℕ) (n : Name) where
           let (p′, i, at, same, type) = bearer s d n b in
           let (x, y) = and-both (eqb (p .sds) d) (same-name (p .name) n) q in
           let one : p ≡ p′ = good .local-names-unique p p′ j i (eqb-true (p .sds) d x ∙ sym at)
-          (ap (same-name (p .name)) (same-name-is (p′ .name) n same) ∙ y) in
+          (same-asked (p′ .name) n same (p .name) ∙ y) in
           let it : type-named s d n ≡ t = is-it (eqb (type-named s d n) t) refl b in
           absurd (true≢false (sym (and-of (eqb (p .sds) d) (eqb (p .type) t) x (eq-eqb (p .type) t (ap (λ (z : Presence). z .type) one ∙ type ∙ it))) ∙ gone))
         where

@@ -1,4 +1,5 @@
 // A type removed from an SDS, with its reverse.
+use base::Base;
 use conditions::aimed::Told;
 use rules::Answer;
 use rules::Limits;
@@ -6,6 +7,7 @@ ghost use mathlib.Core.Path.{_≡_};
 ghost use mathlib.Core.List.{[], _∷_};
 ghost use Prim.Native.Nat.{_≤_, _<_};
 ghost use Rattle.rules.specs.01-Lists.{any};
+ghost use Rattle.rules.specs.02-Limits.{limits};
 ghost use Rattle.rules.specs.07-Picture.{Sound};
 ghost use Rattle.rules.specs.09-Refusals.{still-used};
 ghost use Rattle.rules.specs.10-Changes.{less-gone, remove-type, remove-type-refusals};
@@ -36,18 +38,18 @@ fn take_out(base: &mut [u8], d: usize, t: usize)
     requires { ⌜ Held-once (schema-of (now base)) d t ⌝ }
     ensures { λ _. ⌜ Shows (now (base .exit)) (less-presence d t (schema-of (now (base .entry)))) ⌝ }
 {
-    let row = lookup::presence_row(base, d, t);
+    let row = lookup::presences::presence_row(base, d, t);
     edit::take_presence(base, row);
 }
 
 // Type t goes where it is in no SDS any more.
 fn drop_if_gone(base: &mut [u8], t: usize)
     requires { ⌜ Stored (now base) ⌝ }
-    requires { ⌜ t < 128 ⌝ }
+    requires { ⌜ t < limits .types ⌝ }
     ensures { λ _. ⌜ Shows (now (base .exit)) (less-gone (t ∷ []) (schema-of (now (base .entry)))) ⌝ }
 {
     if !conditions::is_elsewhere(base, t) {
-        edit::write_type(base, t, 0, 0, 0, b"");
+        edit::write_type(base, t, Base::UNUSED, 0, 0, b"");
     }
 }
 

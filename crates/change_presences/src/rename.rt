@@ -4,6 +4,7 @@ use rules::Answer;
 use rules::Limits;
 ghost use mathlib.Core.Path.{_≡_};
 ghost use Prim.Native.Nat.{_<_};
+ghost use Rattle.rules.specs.02-Limits.{limits};
 ghost use Rattle.rules.specs.07-Picture.{Sound};
 ghost use Rattle.rules.specs.09-Refusals.{borne-by-another};
 ghost use Rattle.rules.specs.10-Changes.{rename, rename-refusals};
@@ -13,10 +14,10 @@ ghost use Rattle.conditions.specs.Aimed.{Type-of, Refused-or};
 
 // Whether a type other than t bears the name in SDS d.
 fn is_borne_by_another(base: &[u8], d: usize, t: usize, name: &[u8]) -> bool
-    requires { ⌜ Sound (now base) × (d < 16) ⌝ }
+    requires { ⌜ Sound (now base) × (d < limits .sdss) ⌝ }
     ensures { λ r. ⌜ r ≡ borne-by-another (schema-of (now (base .entry))) d t (now (name .entry)) ⌝ }
 {
-    let other = working::find::type_in(base, d, name);
+    let other = lookup::named::type_in(base, d, name);
     if other == Limits::TYPES {
         return false;
     }
@@ -48,7 +49,7 @@ pub fn rename(base: &mut [u8], sds: usize, name: &[u8], new: &[u8]) -> Answer
     if told.no != 0 {
         return Answer::refused(told.no);
     }
-    let row = lookup::presence_row(base, sds, told.one);
+    let row = lookup::presences::presence_row(base, sds, told.one);
     edit::take_presence(base, row);
     edit::put_presence(base, sds, new, told.one);
     Answer::done(0, 0, 0)

@@ -24,10 +24,10 @@ pub fn new_sds(base: &mut [u8], name: &[u8]) -> Answer
     if !names::is_well_formed(name) {
         return Answer::refused(4);
     }
-    if lookup::has_sds_named(base, name) {
+    if lookup::sdss::has_sds_named(base, name) {
         return Answer::refused(11);
     }
-    let d = lookup::free_sds(base);
+    let d = lookup::sdss::free_sds(base);
     if Limits::SDSS <= d {
         return Answer::refused(14);
     }
@@ -42,7 +42,7 @@ pub fn remove_sds(base: &mut [u8], sds: usize) -> Answer
     if no != 0 {
         return Answer::refused(no);
     }
-    if lookup::holds_presence(base, sds) {
+    if lookup::presences::holds_presence(base, sds) {
         return Answer::refused(12);
     }
     edit::write_sds(base, sds, b"");

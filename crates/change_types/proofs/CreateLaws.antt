@@ -95,11 +95,11 @@ module _ (d : ℕ) (n : Name) where
 
 module _ {b : List ℕ} {d : ℕ} {n : Name} {t : ℕ} (r : Ready b d n t) (k : Kind) {b₁ : List ℕ} (w : Becomes b t k b₁) where
   -- what its presence needs once it has its row
-  pub presence-ready : Stored b₁ × (((d < 256) × (t < 256))
+  pub presence-ready : Stored b₁ × (((d ≡ 0 → ⊥) × ((d < 256) × (t < 256)))
       × ((well-formed n ≡ true) × ((length ((schema-of b₁) .presences) < 512) × (bears (schema-of b₁) d n ≡ false))))
   presence-ready =
       let small : (d < 256) × (t < 256) = (omega (arith, r .aim .below), omega (arith, r .room .below)) in
-      (shows-stored w, (small, (r .formed, (room-typed b t k w d n (r .room .room), free-typed b t k w d n (r .room .free)))))
+      (shows-stored w, ((r .aim .outside, small), (r .formed, (room-typed b t k w d n (r .room .room), free-typed b t k w d n (r .room .free)))))
 
   pub made-kept : {rule : Schema → Outcome Schema} {a : Answer} {b₂ : List ℕ} → rule (schema-of b) ≡ made d n k (schema-of b) → a ≡ success t 0 0
       → Shows b₂ (with-presences (schema-of b₁) (put presence-before (record { sds = d; name = n; type = t }) ((schema-of b₁) .presences)))

@@ -1,4 +1,5 @@
 // The calls that make types. What they test of their inputs they test once, in the order of their refusals.
+use base::Base;
 use conditions::aimed::Told;
 use rules::Answer;
 use rules::Limits;
@@ -15,10 +16,10 @@ pub fn room_for(base: &[u8], sds: usize, name: &[u8]) -> Told
     ensures { λ r. ⌜ Refused-or (now (base .entry)) (room-refusals (schema-of (now (base .entry))) sds (now (name .entry))) (r .no)
         (Room (now (base .entry)) sds (now (name .entry)) (r .one)) ⌝ }
 {
-    if working::find::type_in(base, sds, name) != Limits::TYPES {
+    if lookup::named::type_in(base, sds, name) != Limits::TYPES {
         return Told::refused(11);
     }
-    let t = conditions::free_type(base, 0);
+    let t = lookup::types::free_type(base, 0);
     if Limits::TYPES <= t {
         return Told::refused(14);
     }
@@ -54,7 +55,7 @@ pub fn new_attribute(base: &mut [u8], sds: usize, name: &[u8], value: usize) -> 
     if place.no != 0 {
         return Answer::refused(place.no);
     }
-    edit::write_type(base, place.one, 2, value, 0, b"");
+    edit::write_type(base, place.one, Base::ATTRIBUTE, value, 0, b"");
     edit::put_presence(base, sds, name, place.one);
     Answer::done(place.one, 0, 0)
 }
@@ -66,7 +67,7 @@ pub fn new_designation(base: &mut [u8], sds: usize, name: &[u8]) -> Answer
     if place.no != 0 {
         return Answer::refused(place.no);
     }
-    edit::write_type(base, place.one, 3, 4, 0, b"");
+    edit::write_type(base, place.one, Base::LINK, Base::DESIGNATION, 0, b"");
     edit::put_presence(base, sds, name, place.one);
     Answer::done(place.one, 0, 0)
 }

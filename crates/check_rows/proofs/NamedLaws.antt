@@ -10,24 +10,26 @@ use lib.ListN.{length, getD, take, drop, replicate}
 use lib.Seq.{drop-drop, take-add}
 use borrow.Author.Tests.{ltb-true, ltb-false, ne-eqb, lt-leb}
 use Rattle.rules.specs.01-Lists.{same-bytes}
+use Rattle.rules.specs.02-Limits.{limits}
 use Rattle.rules.specs.03-Names.{Name, well-formed, blank, same-name}
 use Rattle.rules.specs.04-Schema.{kind-of, is-used, sds-name, used-sds, system-name, system-presence}
 use Rattle.rules.specs.04-Schema.Kind.{unused, object, attribute, designation, paired}
-use Rattle.rules.specs.07-Picture.{pad, sds-row, presence-row}
+use Rattle.rules.specs.07-Picture.{pad, sds-row, presence-row, base-length, presence-width, type-width}
 use Rattle.rules.proofs.Bools.{or-cases, or-left, or-right, and-both, and-of}
 use Rattle.rules.proofs.01-Lists.{same-bytes-is, same-bytes-refl}
-use Rattle.rules.proofs.03-Names.{same-name-is, same-name-refl}
+use Rattle.rules.proofs.03-Names.{same-turned, same-long, Fits, formed-fits, blank-fits, pad-same}
 use Rattle.rules.proofs.07-Picture.{strip-blank}
-use Rattle.rules.specs.Read.{strip, read-kind}
+use Rattle.rules.specs.Read.{strip, read-kind, name-offset, type-offset}
 use Rattle.name_fields.specs.Field.{name-field, blank-field}
 use Rattle.rows.specs.Rows.{part}
 use Rattle.rows.proofs.Rows.{part-byte}
 use Rattle.rows.proofs.Scan.{part-cons, length-part}
+use Rattle.base.specs.Tables.{presences, row-of, shown}
 use Rattle.base.specs.Rows.{sds-at, type-at, presence-at}
 use Rattle.base.specs.Back.{schema-of, sds-shown, presence-shown}
-use Rattle.base.proofs.Shown.{sds-is, kind-is, kind-none, shows-unused}
+use Rattle.base.proofs.Shown.{sdss-long, sds-is, kind-is, kind-none, shows-unused, presence-read}
 use Rattle.lookup.proofs.SdsShown.{used-below}
-use Rattle.check_rows.specs.Parts.{Sdss}
+use Rattle.check_rows.specs.Fine.{Sdss-fine}
 use Rattle.check_rows.specs.Named.{fine-field, Alone}
 
 -- ---- a field
@@ -59,15 +61,15 @@ used-name n u e = false≢true (rw e at u)
 
 -- ---- SDSs
 
-module _ (b : List ℕ) (long : length b ≡ 13312) where
-  field-long : (d : ℕ) → d < 16 → length (part b (sds-at d) 16) ≡ 16
-  field-long d h = length-part b (sds-at d) 16 (omega arith)
+module _ (b : List ℕ) (long : length b ≡ base-length) where
+  field-long : (d : ℕ) → d < 16 → length (part b (sds-at d) (limits .name)) ≡ 16
+  field-long d h = length-part b (sds-at d) (limits .name) (omega arith)
 
   -- a fine field is written back as it stands
-  fine-written : (d : ℕ) → d < 16 → fine-field b d ≡ true → sds-row (sds-shown b d) ≡ part b (sds-at d) 16
+  fine-written : (d : ℕ) → d < 16 → fine-field b d ≡ true → sds-row (sds-shown b d) ≡ part b (sds-at d) (limits .name)
   unfolding sds-row
   fine-written d h e =
-      let f = part b (sds-at d) 16 in
+      let f = part b (sds-at d) (limits .name) in
       ⊎-elim
       (λ q. let z = blank-zeros f (field-long d h) q in ap (pad 16) (ap strip z ∙ strip-blank) ∙ sym z)
       (name-field-padded f)
@@ -76,23 +78,23 @@ module _ (b : List ℕ) (long : length b ≡ 13312) where
   fine-named : (d : ℕ) → d < 16 → fine-field b d ≡ true → used-sds (schema-of b) d ≡ true → well-formed (sds-name (schema-of b) d) ≡ true
   unfolding used-sds
   fine-named d h e u =
-      let f = part b (sds-at d) 16 in
+      let f = part b (sds-at d) (limits .name) in
       ⊎-elim
       (λ q. absurd (used-name (sds-name (schema-of b) d) u (sds-is b d h ∙ ap strip (blank-zeros f (field-long d h) q) ∙ strip-blank)))
       (λ q. rw (sds-is b d h) (name-field-formed f q))
       (or-cases (blank-field f) (name-field f) e)
 
-  sdss-fine : Sdss b → (d : ℕ) → d < 16 → fine-field b d ≡ true
+  sdss-fine : Sdss-fine b → (d : ℕ) → d < 16 → fine-field b d ≡ true
   unfolding used-sds sds-row
   sdss-fine s d h = go (not (blank (sds-shown b d))) refl
     where
       f : List ℕ
-      f = part b (sds-at d) 16
+      f = part b (sds-at d) (limits .name)
 
       go : (t : Bool) → not (blank (sds-shown b d)) ≡ t → fine-field b d ≡ true
       go true q =
           or-right (blank-field f) (name-field f)
-          (name-field-of f (rw (sds-is b d h) at (s .sds-named d (rw (sds-is b d h) q))) (s .sds-fields d h))
+          (name-field-of f (rw (sds-is b d h) at (s .sdss .named d (rw (sds-is b d h) q))) (s .sds-fields d h))
       go false q =
           or-left (blank-field f) (name-field f) (zeros-blank f (sym (s .sds-fields d h) ∙ ap (pad 16) (no-name (sds-shown b d) q)))
         where
@@ -102,50 +104,62 @@ module _ (b : List ℕ) (long : length b ≡ 13312) where
 
   -- two fields are the same exactly where the names are
   module _ (fine : (d : ℕ) → d < 16 → fine-field b d ≡ true) where
-    same-fields : (d e : ℕ) → d < 16 → e < 16 → same-name (sds-name (schema-of b) d) (sds-name (schema-of b) e) ≡ true
-        → same-name (part b (sds-at d) 16) (part b (sds-at e) 16) ≡ true
+    fits : (d : ℕ) → d < 16 → Fits (sds-shown b d)
+    fits d h =
+        let f = part b (sds-at d) (limits .name) in
+        ⊎-elim
+        (λ q. rw (blank-zeros f (field-long d h) q, strip-blank) blank-fits)
+        (λ q. formed-fits (strip f) (name-field-formed f q))
+        (or-cases (blank-field f) (name-field f) (fine d h))
+
+    same-fields : (d e : ℕ) → d < 16 → e < 16
+        → same-name (part b (sds-at d) (limits .name)) (part b (sds-at e) (limits .name)) ≡ same-name (sds-name (schema-of b) d) (sds-name (schema-of b) e)
     unfolding sds-row
-    same-fields d e h k q =
-        let n : sds-shown b d ≡ sds-shown b e = sym (sds-is b d h) ∙ same-name-is (sds-name (schema-of b) d) (sds-name (schema-of b) e) q ∙ sds-is b e k in
-        let f : part b (sds-at d) 16 ≡ part b (sds-at e) 16 = sym (fine-written d h (fine d h)) ∙ ap (pad 16) n ∙ fine-written e k (fine e k) in
-        rw f (same-name-refl (part b (sds-at e) 16))
+    same-fields d e h k =
+        rw (← fine-written d h (fine d h), ← fine-written e k (fine e k), sds-is b d h, sds-is b e k) (pad-same (fits d h) (fits e k))
 
     unique : ((d : ℕ) → d < 16 → Alone b d) → (d e : ℕ) → used-sds (schema-of b) d ≡ true → used-sds (schema-of b) e ≡ true
         → same-name (sds-name (schema-of b) d) (sds-name (schema-of b) e) ≡ true → d ≡ e
     unique a d e u v q = go (ltb d e) refl (ltb e d) refl
       where
         go : (x : Bool) → ltb d e ≡ x → (y : Bool) → ltb e d ≡ y → d ≡ e
-        go true l y m = absurd (a d (used-below b long d u) u e (used-below b long e v) (ltb-true d e l) (same-fields d e (used-below b long d u) (used-below b long e v) q))
+        go true l y m =
+            absurd (a d (used-below b long d u) u e (used-below b long e v) (ltb-true d e l)
+            (same-fields d e (used-below b long d u) (used-below b long e v) ∙ q))
         go false l true m =
             absurd (a e (used-below b long e v) v d (used-below b long d u) (ltb-true e d m)
-            (same-fields e d (used-below b long e v) (used-below b long d u) (rw (same-name-is (sds-name (schema-of b) d) (sds-name (schema-of b) e) q) (same-name-refl (sds-name (schema-of b) e)))))
+            (same-fields e d (used-below b long e v) (used-below b long d u) ∙ same-turned (sds-name (schema-of b) e) (sds-name (schema-of b) d) ∙ q))
         go false l false m = omega (arith, ltb-false d e l, ltb-false e d m)
 
-  pub fields-of : Sdss b → (d : ℕ) → d < 16 → fine-field b d ≡ true
+  pub fields-of : Sdss-fine b → (d : ℕ) → d < 16 → fine-field b d ≡ true
   fields-of = sdss-fine
 
-  pub alone-of : Sdss b → (d : ℕ) → d < 16 → Alone b d
+  pub alone-of : Sdss-fine b → (d : ℕ) → d < 16 → Alone b d
   unfolding used-sds
   alone-of s d h u e k l q =
-      let f : part b (sds-at d) 16 ≡ part b (sds-at e) 16 = same-name-is (part b (sds-at d) 16) (part b (sds-at e) 16) q in
-      let n : sds-name (schema-of b) d ≡ sds-name (schema-of b) e = sds-is b d h ∙ ap strip f ∙ sym (sds-is b e k) in
-      let same : d ≡ e = s .sds-names-unique d e u (rw (← n) u) (rw n (same-name-refl (sds-name (schema-of b) e))) in
+      let n : same-name (sds-name (schema-of b) d) (sds-name (schema-of b) e) ≡ true = sym (same-fields (sdss-fine s) d e h k) ∙ q in
+      let v : not (blank (sds-name (schema-of b) e)) ≡ true = rw (same-long (sds-name (schema-of b) d) (sds-name (schema-of b) e) n) at u in
+      let same : d ≡ e = s .sdss .unique d e u v n in
       omega arith
 
-  pub system-of : Sdss b → (f : List ℕ) → f ≡ part b (sds-at 0) 16 → same-bytes f (pad 16 system-name) ≡ true
+  pub system-of : Sdss-fine b → (f : List ℕ) → f ≡ part b (sds-at 0) (limits .name) → same-bytes f (pad 16 system-name) ≡ true
   unfolding sds-row
   system-of s f e =
-      let z : part b (sds-at 0) 16 ≡ pad 16 system-name = sym (s .sds-fields 0 (omega arith)) ∙ ap (pad 16) (sym (sds-is b 0 (omega arith)) ∙ s .system-named) in
+      let z : part b (sds-at 0) (limits .name) ≡ pad 16 system-name
+      = sym (s .sds-fields 0 (omega arith)) ∙ ap (pad 16) (sym (sds-is b 0 (omega arith)) ∙ s .sdss .system) in
       rw (e, z) (same-bytes-refl (pad 16 system-name))
 
   pub sdss-of : ((d : ℕ) → d < 16 → fine-field b d ≡ true) → ((d : ℕ) → d < 16 → Alone b d)
-      → (f : List ℕ) → f ≡ part b (sds-at 0) 16 → same-bytes f (pad 16 system-name) ≡ true → Sdss b
-  unfolding pad strip
+      → (f : List ℕ) → f ≡ part b (sds-at 0) (limits .name) → same-bytes f (pad 16 system-name) ≡ true → Sdss-fine b
+  unfolding pad strip used-sds
   sdss-of fine a f e q = record {
     sds-fields = λ d h. fine-written d h (fine d h);
-    sds-named = λ d u. fine-named d (used-below b long d u) (fine d (used-below b long d u)) u;
-    sds-names-unique = unique fine a;
-    system-named = sds-is b 0 (omega arith) ∙ ap strip (sym e ∙ same-bytes-is f (pad 16 system-name) q);
+    sdss = record {
+      room = sdss-long b;
+      named = λ d u. fine-named d (used-below b long d u) (fine d (used-below b long d u)) u;
+      unique = unique fine a;
+      system = sds-is b 0 (omega arith) ∙ ap strip (sym e ∙ same-bytes-is f (pad 16 system-name) q);
+    };
   }
 
 pub fine-blank : (f : List ℕ) → blank-field f ≡ true → true ≡ blank-field f || name-field f
@@ -160,7 +174,7 @@ module _ (b : List ℕ) (t x : ℕ) where
   pub used-kind : t < 128 → x ≡ getD b (type-at t) 0 → (x ≡ 0 → ⊥) → leb x 3 ≡ is-used (kind-of (schema-of b) t)
   unfolding read-kind
   used-kind h e n =
-      let r = part b (type-at t) 8 in
+      let r = part b (type-at t) type-width in
       let first : getD r 0 0 ≡ x = part-byte b (type-at t) 8 0 (omega arith) ∙ ap (λ (k : ℕ). getD b k 0) (omega arith) ∙ sym e in
       rw (kind-is b t h, first) (go x n (take (getD r 3 0) (drop 4 r)) (getD r 1 0) (getD r 2 0) (eqb (getD r 1 0) 4))
     where
@@ -187,31 +201,34 @@ unused-past b t h = rw (kind-none b t h)
 
 -- ---- presences
 
-module _ (b : List ℕ) (long : length b ≡ 13312) (i : ℕ) (h : i < 512) where
+module _ (b : List ℕ) (long : length b ≡ base-length) (i : ℕ) (h : i < limits .presences) where
   -- a row is its SDS, its field and its type
-  pub row-parts : part b (presence-at i) 18 ≡ getD b (presence-at i) 0 ∷ (part b (presence-at i + 1) 16 ++ (getD b (presence-at i + 17) 0 ∷ []))
+  pub row-parts : row-of presences b i
+      ≡ getD b (presence-at i) 0 ∷ (part b (presence-at i + name-offset) (limits .name) ++ (getD b (presence-at i + type-offset) 0 ∷ []))
   row-parts =
       let at = presence-at i in
-      part-cons b at 18 17 (omega arith) refl
-      ∙ ap (λ (l : List ℕ). getD b at 0 ∷ l) (take-add 16 1 (drop (at + 1) b)
-      ∙ ap (λ (l : List ℕ). part b (at + 1) 16 ++ l) (ap (take 1) (drop-drop 16 (at + 1) b) ∙ last))
+      let w = limits .name in
+      part-cons b at presence-width type-offset (omega arith) refl
+      ∙ ap (λ (l : List ℕ). getD b at 0 ∷ l) (take-add w 1 (drop (at + name-offset) b)
+      ∙ ap (λ (l : List ℕ). part b (at + name-offset) w ++ l) (ap (take 1) (drop-drop w (at + name-offset) b) ∙ last))
     where
-      last : part b (presence-at i + 1 + 16) 1 ≡ getD b (presence-at i + 17) 0 ∷ []
+      last : part b (presence-at i + name-offset + limits .name) 1 ≡ getD b (presence-at i + type-offset) 0 ∷ []
       last =
-          let same : presence-at i + 1 + 16 ≡ presence-at i + 17 = omega arith in
-          rw same (part-cons b (presence-at i + 17) 1 0 (omega arith) refl)
+          let same : presence-at i + name-offset + limits .name ≡ presence-at i + type-offset = omega arith in
+          rw same (part-cons b (presence-at i + type-offset) 1 0 (omega arith) refl)
 
-  pub named-written : name-field (part b (presence-at i + 1) 16) ≡ true → presence-row (presence-shown b i) ≡ part b (presence-at i) 18
+  pub named-written : name-field (part b (presence-at i + name-offset) (limits .name)) ≡ true → presence-row (shown presences b i) ≡ row-of presences b i
   unfolding presence-row
-  named-written e = rw (row-parts, name-field-padded (part b (presence-at i + 1) 16) e)
+  named-written e = ap presence-row (presence-read b i) ∙ rw (name-field-padded (part b (presence-at i + name-offset) (limits .name)) e) (sym row-parts)
 
-  pub written-named : well-formed ((presence-shown b i) .name) ≡ true → presence-row (presence-shown b i) ≡ part b (presence-at i) 18 → name-field
-      (part b (presence-at i + 1) 16) ≡ true
+  pub written-named : well-formed ((presence-shown b i) .name) ≡ true → presence-row (shown presences b i) ≡ row-of presences b i
+      → name-field (part b (presence-at i + name-offset) (limits .name)) ≡ true
   unfolding presence-row
   written-named w e =
-      let f = part b (presence-at i + 1) 16 in
-      let rest : pad 16 (strip f) ++ (getD b (presence-at i + 17) 0 ∷ []) ≡ f ++ (getD b (presence-at i + 17) 0 ∷ []) = tail-eq-of-cons-eq (e ∙ row-parts) in
-      name-field-of f w (append-cancel-right (pad 16 (strip f)) f (getD b (presence-at i + 17) 0 ∷ []) rest)
+      let f = part b (presence-at i + name-offset) (limits .name) in
+      let last = getD b (presence-at i + type-offset) 0 ∷ [] in
+      let rest : pad (limits .name) (strip f) ++ last ≡ f ++ last = tail-eq-of-cons-eq (sym (ap presence-row (presence-read b i)) ∙ e ∙ row-parts) in
+      name-field-of f w (append-cancel-right (pad (limits .name) (strip f)) f last rest)
 
 -- the field of the name that a fresh base has
 pub object-field : (f : List ℕ) → f ≡ pad 16 (system-presence .name) → same-bytes f (111 ∷ 98 ∷ 106 ∷ 101 ∷ 99 ∷ 116 ∷ replicate 10 0) ≡ true

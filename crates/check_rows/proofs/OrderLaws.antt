@@ -1,30 +1,30 @@
--- Rows of bytes that rise are presences, applications and ends that rise; of presences the first 17 bytes also tell names apart.
+-- Rows of bytes that rise are presences that rise, and those of their bytes that are compared tell names apart.
 -- Assumes nothing.
-use Prim.Native.Nat.{ℕ, zero, suc, _+_, _*_, _≤_, _<_}
+use Prim.Native.Nat.{ℕ, suc, _<_}
 use native.Mathlib.Omega.{arith}
-use mathlib.Core.Path.{_≡_, refl, sym, ap, _∙_, subst}
+use mathlib.Core.Path.{_≡_, refl, sym, ap, _∙_}
 use mathlib.Core.Logic.{⊎-elim}
-use mathlib.Core.List.{List, [], _∷_, _++_}
+use mathlib.Core.List.{List, [], _∷_}
 use mathlib.Core.Bool.{Bool, true, false, not, _&&_, _||_, true≢false, false≢true}
 use lib.Dec.{ltb, eqb}
-use lib.ListN.{length, getD, take, drop}
+use lib.ListN.{take, drop}
 use lib.Seq.{take-at, take-take}
 use borrow.Author.Tests.{ltb-true, ltb-false, le-ltb, eqb-true, eq-eqb}
 use Rattle.rules.specs.01-Lists.{_∈_, bytes-before, rising}
-use Rattle.rules.specs.03-Names.{Name, well-formed, same-name, name-before}
-use Rattle.rules.specs.04-Schema.{Presence, system-presence, presence-before, application-before, end-before}
-use Rattle.rules.specs.07-Picture.{pad, presence-row, application-row, end-row}
-use Rattle.rules.proofs.Bools.{or-cases, or-left, or-right, and-both, and-of}
-use Rattle.rules.proofs.01-Lists.{before-irreflexive, before-connected, rising-at, at-rising}
-use Rattle.rules.proofs.03-Names.{same-name-is, pad-before, name-connected, name-irreflexive}
+use Rattle.rules.specs.02-Limits.{limits}
+use Rattle.rules.specs.03-Names.{well-formed, same-name, name-before}
+use Rattle.rules.specs.04-Schema.{Presence, system-presence, presence-before}
+use Rattle.rules.specs.07-Picture.{pad, presence-row, presence-width}
+use Rattle.rules.proofs.Bools.{or-cases, and-both, fails}
+use Rattle.rules.proofs.01-Lists.{rising-at, at-rising}
+use Rattle.rules.proofs.03-Names.{same-name-refl, same-turned, name-connected, name-irreflexive, apart, pad-apart}
 use Rattle.rules.proofs.07-Picture.{length-pad}
-use Rattle.rows.specs.Rows.{part, Rising}
-use Rattle.rows.proofs.Scan.{rising-far, part-cons, length-part}
-use Rattle.base.specs.Rows.{presence-at, application-at, end-at}
-use Rattle.base.specs.Back.{schema-of, presence-count, application-count, end-count, presence-shown, application-shown, end-shown}
-use Rattle.base.proofs.Shown.{presences-long, applications-long, ends-long, presence-is, application-is, end-is, presence-in, presence-there}
-use Rattle.base.proofs.Back.{no-application, no-end}
-use Rattle.base.proofs.OrderedLaws.{application-rows, end-rows}
+use Rattle.rows.specs.Rows.{part}
+use Rattle.rows.proofs.Scan.{rising-far}
+use Rattle.base.specs.Tables.{In-order, by-name, presences, Written, row-of, shown}
+use Rattle.base.specs.Rows.{presence-at}
+use Rattle.base.specs.Back.{schema-of, presence-count, presence-shown}
+use Rattle.base.proofs.Shown.{presences-long, presence-is, presence-in, presence-there, presence-read}
 
 -- neither of two numbers is less
 equal : (i j : ℕ) → (i < j → ⊥) → (j < i → ⊥) → i ≡ j
@@ -37,29 +37,29 @@ equal i j f g = go (ltb i j) refl (ltb j i) refl
 
 -- ---- presences: by SDS and name
 
--- what the first 17 bytes of a row say
-abbrev pub front : Presence → List ℕ
-front p = p .sds ∷ pad 16 (p .name)
+-- what the bytes of a row that are compared say
+abbrev front : Presence → List ℕ
+front p = p .sds ∷ pad (limits .name) (p .name)
 
 abbrev front-before : Presence → Presence → Bool
-front-before p q = ltb (p .sds) (q .sds) || (eqb (p .sds) (q .sds) && name-before (p .name) (q .name))
+front-before p q = ltb (p .sds) (q .sds) || (eqb (p .sds) (q .sds) && apart (p .name) (q .name))
 
 front-is : (p q : Presence) → well-formed (p .name) ≡ true → well-formed (q .name) ≡ true → bytes-before (front p) (front q) ≡ front-before p q
 unfolding bytes-before
-front-is p q f g = ap (λ (t : Bool). ltb (p .sds) (q .sds) || (eqb (p .sds) (q .sds) && t)) (pad-before (p .name) (q .name) f g)
+front-is p q f g = ap (λ (t : Bool). ltb (p .sds) (q .sds) || (eqb (p .sds) (q .sds) && t)) (pad-apart (p .name) (q .name) f g)
 
 front-presence : (p q : Presence) → front-before p q ≡ true → presence-before p q ≡ true
 unfolding presence-before
-front-presence p q e = go (ltb (p .sds) (q .sds)) (eqb (p .sds) (q .sds)) (name-before (p .name) (q .name)) e
+front-presence p q e = go (ltb (p .sds) (q .sds)) (eqb (p .sds) (q .sds)) (name-before (p .name) (q .name)) (not (same-name (p .name) (q .name))) e
   where
     rest : Bool
     rest = not (name-before (q .name) (p .name)) && ltb (p .type) (q .type)
 
-    go : (x y z : Bool) → x || (y && z) ≡ true → x || (y && (z || rest)) ≡ true
-    go true y z h = refl
-    go false true true h = refl
-    go false true false h = absurd (false≢true h)
-    go false false z h = absurd (false≢true h)
+    go : (x y z o : Bool) → x || (y && (z && o)) ≡ true → x || (y && (z || rest)) ≡ true
+    go true y z o h = refl
+    go false true true o h = refl
+    go false true false o h = absurd (false≢true h)
+    go false false z o h = absurd (false≢true h)
 
 presence-front : (p q : Presence) → presence-before p q ≡ true → (p .sds ≡ q .sds → same-name (p .name) (q .name) ≡ true → ⊥) → front-before p q ≡ true
 unfolding presence-before
@@ -67,34 +67,46 @@ presence-front p q e n =
     go (ltb (p .sds) (q .sds)) (eqb (p .sds) (q .sds)) refl (name-before (p .name) (q .name)) refl (name-before (q .name) (p .name)) refl e
   where
     go : (x y : Bool) → eqb (p .sds) (q .sds) ≡ y → (z : Bool) → name-before (p .name) (q .name) ≡ z → (v : Bool) → name-before (q .name) (p .name) ≡ v
-        → x || (y && (z || (not v && ltb (p .type) (q .type)))) ≡ true → x || (y && z) ≡ true
+        → x || (y && (z || (not v && ltb (p .type) (q .type)))) ≡ true → x || (y && (z && not (same-name (p .name) (q .name)))) ≡ true
     go true y f z g v k h = refl
-    go false true f true g v k h = refl
+    go false true f true g v k h = ap not (fails (same-name (p .name) (q .name)) (n (eqb-true (p .sds) (q .sds) f)))
     go false true f false g true k h = absurd (false≢true h)
-    go false true f false g false k h = absurd (n (eqb-true (p .sds) (q .sds) f) (name-connected (p .name) (q .name) g k))
+    go false true f false g false k h =
+        absurd (n (eqb-true (p .sds) (q .sds) f) (rw (name-connected (p .name) (q .name) g k) (same-name-refl (q .name))))
     go false false f z g v k h = absurd (false≢true h)
+
+front-other : (p q : Presence) → front-before p q ≡ true → p .sds ≡ q .sds → same-name (p .name) (q .name) ≡ true → ⊥
+front-other p q e d s =
+    ⊎-elim
+    (λ h. omega (arith, ltb-true (p .sds) (q .sds) h))
+    (λ h.
+    let (before, other) = and-both (name-before (p .name) (q .name)) (not (same-name (p .name) (q .name)))
+    (and-both (eqb (p .sds) (q .sds)) (apart (p .name) (q .name)) h .1) in
+    true≢false (sym other ∙ ap not s))
+    (or-cases (ltb (p .sds) (q .sds)) (eqb (p .sds) (q .sds) && apart (p .name) (q .name)) e)
 
 presence-irreflexive : (p : Presence) → presence-before p p ≡ false
 unfolding presence-before
 presence-irreflexive p = rw (le-ltb (p .sds) (p .sds) (omega arith), eq-eqb (p .sds) (p .sds) refl, name-irreflexive (p .name), le-ltb (p .type) (p .type) (omega arith))
 
 -- the front of a row that is as it would be written
-pub row-front : (b : List ℕ) (i : ℕ) → presence-row (presence-shown b i) ≡ part b (presence-at i) 18 → part b (presence-at i) 17 ≡ front (presence-shown b i)
+row-front : (b : List ℕ) (i : ℕ) → presence-row (shown presences b i) ≡ row-of presences b i → part b (presence-at i) (by-name .key) ≡ front (presence-shown b i)
 unfolding presence-row
 row-front b i e =
     let p = presence-shown b i in
-    sym (take-take 17 18 (drop (presence-at i) b) (omega arith)) ∙ ap (take 17) (sym e)
-    ∙ ap (λ (l : List ℕ). p .sds ∷ l) (take-at (pad 16 (p .name)) (p .type ∷ []) 16 (length-pad 16 (p .name)))
+    let w = limits .name in
+    sym (take-take (by-name .key) presence-width (drop (presence-at i) b) (omega arith)) ∙ ap (take (by-name .key)) (sym e ∙ ap presence-row (presence-read b i))
+    ∙ ap (λ (l : List ℕ). p .sds ∷ l) (take-at (pad w (p .name)) (p .type ∷ []) w (length-pad w (p .name)))
 
 module _ (b : List ℕ)
-    (written : (i : ℕ) → i < presence-count b → presence-row (presence-shown b i) ≡ part b (presence-at i) 18)
+    (written : Written presences (presence-count b) b)
     (named : (i : ℕ) → i < presence-count b → well-formed ((presence-shown b i) .name) ≡ true) where
   fronts : (i j : ℕ) → i < presence-count b → j < presence-count b
-      → bytes-before (part b (presence-at i) 17) (part b (presence-at j) 17) ≡ front-before (presence-shown b i) (presence-shown b j)
+      → bytes-before (part b (presence-at i) (by-name .key)) (part b (presence-at j) (by-name .key)) ≡ front-before (presence-shown b i) (presence-shown b j)
   fronts i j h k =
       rw (row-front b i (written i h), row-front b j (written j k)) (front-is (presence-shown b i) (presence-shown b j) (named i h) (named j k))
 
-  pub rise-presences : Rising b 1280 18 17 (presence-count b) → rising presence-before ((schema-of b) .presences) ≡ true
+  pub rise-presences : In-order by-name b (presence-count b) → rising presence-before ((schema-of b) .presences) ≡ true
   rise-presences r =
       at-rising presence-before system-presence ((schema-of b) .presences)
       (λ i h.
@@ -102,29 +114,35 @@ module _ (b : List ℕ)
       rw (presence-is b i system-presence (omega arith), presence-is b (suc i) system-presence k)
       (front-presence (presence-shown b i) (presence-shown b (suc i)) (sym (fronts i (suc i) (omega arith) k) ∙ r i k)))
 
-  -- rows with one front are one row
-  pub front-once : Rising b 1280 18 17 (presence-count b) → (i j : ℕ) → i < presence-count b → j < presence-count b
-      → front (presence-shown b i) ≡ front (presence-shown b j) → i ≡ j
-  front-once r i j h k e = equal i j (λ l. never i j h k l e) (λ l. never j i k h l (sym e))
+  -- rows of one SDS and the same name are one row: one that stands before another is apart from it
+  name-once : In-order by-name b (presence-count b) → (i j : ℕ) → i < presence-count b → j < presence-count b
+      → (presence-shown b i) .sds ≡ (presence-shown b j) .sds → same-name ((presence-shown b i) .name) ((presence-shown b j) .name) ≡ true → i ≡ j
+  name-once r i j h k d e =
+      equal i j (λ l. never i j h k l d e) (λ l. never j i k h l (sym d) (same-turned ((presence-shown b j) .name) ((presence-shown b i) .name) ∙ e))
     where
-      never : (i j : ℕ) → i < presence-count b → j < presence-count b → i < j → front (presence-shown b i) ≡ front (presence-shown b j) → ⊥
-      never i j h k l f =
-          true≢false (sym (rising-far b 1280 18 17 (presence-count b) r i j l k)
-          ∙ rw (row-front b i (written i h), row-front b j (written j k), f) (before-irreflexive (front (presence-shown b j))))
+      never : (i j : ℕ) → i < presence-count b → j < presence-count b → i < j → (presence-shown b i) .sds ≡ (presence-shown b j) .sds
+          → same-name ((presence-shown b i) .name) ((presence-shown b j) .name) ≡ true → ⊥
+      never i j h k l = front-other (presence-shown b i) (presence-shown b j)
+          (sym (fronts i j h k) ∙ rising-far b (presences .start) (presences .width) (by-name .key) (presence-count b) r i j l k)
 
-  -- rows of one SDS and one name are one row
-  pub rise-unique : Rising b 1280 18 17 (presence-count b) → (p q : Presence) → p ∈ (schema-of b) .presences → q ∈ (schema-of b) .presences
+  -- rows that show one presence are one row
+  pub row-once : In-order by-name b (presence-count b) → (i j : ℕ) → i < presence-count b → j < presence-count b
+      → presence-shown b i ≡ presence-shown b j → i ≡ j
+  row-once r i j h k e =
+      name-once r i j h k (ap (λ (p : Presence). p .sds) e)
+      (ap (λ (p : Presence). same-name (p .name) ((presence-shown b j) .name)) e ∙ same-name-refl ((presence-shown b j) .name))
+
+  pub rise-unique : In-order by-name b (presence-count b) → (p q : Presence) → p ∈ (schema-of b) .presences → q ∈ (schema-of b) .presences
       → p .sds ≡ q .sds → same-name (p .name) (q .name) ≡ true → p ≡ q
   rise-unique r p q m n s e =
       let (i, h, pi) = presence-in b p m in
       let (j, k, qj) = presence-in b q n in
-      let alike : front (presence-shown b i) ≡ front (presence-shown b j)
-      = ap front (sym pi) ∙ (λ x. s x ∷ pad 16 (same-name-is (p .name) (q .name) e x)) ∙ ap front qj in
-      pi ∙ ap (presence-shown b) (front-once r i j h k alike) ∙ sym qj
+      let d : (presence-shown b i) .sds ≡ (presence-shown b j) .sds = ap (λ (x : Presence). x .sds) (sym pi) ∙ s ∙ ap (λ (x : Presence). x .sds) qj in
+      pi ∙ ap (presence-shown b) (name-once r i j h k d (sym (λ x. same-name (pi x .name) (qj x .name)) ∙ e)) ∙ sym qj
 
   pub presences-rise : rising presence-before ((schema-of b) .presences) ≡ true
       → ((p q : Presence) → p ∈ (schema-of b) .presences → q ∈ (schema-of b) .presences → p .sds ≡ q .sds → same-name (p .name) (q .name) ≡ true → p ≡ q)
-      → Rising b 1280 18 17 (presence-count b)
+      → In-order by-name b (presence-count b)
   presences-rise r u i k =
       let p = presence-shown b i in
       let q = presence-shown b (suc i) in
@@ -136,46 +154,3 @@ module _ (b : List ℕ)
       let one : p ≡ q = u p q (presence-there b i (omega arith)) (presence-there b (suc i) k) s e in
       true≢false (sym before ∙ ap (presence-before p) (sym one) ∙ presence-irreflexive p) in
       fronts i (suc i) (omega arith) k ∙ presence-front p q before apart
-
--- ---- applications and ends: as their bytes stand
-
-module _ (b : List ℕ) where
-  application-bytes : (i : ℕ) → application-at i + 3 ≤ length b → part b (application-at i) 3 ≡ application-row (application-shown b i)
-  unfolding application-row
-  application-bytes i h =
-      let at = application-at i in
-      let two : at + 1 + 1 ≡ at + 2 = omega arith in
-      part-cons b at 3 2 (omega arith) refl
-      ∙ ap (λ (l : List ℕ). getD b at 0 ∷ l) (part-cons b (at + 1) 2 1 (omega arith) refl
-      ∙ ap (λ (l : List ℕ). getD b (at + 1) 0 ∷ l) (rw two (part-cons b (at + 2) 1 0 (omega arith) refl)))
-
-  pub rise-applications : length b ≡ 13312 → (application-count b ≤ 256) → Rising b 10496 3 3 (application-count b) → rising application-before ((schema-of b) .applications) ≡ true
-  rise-applications l m r =
-      at-rising application-before no-application ((schema-of b) .applications)
-      (λ i h.
-      let k : suc i < application-count b = omega (arith, applications-long b) in
-      rw (application-is b i no-application (omega arith), application-is b (suc i) no-application k)
-      (sym (application-rows (application-shown b i) (application-shown b (suc i)))
-      ∙ rw (← application-bytes i (omega arith), ← application-bytes (suc i) (omega arith)) (r i k)))
-
-  pub applications-rise : length b ≡ 13312 → (application-count b ≤ 256) → rising application-before ((schema-of b) .applications) ≡ true → Rising b 10496 3 3 (application-count b)
-  applications-rise l m r i k =
-      rw (application-bytes i (omega arith), application-bytes (suc i) (omega arith))
-      (application-rows (application-shown b i) (application-shown b (suc i))
-      ∙ (rw (application-is b i no-application (omega arith), application-is b (suc i) no-application k)
-      at (rising-at application-before no-application ((schema-of b) .applications) r i (omega (arith, applications-long b)))))
-
-  module _ (written : (i : ℕ) → i < end-count b → end-row (end-shown b i) ≡ part b (end-at i) 4) where
-    pub rise-ends : Rising b 11264 4 4 (end-count b) → rising end-before ((schema-of b) .ends) ≡ true
-    rise-ends r =
-        at-rising end-before no-end ((schema-of b) .ends)
-        (λ i h.
-        let k : suc i < end-count b = omega (arith, ends-long b) in
-        rw (end-is b i no-end (omega arith), end-is b (suc i) no-end k)
-        (sym (end-rows (end-shown b i) (end-shown b (suc i))) ∙ rw (written i (omega arith), written (suc i) k) (r i k)))
-
-    pub ends-rise : rising end-before ((schema-of b) .ends) ≡ true → Rising b 11264 4 4 (end-count b)
-    ends-rise r i k =
-        rw (← written i (omega arith), ← written (suc i) k)
-        (end-rows (end-shown b i) (end-shown b (suc i))
-        ∙ (rw (end-is b i no-end (omega arith), end-is b (suc i) no-end k) at (rising-at end-before no-end ((schema-of b) .ends) r i (omega (arith, ends-long b)))))

@@ -1,81 +1,63 @@
--- The bytes of an end are the row of what they show exactly where the side is 0 or 1. Assumes nothing.
-use Prim.Native.Nat.{ℕ, zero, suc, _+_, _*_, _-_, _≤_, _<_}
+-- What the tests of the rows behind the presences find is what is asked of them. Assumes nothing.
+use Prim.Native.Nat.{ℕ, _+_, _-_, _≤_, _<_}
 use native.Mathlib.Omega.{arith}
-use mathlib.Core.Path.{_≡_, refl, sym, ap, _∙_}
-use mathlib.Core.List.{List, [], _∷_}
-use lib.ListN.{length, getD, drop, replicate}
-use Rattle.rules.specs.04-Schema.{side-code}
-use Rattle.rules.specs.07-Picture.{end-row}
-use Rattle.rules.specs.Read.{read-side}
-use Rattle.rows.specs.Rows.{part, Rising, Counted}
-use Rattle.rows.proofs.Rows.{part-byte, filled-most}
-use Rattle.rows.proofs.Scan.{part-cons}
-use Rattle.base.specs.Rows.{application-at, end-at}
-use Rattle.base.specs.Back.{application-count, end-count, end-shown}
-use Rattle.check_rows.specs.Parts.{Rest}
-use Rattle.check_rows.proofs.OrderLaws.{rise-applications, applications-rise, rise-ends, ends-rise}
-
-side-same : (x : ℕ) → x ≤ 1 → side-code (read-side x) ≡ x
-unfolding read-side
-side-same zero h = refl
-side-same (suc zero) h = refl
-side-same (suc (suc x)) h = absurd (omega arith)
-
-side-small : (x : ℕ) → side-code (read-side x) ≤ 1
-unfolding read-side
-side-small zero = omega arith
-side-small (suc x) = omega arith
-
-module _ (b : List ℕ) (i : ℕ) where
-  pub side-written : end-at i + 4 ≤ length b → getD b (end-at i + 2) 0 ≤ 1 → end-row (end-shown b i) ≡ part b (end-at i) 4
-  unfolding end-row
-  side-written h s =
-      let at = end-at i in
-      let two : at + 1 + 1 ≡ at + 2 = omega arith in
-      let three : at + 2 + 1 ≡ at + 3 = omega arith in
-      sym (part-cons b at 4 3 (omega arith) refl
-      ∙ ap (λ (l : List ℕ). getD b at 0 ∷ l) (part-cons b (at + 1) 3 2 (omega arith) refl
-      ∙ ap (λ (l : List ℕ). getD b (at + 1) 0 ∷ l) (rw (two, side-same (getD b (at + 2) 0) s) (part-cons b (at + 2) 2 1 (omega arith) refl
-      ∙ ap (λ (l : List ℕ). getD b (at + 2) 0 ∷ l) (rw three (part-cons b (at + 3) 1 0 (omega arith) refl))))))
-
-  pub written-side : end-row (end-shown b i) ≡ part b (end-at i) 4 → getD b (end-at i + 2) 0 ≤ 1
-  unfolding end-row
-  written-side e =
-      let same : side-code (read-side (getD b (end-at i + 2) 0)) ≡ getD b (end-at i + 2) 0
-      = ap (λ (l : List ℕ). getD l 2 0) e ∙ part-byte b (end-at i) 4 2 (omega arith) in
-      omega (arith, same, side-small (getD b (end-at i + 2) 0))
+use mathlib.Core.Path.{_≡_, refl}
+use mathlib.Core.List.{List}
+use lib.ListN.{length, getD}
+use Rattle.rules.specs.02-Limits.{limits}
+use Rattle.rules.specs.07-Picture.{base-length}
+use Rattle.rules.specs.Read.{side-offset}
+use Rattle.rows.specs.Rows.{Counted}
+use Rattle.base.specs.Tables.{Blank-from, In-order, applications, by-application, by-end, ends, Written}
+use Rattle.base.specs.Rows.{end-at}
+use Rattle.base.specs.Back.{application-count, end-count, schema-of}
+use Rattle.base.proofs.Back.{applications-written, rows-few}
+use Rattle.base.proofs.OrderedLaws.{rise-things, things-rise}
+use Rattle.base.proofs.Shown.{applications-long, ends-long}
+use Rattle.base.proofs.Tables.{applications-sort, ends-sort}
+use Rattle.check_rows.specs.Fine.{Rest-fine}
+use Rattle.lookup.proofs.EndRows.{side-written, written-side}
 
 -- ---- what the tests find, with the counts that they found it with
 
 pub record Found (b : List ℕ) (a e : ℕ) : Type 0 where
-  pub application-rest : part b (application-at a) ((256 - a) * 3) ≡ replicate ((256 - a) * 3) 0
-  pub applications-rise : Rising b 10496 3 3 a
-  pub end-rest : part b (end-at e) ((512 - e) * 4) ≡ replicate ((512 - e) * 4) 0
-  pub sides : (i : ℕ) → i < e → getD b (end-at i + 2) 0 ≤ 1
-  pub ends-rise : Rising b 11264 4 4 e
+  pub application-rest : Blank-from applications a b
+  pub applications-rise : In-order by-application b a
+  pub end-rest : Blank-from ends e b
+  pub sides : (i : ℕ) → i < e → getD b (end-at i + side-offset) 0 ≤ 1
+  pub ends-rise : In-order by-end b e
 
 -- the count itself
-pub ends-counted : (b : List ℕ) → Counted (end-count b) 512 (end-count b)
-ends-counted b = record { is = refl; fits = filled-most 4 0 512 (drop 11264 b) }
+pub ends-counted : (b : List ℕ) → Counted (end-count b) (limits .ends) (end-count b)
+ends-counted b = record { is = refl; fits = rows-few ends b }
 
-module _ {b : List ℕ} {a e : ℕ} (long : length b ≡ 13312) (ca : Counted (application-count b) 256 a) (ce : Counted (end-count b) 512 e) where
-  pub rest-found : Rest b → Found b a e
+module _ {b : List ℕ} {a e : ℕ} (long : length b ≡ base-length) (ca : Counted (application-count b) (limits .applications) a)
+    (ce : Counted (end-count b) (limits .ends) e) where
+  pub rest-found : Rest-fine b → Found b a e
+  unfolding schema-of
   rest-found r = record {
     application-rest = rw (ca .is) (r .application-rest);
-    applications-rise = rw (ca .is) (applications-rise b long (omega (arith, ca .is, ca .fits)) (r .applications-rising));
+    applications-rise = rw (ca .is) (things-rise applications-sort b (application-count b) (applications-written b long) (λ i h. tt) (r .applications .rises));
     end-rest = rw (ce .is) (r .end-rest);
     sides = λ i h. written-side b i (r .end-rows i (omega (arith, ce .is)));
-    ends-rise = rw (ce .is) (ends-rise b (r .end-rows) (r .ends-rising));
+    ends-rise = rw (ce .is) (things-rise ends-sort b (end-count b) (r .end-rows) (λ i h. tt) (r .ends .rises));
   }
 
-  pub found-rest : Found b a e → Rest b
+  pub found-rest : Found b a e → Rest-fine b
+  unfolding schema-of
   found-rest f =
-      let written : (i : ℕ) → i < end-count b → end-row (end-shown b i) ≡ part b (end-at i) 4
+      let written : Written ends (end-count b) b
       = λ i h. side-written b i (omega (arith, ce .is, ce .fits)) (f .sides i (omega (arith, ce .is))) in
       record {
         application-rest = rw (← ca .is) (f .application-rest);
-        applications-rising = rise-applications b long (omega (arith, ca .is, ca .fits)) (rw (ca .is) at (f .applications-rise));
+        applications = record {
+          room = omega (arith, applications-long b, ca .is, ca .fits);
+          rises = rise-things applications-sort b (application-count b) (applications-written b long) (λ i h. tt) (rw (ca .is) at (f .applications-rise));
+        };
         end-rows = written;
         end-rest = rw (← ce .is) (f .end-rest);
-        ends-rising = rise-ends b written (rw (ce .is) at (f .ends-rise));
+        ends = record {
+          room = omega (arith, ends-long b, ce .is, ce .fits);
+          rises = rise-things ends-sort b (end-count b) written (λ i h. tt) (rw (ce .is) at (f .ends-rise));
+        };
       }

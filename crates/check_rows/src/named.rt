@@ -1,19 +1,22 @@
 // Names: the SDSs by number, and the presences as rows.
+use base::Base;
+use rules::Limits;
 ghost use mathlib.Core.Path.{_≡_};
 ghost use mathlib.Core.Bool.{true};
 ghost use Prim.Native.Nat.{ℕ, _≤_, _<_};
 ghost use lib.ListN.{length};
-ghost use Rattle.rules.specs.04-Schema.{used-sds, kind-of, is-used};
+ghost use Rattle.rules.specs.02-Limits.{limits};
+ghost use Rattle.rules.specs.04-Schema.{kind-of, is-used};
 ghost use Rattle.rules.specs.07-Picture.{base-length};
 ghost use Rattle.rows.specs.Decides.{Decides};
 ghost use Rattle.base.specs.Back.{schema-of};
-ghost use Rattle.check_rows.specs.Parts.{Sdss, Presences};
+ghost use Rattle.check_rows.specs.Fine.{Sdss-fine, Presences-fine};
 ghost use Rattle.check_rows.specs.Named.{fine-field, Unlike-later, Alone, Row-named, System-first};
 
 // ---- SDSs
 
 fn sds_field_fine(base: &[u8], d: usize) -> bool
-    requires { ⌜ (length (now base) ≡ base-length) × (d < 16) ⌝ }
+    requires { ⌜ (length (now base) ≡ base-length) × (d < limits .sdss) ⌝ }
     ensures { λ r. ⌜ r ≡ fine-field (now (base .entry)) d ⌝ }
 {
     if name_fields::is_blank_field(base::sds_field(base, d)) {
@@ -24,10 +27,10 @@ fn sds_field_fine(base: &[u8], d: usize) -> bool
 
 fn sds_fields_fine(base: &[u8]) -> bool
     requires { ⌜ length (now base) ≡ base-length ⌝ }
-    ensures { λ r. ⌜ Decides ((d : ℕ) → d < 16 → fine-field (now (base .entry)) d ≡ true) r ⌝ }
+    ensures { λ r. ⌜ Decides ((d : ℕ) → d < limits .sdss → fine-field (now (base .entry)) d ≡ true) r ⌝ }
 {
     let mut d = 0;
-    while d < 16 {
+    while d < Limits::SDSS {
         if !sds_field_fine(base, d) {
             return false;
         }
@@ -38,11 +41,11 @@ fn sds_fields_fine(base: &[u8]) -> bool
 
 // Whether no SDS past d has the name of SDS d.
 fn alone_after(base: &[u8], d: usize) -> bool
-    requires { ⌜ (length (now base) ≡ base-length) × (d < 16) ⌝ }
+    requires { ⌜ (length (now base) ≡ base-length) × (d < limits .sdss) ⌝ }
     ensures { λ r. ⌜ Decides (Unlike-later (now (base .entry)) d) r ⌝ }
 {
     let mut e = d + 1;
-    while e < 16 {
+    while e < Limits::SDSS {
         if names::is_same(base::sds_field(base, d), base::sds_field(base, e)) {
             return false;
         }
@@ -52,10 +55,10 @@ fn alone_after(base: &[u8], d: usize) -> bool
 }
 
 fn alone_if_used(base: &[u8], d: usize) -> bool
-    requires { ⌜ (length (now base) ≡ base-length) × (d < 16) ⌝ }
+    requires { ⌜ (length (now base) ≡ base-length) × (d < limits .sdss) ⌝ }
     ensures { λ r. ⌜ Decides (Alone (now (base .entry)) d) r ⌝ }
 {
-    if !lookup::is_sds(base, d) {
+    if !lookup::sdss::is_sds(base, d) {
         return true;
     }
     alone_after(base, d)
@@ -63,10 +66,10 @@ fn alone_if_used(base: &[u8], d: usize) -> bool
 
 fn names_differ(base: &[u8]) -> bool
     requires { ⌜ length (now base) ≡ base-length ⌝ }
-    ensures { λ r. ⌜ Decides ((d : ℕ) → d < 16 → Alone (now (base .entry)) d) r ⌝ }
+    ensures { λ r. ⌜ Decides ((d : ℕ) → d < limits .sdss → Alone (now (base .entry)) d) r ⌝ }
 {
     let mut d = 0;
-    while d < 16 {
+    while d < Limits::SDSS {
         if !alone_if_used(base, d) {
             return false;
         }
@@ -77,7 +80,7 @@ fn names_differ(base: &[u8]) -> bool
 
 pub fn sdss_fine(base: &[u8]) -> bool
     requires { ⌜ length (now base) ≡ base-length ⌝ }
-    ensures { λ r. ⌜ Decides (Sdss (now (base .entry))) r ⌝ }
+    ensures { λ r. ⌜ Decides (Sdss-fine (now (base .entry))) r ⌝ }
 {
     if !sds_fields_fine(base) {
         return false;
@@ -94,31 +97,31 @@ fn is_type(base: &[u8], t: usize) -> bool
     requires { ⌜ length (now base) ≡ base-length ⌝ }
     ensures { λ r. ⌜ r ≡ is-used (kind-of (schema-of (now (base .entry))) t) ⌝ }
 {
-    if 128 <= t {
+    if Limits::TYPES <= t {
         return false;
     }
     let kind = base::kind(base, t);
-    if kind == 0 {
+    if kind == Base::UNUSED {
         return false;
     }
     kind <= 3
 }
 
 fn presence_fine(base: &[u8], i: usize) -> bool
-    requires { ⌜ (length (now base) ≡ base-length) × (i < 512) ⌝ }
+    requires { ⌜ (length (now base) ≡ base-length) × (i < limits .presences) ⌝ }
     ensures { λ r. ⌜ Decides (Row-named (now (base .entry)) i) r ⌝ }
 {
     if !name_fields::is_name_field(base::presence_field(base, i)) {
         return false;
     }
-    if !lookup::is_sds(base, base::presence_sds(base, i)) {
+    if !lookup::sdss::is_sds(base, base::presence_sds(base, i)) {
         return false;
     }
     is_type(base, base::presence_type(base, i))
 }
 
 fn presence_rows_fine(base: &[u8], n: usize) -> bool
-    requires { ⌜ (length (now base) ≡ base-length) × (n ≤ 512) ⌝ }
+    requires { ⌜ (length (now base) ≡ base-length) × (n ≤ limits .presences) ⌝ }
     ensures { λ r. ⌜ Decides ((i : ℕ) → i < n → Row-named (now (base .entry)) i) r ⌝ }
 {
     let mut i = 0;
@@ -133,7 +136,7 @@ fn presence_rows_fine(base: &[u8], n: usize) -> bool
 
 // Whether the first of n presences is that of a fresh base, and no other is in SDS 0.
 fn system_first(base: &[u8], n: usize) -> bool
-    requires { ⌜ (length (now base) ≡ base-length) × (n ≤ 512) ⌝ }
+    requires { ⌜ (length (now base) ≡ base-length) × (n ≤ limits .presences) ⌝ }
     ensures { λ r. ⌜ Decides (System-first (now (base .entry)) n) r ⌝ }
 {
     if n == 0 {
@@ -156,7 +159,7 @@ fn system_first(base: &[u8], n: usize) -> bool
 
 pub fn presences_fine(base: &[u8]) -> bool
     requires { ⌜ length (now base) ≡ base-length ⌝ }
-    ensures { λ r. ⌜ Decides (Presences (now (base .entry))) r ⌝ }
+    ensures { λ r. ⌜ Decides (Presences-fine (now (base .entry))) r ⌝ }
 {
     let n = base::used::presence_count(base);
     if !presence_rows_fine(base, n) {

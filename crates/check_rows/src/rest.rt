@@ -2,14 +2,16 @@
 ghost use mathlib.Core.Path.{_≡_};
 ghost use Prim.Native.Nat.{ℕ, _+_, _≤_, _<_};
 ghost use lib.ListN.{length, getD};
+ghost use Rattle.rules.specs.02-Limits.{limits};
 ghost use Rattle.rules.specs.07-Picture.{base-length};
+ghost use Rattle.rules.specs.Read.{side-offset};
 ghost use Rattle.rows.specs.Decides.{Decides};
 ghost use Rattle.base.specs.Rows.{end-at};
-ghost use Rattle.check_rows.specs.Parts.{Rest};
+ghost use Rattle.check_rows.specs.Fine.{Rest-fine};
 
 fn sides_fine(base: &[u8], n: usize) -> bool
-    requires { ⌜ (length (now base) ≡ base-length) × (n ≤ 512) ⌝ }
-    ensures { λ r. ⌜ Decides ((i : ℕ) → i < n → getD (now (base .entry)) (end-at i + 2) 0 ≤ 1) r ⌝ }
+    requires { ⌜ (length (now base) ≡ base-length) × (n ≤ limits .ends) ⌝ }
+    ensures { λ r. ⌜ Decides ((i : ℕ) → i < n → getD (now (base .entry)) (end-at i + side-offset) 0 ≤ 1) r ⌝ }
 {
     let mut i = 0;
     while i < n {
@@ -23,7 +25,7 @@ fn sides_fine(base: &[u8], n: usize) -> bool
 
 pub fn rest_fine(base: &[u8]) -> bool
     requires { ⌜ length (now base) ≡ base-length ⌝ }
-    ensures { λ r. ⌜ Decides (Rest (now (base .entry))) r ⌝ }
+    ensures { λ r. ⌜ Decides (Rest-fine (now (base .entry))) r ⌝ }
 {
     let applications = base::used::application_count(base);
     if !base::used::no_application_from(base, applications) {

@@ -4,26 +4,29 @@ use native.Mathlib.Omega.{arith}
 use mathlib.Core.Path.{_≡_, refl, sym, ap, _∙_}
 use mathlib.Core.Logic.{⊎-elim}
 use mathlib.Core.List.{List}
-use mathlib.Core.Bool.{Bool, true, false, _&&_, _||_, true≢false, false≢true}
+use mathlib.Core.Bool.{Bool, true, false, _||_, true≢false}
 use lib.Dec.{ltb, eqb}
 use lib.ListN.{getD}
 use borrow.Author.Tests.{ltb-true, ltb-false, eqb-true, eq-eqb, ne-eqb}
-use Rattle.rules.proofs.Bools.{or-cases, or-left, or-right, and-both, and-of}
-use Rattle.rules.specs.04-Schema.{Side, End, kind-of, is-object, is-attribute, is-link, side-code, other-side, is-end, has-end}
-use Rattle.rules.specs.04-Schema.Kind.{designation, paired}
+use Rattle.rules.proofs.Bools.{or-cases, or-left, or-right, and-of}
+use Rattle.rules.specs.04-Schema.{kind-of, is-object, is-attribute, is-link, side-code, other-side, has-end}
+use Rattle.rules.specs.04-Schema.Kind.{paired}
 use Rattle.rules.specs.05-Descent.{Parent}
-use Rattle.rules.proofs.01-Lists.{any-at, any-where}
-use Rattle.rules.specs.Read.{read-side}
+use Rattle.rules.specs.Read.{read-side, attribute-offset, link-offset, object-offset, reverse-offset, side-offset, to-offset, value-offset}
 use Rattle.rules.proofs.05-Descent.{child-object}
+use Rattle.rules.specs.Parts.{of-types}
+use Rattle.rules.proofs.Parts.{parent-of, applied-held, ended-held}
+use Rattle.rules.proofs.Parts as part
 use Rattle.base.specs.Rows.{type-at, application-at, end-at, End-row}
 use Rattle.base.specs.Back.{schema-of, application-shown, end-shown}
-use Rattle.lookup.specs.Found.{End-found}
-use Rattle.lookup.proofs.FindLaws.{end-row-of}
-use Rattle.lookup.proofs.KindBytes.{object-byte, link-byte}
-use Rattle.base.proofs.Shown.{kind-is, kind-none, shows-designation, shows-paired, end-in, end-there}
-use Rattle.graph.specs.Graph.{Parental}
-use Rattle.graph.proofs.Rows.{parent-at, parent-place}
-use Rattle.check_sds.specs.Held.{type-in, parent-in, Closed-type, Applied, Ended, Row-where, Ends}
+use Rattle.lookup.specs.Found.{End-found, Ends}
+use Rattle.lookup.proofs.EndLaws.{end-row-of}
+use Rattle.lookup.proofs.EndRows.{has-row, row-has}
+use Rattle.lookup.proofs.KindBytes.{object-byte, link-byte, link-below, link-paired, paired-reverse}
+use Rattle.base.proofs.Shown.{kind-is, shows-paired}
+use Rattle.lookup.specs.Parents.{Parental}
+use Rattle.lookup.proofs.Parents.{parent-at, parent-place}
+use Rattle.check_sds.specs.Held.{type-in, parent-in, Closed-type, Applied, Ended, Row-where}
 
 -- ---- types gathered row by row
 
@@ -40,7 +43,8 @@ module _ (b : List ℕ) (from : ℕ) where
     marks = λ t e. absurd (true≢false (sym e ∙ h t));
   }
 
-  pub gathers-more : (i : ℕ) (p q : ℕ → Bool) → Gathers b from i p → from ≤ i → p (type-in b i) ≡ false → ((k : ℕ) → q k ≡ eqb k (type-in b i) || p k) → Gathers b from (i + 1) q
+  pub gathers-more : (i : ℕ) (p q : ℕ → Bool) → Gathers b from i p → from ≤ i → p (type-in b i) ≡ false
+      → ((k : ℕ) → q k ≡ eqb k (type-in b i) || p k) → Gathers b from (i + 1) q
   gathers-more i p q g h n made = record {
     once = λ j k l m u e. once j k l m u e (ltb k i) refl;
     marked = λ j l u. made (type-in b j) ∙ marked j l u (ltb j i) refl;
@@ -66,18 +70,16 @@ module _ (b : List ℕ) (from : ℕ) where
 -- ---- an application, test by test
 
 module _ (b : List ℕ) (set : ℕ → Bool) (i : ℕ) where
-  pub applied-no-attribute : (a : ℕ) → a ≡ getD b (application-at i + 2) 0 → is-attribute (kind-of (schema-of b) a) ≡ false → Applied b set i → ⊥
+  pub applied-no-attribute : (a : ℕ) → a ≡ getD b (application-at i + attribute-offset) 0 → is-attribute (kind-of (schema-of b) a) ≡ false → Applied b set i → ⊥
   applied-no-attribute a e f x = true≢false (sym (rw (← e) at (x .attribute)) ∙ f)
 
-  pub applied-attribute-out : (a : ℕ) → a ≡ getD b (application-at i + 2) 0 → set a ≡ false → Applied b set i → ⊥
-  applied-attribute-out a e f x =
-      true≢false (sym (and-both (set ((application-shown b i) .to)) (set ((application-shown b i) .attribute)) (x .within) .1) ∙ ap set (sym e) ∙ f)
+  pub applied-attribute-out : (a : ℕ) → a ≡ getD b (application-at i + attribute-offset) 0 → set a ≡ false → Applied b set i → ⊥
+  applied-attribute-out a e f x = true≢false (sym (applied-held x .1) ∙ ap set (sym e) ∙ f)
 
-  pub applied-to-out : (t : ℕ) → t ≡ getD b (application-at i + 1) 0 → set t ≡ false → Applied b set i → ⊥
-  applied-to-out t e f x =
-      true≢false (sym (and-both (set ((application-shown b i) .to)) (set ((application-shown b i) .attribute)) (x .within) .0) ∙ ap set (sym e) ∙ f)
+  pub applied-to-out : (t : ℕ) → t ≡ getD b (application-at i + to-offset) 0 → set t ≡ false → Applied b set i → ⊥
+  applied-to-out t e f x = true≢false (sym (applied-held x .0) ∙ ap set (sym e) ∙ f)
 
-  pub applied-of : (a t : ℕ) → a ≡ getD b (application-at i + 2) 0 → t ≡ getD b (application-at i + 1) 0 → is-attribute (kind-of (schema-of b) a) ≡ true
+  pub applied-of : (a t : ℕ) → a ≡ getD b (application-at i + attribute-offset) 0 → t ≡ getD b (application-at i + to-offset) 0 → is-attribute (kind-of (schema-of b) a) ≡ true
       → set a ≡ true → set t ≡ true → is-object (kind-of (schema-of b) t) || is-link (kind-of (schema-of b) t) ≡ true → Applied b set i
   applied-of a t e f k m n o = record {
     attribute = rw (← e) k;
@@ -85,30 +87,11 @@ module _ (b : List ℕ) (set : ℕ → Bool) (i : ℕ) where
     within = and-of (set ((application-shown b i) .to)) (set ((application-shown b i) .attribute)) (ap set (sym f) ∙ n) (ap set (sym e) ∙ m);
   }
 
-  pub applied-neither : (t : ℕ) → t ≡ getD b (application-at i + 1) 0 → is-object (kind-of (schema-of b) t) ≡ false → is-link (kind-of
+  pub applied-neither : (t : ℕ) → t ≡ getD b (application-at i + to-offset) 0 → is-object (kind-of (schema-of b) t) ≡ false → is-link (kind-of
       (schema-of b) t) ≡ false → Applied b set i → ⊥
   applied-neither t e o l x =
       ⊎-elim (λ h. true≢false (sym h ∙ o)) (λ h. true≢false (sym h ∙ l))
       (or-cases (is-object (kind-of (schema-of b) t)) (is-link (kind-of (schema-of b) t)) (rw (← e) at (x .to)))
-
--- the bytes of a link type that has a reverse, and of one that has none
-module _ (b : List ℕ) (t : ℕ) (h : t < 128) where
-  pub paired-reverse : (c r : ℕ) → kind-of (schema-of b) t ≡ paired c r → (getD b (type-at t + 1) 0 ≡ 4 → ⊥) × (r ≡ getD b (type-at t + 2) 0)
-  paired-reverse c r e =
-      let three : getD b (type-at t) 0 ≡ 3 = eqb-true (getD b (type-at t) 0) 3 (link-byte b t (getD b (type-at t) 0) h refl ∙ ap is-link e) in
-      let other : getD b (type-at t + 1) 0 ≡ 4 → ⊥ = λ f. apart (sym (shows-designation b t three f) ∙ sym (kind-is b t h) ∙ e) in
-      (other, reverse-same (sym e ∙ kind-is b t h ∙ shows-paired b t three other))
-    where
-      apart : designation ≡ paired c r → ⊥
-      apart q = let z : _≡_ {A = ℕ} 0 1 = cc in omega arith
-
-      reverse-same : paired c r ≡ paired (getD b (type-at t + 1) 0) (getD b (type-at t + 2) 0) → r ≡ getD b (type-at t + 2) 0
-      reverse-same q = cc
-
-  pub link-paired : is-link (kind-of (schema-of b) t) ≡ true → (getD b (type-at t + 1) 0 ≡ 4 → ⊥) → kind-of (schema-of b) t ≡ paired (getD b
-      (type-at t + 1) 0) (getD b (type-at t + 2) 0)
-  link-paired e n =
-      kind-is b t h ∙ shows-paired b t (eqb-true (getD b (type-at t) 0) 3 (link-byte b t (getD b (type-at t) 0) h refl ∙ e)) n
 
 -- ---- a type with its parents and its reverse, by the bytes of its row
 
@@ -116,7 +99,7 @@ module _ {b : List ℕ} (parental : Parental b) (set : ℕ → Bool) (t : ℕ) (
   abbrev byte : ℕ → ℕ
   byte f = getD b (type-at t + f) 0
 
-  no-parents : (getD b (type-at t) 0 ≡ 1 → ⊥) → (a : ℕ) → Parent (schema-of b) t a → ⊥
+  no-parents : (getD b (type-at t) 0 ≡ 1 → ⊥) → (a : ℕ) → Parent (of-types ((schema-of b) .types)) t a → ⊥
   no-parents n a by =
       true≢false (sym (child-object by) ∙ sym (object-byte b t (getD b (type-at t) 0) h refl) ∙ ne-eqb (getD b (type-at t) 0) 1 n)
 
@@ -127,12 +110,12 @@ module _ {b : List ℕ} (parental : Parental b) (set : ℕ → Bool) (t : ℕ) (
 
   pub closed-object : getD b (type-at t) 0 ≡ 1 → ((i : ℕ) → i < byte 3 → set (parent-in b t i) ≡ true) → Closed-type b set t
   closed-object e f = record {
-    parents = λ a by. let (i, l, s) = parent-place parental t h a by in ap set (sym s) ∙ f i l;
+    parents = λ a by. let (i, l, s) = parent-place parental t h a (parent-of t a by) in ap set (sym s) ∙ f i l;
     reverse = λ c r q. let (three, other, s) = pair-bytes c r q in absurd (omega (arith, e, three));
   }
 
   pub closed-parents : Closed-type b set t → (i : ℕ) → i < byte 3 → set (parent-in b t i) ≡ true
-  closed-parents x i l = x .parents (parent-in b t i) (parent-at parental t h i l)
+  closed-parents x i l = x .parents (parent-in b t i) (part.parent-in t (parent-in b t i) (parent-at parental t h i l))
 
   pub closed-plain : (getD b (type-at t) 0 ≡ 1 → ⊥) → (getD b (type-at t) 0 ≡ 3 → ⊥) → Closed-type b set t
   closed-plain n m = record {
@@ -157,58 +140,11 @@ module _ {b : List ℕ} (parental : Parental b) (set : ℕ → Bool) (t : ℕ) (
 
 -- ---- an end and its mirror
 
-pub side-same : (x : ℕ) → x ≤ 1 → side-code (read-side x) ≡ x
-unfolding read-side
-side-same zero h = refl
-side-same (suc zero) h = refl
-side-same (suc (suc x)) h = absurd (omega arith)
-
 other-code : (x : ℕ) → x ≤ 1 → side-code (other-side (read-side x)) ≡ 1 - x
 unfolding read-side
 other-code zero h = refl
 other-code (suc zero) h = refl
 other-code (suc (suc x)) h = absurd (omega arith)
-
-module _ {b : List ℕ} {n : ℕ} (ends : Ends b n) (d l : ℕ) (side : Side) (o : ℕ) where
-  pub has-row : has-end (schema-of b) d l side o ≡ true → End-row b n d l (side-code side) o
-  unfolding has-end
-  has-row h =
-      let (x, m, q) = any-where (is-end d l side o) ((schema-of b) .ends) h in
-      let (i, k, e) = end-in b x m in
-      let below : i < n = omega (arith, ends .counted .is) in
-      let (sd, r1) = and-both (eqb (x .sds) d) (eqb (x .link) l && (eqb (side-code (x .side)) (side-code side) && eqb (x .object) o)) q in
-      let (li, r2) = and-both (eqb (x .link) l) (eqb (side-code (x .side)) (side-code side) && eqb (x .object) o) r1 in
-      let (si, ob) = and-both (eqb (side-code (x .side)) (side-code side)) (eqb (x .object) o) r2 in
-      record {
-        place = i;
-        below = below;
-        sds = sym (ap (λ (y : End). y .sds) e) ∙ eqb-true (x .sds) d sd;
-        link = sym (ap (λ (y : End). y .link) e) ∙ eqb-true (x .link) l li;
-        turned = sym (side-same (getD b (end-at i + 2) 0) (ends .sides i below)) ∙ sym (ap (λ (y : End). side-code (y .side)) e) ∙ eqb-true (side-code
-            (x .side)) (side-code side) si;
-        object = sym (ap (λ (y : End). y .object) e) ∙ eqb-true (x .object) o ob;
-      }
-
-  pub row-has : End-row b n d l (side-code side) o → has-end (schema-of b) d l side o ≡ true
-  unfolding has-end
-  row-has x =
-      let i = x .place in
-      let below = x .below in
-      let e = end-shown b i in
-      any-at (is-end d l side o) (end-there b i (omega (arith, ends .counted .is)))
-      (and-of (eqb (e .sds) d) (eqb (e .link) l && (eqb (side-code (e .side)) (side-code side) && eqb (e .object) o)) (eq-eqb (e .sds) d (x .sds))
-      (and-of (eqb (e .link) l) (eqb (side-code (e .side)) (side-code side) && eqb (e .object) o) (eq-eqb (e .link) l (x .link))
-      (and-of (eqb (side-code (e .side)) (side-code side)) (eqb (e .object) o)
-      (eq-eqb (side-code (e .side)) (side-code side) (side-same (getD b (end-at i + 2) 0) (ends .sides i below) ∙ x .turned))
-      (eq-eqb (e .object) o (x .object)))))
-
--- a link type is below 128
-pub link-below : (b : List ℕ) (t : ℕ) → is-link (kind-of (schema-of b) t) ≡ true → t < 128
-link-below b t e = go (ltb t 128) refl
-  where
-    go : (x : Bool) → ltb t 128 ≡ x → t < 128
-    go true q = ltb-true t 128 q
-    go false q = absurd (true≢false (sym e ∙ ap is-link (kind-none b t (ltb-false t 128 q))))
 
 -- ---- one of n rows, or none
 
@@ -225,36 +161,41 @@ module _ {P : Type 0} {n : ℕ} where
 -- ---- an end, test by test: l and o are its link type and its object type
 
 module _ (b : List ℕ) (set : ℕ → Bool) (i : ℕ) where
-  pub ended-no-link : (l : ℕ) → l ≡ getD b (end-at i + 1) 0 → is-link (kind-of (schema-of b) l) ≡ false → Ended b set i → ⊥
-  ended-no-link l e f x = true≢false (sym (rw (← e) at (x .link)) ∙ f)
+  pub ended-no-link : (l : ℕ) → l ≡ getD b (end-at i + link-offset) 0 → is-link (kind-of (schema-of b) l) ≡ false → Ended b set i → ⊥
+  ended-no-link l e f x = true≢false (sym (rw (← e) at (x .fits .link)) ∙ f)
 
-  pub ended-link-out : (l : ℕ) → l ≡ getD b (end-at i + 1) 0 → set l ≡ false → Ended b set i → ⊥
-  ended-link-out l e f x = true≢false (sym (and-both (set ((end-shown b i) .link)) (set ((end-shown b i) .object)) (x .within) .0) ∙ ap set (sym e) ∙ f)
+  pub ended-link-out : (l : ℕ) → l ≡ getD b (end-at i + link-offset) 0 → set l ≡ false → Ended b set i → ⊥
+  ended-link-out l e f x = true≢false (sym (ended-held (x .fits) .0) ∙ ap set (sym e) ∙ f)
 
-  pub ended-no-object : (o : ℕ) → o ≡ getD b (end-at i + 3) 0 → is-object (kind-of (schema-of b) o) ≡ false → Ended b set i → ⊥
-  ended-no-object o e f x = true≢false (sym (rw (← e) at (x .object)) ∙ f)
+  pub ended-no-object : (o : ℕ) → o ≡ getD b (end-at i + object-offset) 0 → is-object (kind-of (schema-of b) o) ≡ false → Ended b set i → ⊥
+  ended-no-object o e f x = true≢false (sym (rw (← e) at (x .fits .object)) ∙ f)
 
-  pub ended-object-out : (o : ℕ) → o ≡ getD b (end-at i + 3) 0 → set o ≡ false → Ended b set i → ⊥
-  ended-object-out o e f x = true≢false (sym (and-both (set ((end-shown b i) .link)) (set ((end-shown b i) .object)) (x .within) .1) ∙ ap set (sym e) ∙ f)
+  pub ended-object-out : (o : ℕ) → o ≡ getD b (end-at i + object-offset) 0 → set o ≡ false → Ended b set i → ⊥
+  ended-object-out o e f x = true≢false (sym (ended-held (x .fits) .1) ∙ ap set (sym e) ∙ f)
 
-  module _ (l o : ℕ) (el : l ≡ getD b (end-at i + 1) 0) (eo : o ≡ getD b (end-at i + 3) 0) (kl : is-link (kind-of (schema-of b) l) ≡ true) where
+  module _ (l o : ℕ) (el : l ≡ getD b (end-at i + link-offset) 0) (eo : o ≡ getD b (end-at i + object-offset) 0) (kl : is-link (kind-of (schema-of b) l) ≡ true) where
     ended-of : set l ≡ true → is-object (kind-of (schema-of b) o) ≡ true → set o ≡ true
-        → ((c r : ℕ) → kind-of (schema-of b) l ≡ paired c r → has-end (schema-of b) ((end-shown b i) .sds) r (other-side ((end-shown b i) .side)) ((end-shown b i) .object) ≡ true)
+        → ((c r : ℕ) → kind-of (schema-of b) l ≡ paired c r
+        → has-end (schema-of b) ((end-shown b i) .sds) r (other-side ((end-shown b i) .side)) ((end-shown b i) .object) ≡ true)
         → Ended b set i
+    unfolding has-end
     ended-of hl ko ho m = record {
-      link = rw (← el) kl;
-      object = rw (← eo) ko;
-      within = and-of (set ((end-shown b i) .link)) (set ((end-shown b i) .object)) (ap set (sym el) ∙ hl) (ap set (sym eo) ∙ ho);
+      fits = record {
+        link = rw (← el) kl;
+        object = rw (← eo) ko;
+        within = and-of (set ((end-shown b i) .link)) (set ((end-shown b i) .object)) (ap set (sym el) ∙ hl) (ap set (sym eo) ∙ ho);
+      };
       mirrored = rw (← el) m;
     }
 
     -- a designation type has no mirror
-    pub ended-alone : set l ≡ true → is-object (kind-of (schema-of b) o) ≡ true → set o ≡ true → getD b (type-at l + 1) 0 ≡ 4 → Ended b set i
+    pub ended-alone : set l ≡ true → is-object (kind-of (schema-of b) o) ≡ true → set o ≡ true → getD b (type-at l + value-offset) 0 ≡ 4 → Ended b set i
     ended-alone hl ko ho v = ended-of hl ko ho (λ c r e. absurd (paired-reverse b l (link-below b l kl) c r e .0 v))
 
-    module _ {n : ℕ} (ends : Ends b n) (below : i < n) (d r s : ℕ) (ed : d ≡ getD b (end-at i) 0) (er : r ≡ getD b (type-at l + 2) 0) (es : s ≡ getD b (end-at i + 2) 0) where
+    module _ {n : ℕ} (ends : Ends b n) (below : i < n) (d r s : ℕ)
+        (ed : d ≡ getD b (end-at i) 0) (er : r ≡ getD b (type-at l + reverse-offset) 0) (es : s ≡ getD b (end-at i + side-offset) 0) where
       mirror-code : side-code (other-side ((end-shown b i) .side)) ≡ 1 - s
-      mirror-code = other-code (getD b (end-at i + 2) 0) (ends .sides i below) ∙ ap (λ (x : ℕ). 1 - x) (sym es)
+      mirror-code = other-code (getD b (end-at i + side-offset) 0) (ends .sides i below) ∙ ap (λ (x : ℕ). 1 - x) (sym es)
 
       pub ended-both : set l ≡ true → is-object (kind-of (schema-of b) o) ≡ true → set o ≡ true → End-row b n d r (1 - s) o → Ended b set i
       ended-both hl ko ho x =
@@ -262,9 +203,10 @@ module _ (b : List ℕ) (set : ℕ → Bool) (i : ℕ) where
           let same : r′ ≡ r = paired-reverse b l (link-below b l kl) c r′ e .1 ∙ sym er in
           rw (same, ← ed, ← eo) (row-has ends d r (other-side ((end-shown b i) .side)) o (rw mirror-code x)))
 
-      pub ended-mirror : (getD b (type-at l + 1) 0 ≡ 4 → ⊥) → Ended b set i → End-row b n d r (1 - s) o
+      pub ended-mirror : (getD b (type-at l + value-offset) 0 ≡ 4 → ⊥) → Ended b set i → End-row b n d r (1 - s) o
+      unfolding has-end
       ended-mirror v x =
           let pair = link-paired b l (link-below b l kl) kl v in
-          let m : has-end (schema-of b) ((end-shown b i) .sds) (getD b (type-at l + 2) 0) (other-side ((end-shown b i) .side)) ((end-shown b i) .object) ≡ true
-          = (rw (← el) at (x .mirrored)) (getD b (type-at l + 1) 0) (getD b (type-at l + 2) 0) pair in
+          let m : has-end (schema-of b) ((end-shown b i) .sds) (getD b (type-at l + reverse-offset) 0) (other-side ((end-shown b i) .side)) ((end-shown b i) .object) ≡ true
+          = (rw (← el) at (x .mirrored)) (getD b (type-at l + value-offset) 0) (getD b (type-at l + reverse-offset) 0) pair in
           rw mirror-code at (has-row ends d r (other-side ((end-shown b i) .side)) o (rw (ed, er, eo) m))

@@ -2,23 +2,20 @@
 use Prim.Native.Nat.{ℕ, _+_, _≤_, _<_}
 use mathlib.Core.Path.{_≡_}
 use mathlib.Core.List.{List}
-use mathlib.Core.Bool.{Bool, true, false, _&&_, _||_}
-use lib.ListN.{length, getD}
-use Rattle.rules.specs.04-Schema.{kind-of, is-object, is-attribute, is-link, has-end, other-side}
-use Rattle.rules.specs.04-Schema.Kind.{paired}
-use Rattle.rules.specs.05-Descent.{Parent}
-use Rattle.rules.specs.07-Picture.{base-length}
+use mathlib.Core.Bool.{Bool, true, false}
+use lib.ListN.{getD}
+use Rattle.rules.specs.Read.{parents-offset, type-offset}
+use Rattle.rules.specs.Parts.{Closed-under, Application-fits, End-fits, End-mirrored}
 use Rattle.type_set.specs.Set.{has}
-use Rattle.rows.specs.Rows.{Counted, Rising}
-use Rattle.base.specs.Rows.{type-at, presence-at, end-at}
-use Rattle.base.specs.Back.{schema-of, end-count, application-shown, end-shown}
+use Rattle.base.specs.Rows.{type-at, presence-at}
+use Rattle.base.specs.Back.{schema-of, application-shown, end-shown}
 use Rattle.check_sds.specs.declared.Held.{Held}
 
 abbrev pub type-in : List ℕ → ℕ → ℕ
-type-in b i = getD b (presence-at i + 17) 0
+type-in b i = getD b (presence-at i + type-offset) 0
 
 abbrev pub parent-in : List ℕ → ℕ → ℕ → ℕ
-parent-in b t i = getD b (type-at t + 4 + i) 0
+parent-in b t i = getD b (type-at t + parents-offset + i) 0
 
 -- the types of the rows from `from` up to `to`: a set, where none stands twice
 pub record Gathered (b : List ℕ) (from to : ℕ) (r : Held) : Type 0 where
@@ -28,32 +25,19 @@ pub record Gathered (b : List ℕ) (from to : ℕ) (r : Held) : Type 0 where
   pub marks : r .once ≡ true → (t : ℕ) → has (r .types) t ≡ true → (i : ℕ) × (from ≤ i) × (i < to) × (type-in b i ≡ t)
 
 -- with a type its parents and its reverse are in the set
-pub record Closed-type (b : List ℕ) (set : ℕ → Bool) (t : ℕ) : Type 0 where
-  pub parents : (a : ℕ) → Parent (schema-of b) t a → set a ≡ true
-  pub reverse : (c r : ℕ) → kind-of (schema-of b) t ≡ paired c r → set r ≡ true
+abbrev pub Closed-type : List ℕ → (ℕ → Bool) → ℕ → Type 0
+Closed-type b set t = Closed-under ((schema-of b) .types) set t
 
 -- the application in row i is of an attribute type to an object or link type, both in the set
-pub record Applied (b : List ℕ) (set : ℕ → Bool) (i : ℕ) : Type 0 where
-  pub attribute : is-attribute (kind-of (schema-of b) ((application-shown b i) .attribute)) ≡ true
-  pub to : is-object (kind-of (schema-of b) ((application-shown b i) .to)) || is-link (kind-of (schema-of b) ((application-shown b i) .to)) ≡ true
-  pub within : set ((application-shown b i) .to) && set ((application-shown b i) .attribute) ≡ true
+abbrev pub Applied : List ℕ → (ℕ → Bool) → ℕ → Type 0
+Applied b set i = Application-fits ((schema-of b) .types) set (application-shown b i)
 
 -- the end in row i is of a link type and an object type, both in the set, and has its mirror
 pub record Ended (b : List ℕ) (set : ℕ → Bool) (i : ℕ) : Type 0 where
-  pub link : is-link (kind-of (schema-of b) ((end-shown b i) .link)) ≡ true
-  pub object : is-object (kind-of (schema-of b) ((end-shown b i) .object)) ≡ true
-  pub within : set ((end-shown b i) .link) && set ((end-shown b i) .object) ≡ true
-  pub mirrored : (c r : ℕ) → kind-of (schema-of b) ((end-shown b i) .link) ≡ paired c r
-      → has-end (schema-of b) ((end-shown b i) .sds) r (other-side ((end-shown b i) .side)) ((end-shown b i) .object) ≡ true
+  pub fits : End-fits ((schema-of b) .types) set (end-shown b i)
+  pub mirrored : End-mirrored ((schema-of b) .types) ((schema-of b) .ends) (end-shown b i)
 
 -- r is one of n rows exactly where P holds
 pub record Row-where (P : Type 0) (n r : ℕ) : Type 0 where
   pub holds : r < n → P
   pub fails : n ≤ r → P → ⊥
-
--- n rows of ends, in order, with sides that are sides
-pub record Ends (b : List ℕ) (n : ℕ) : Type 0 where
-  pub long : length b ≡ base-length
-  pub counted : Counted (end-count b) 512 n
-  pub rise : Rising b 11264 4 4 n
-  pub sides : (i : ℕ) → i < n → getD b (end-at i + 2) 0 ≤ 1

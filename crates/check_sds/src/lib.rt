@@ -1,14 +1,17 @@
 // The rows of one SDS, with the set of the types that are in it: that these are closed, and that applications and ends stand on them.
+use base::Base;
 use type_set::TypeSet;
 ghost use mathlib.Core.Path.{_≡_};
 ghost use mathlib.Core.Bool.{true};
 ghost use Prim.Native.Nat.{ℕ, _+_, _≤_, _<_};
 ghost use lib.ListN.{length};
+ghost use Rattle.rules.specs.02-Limits.{limits};
 ghost use Rattle.rules.specs.07-Picture.{base-length};
 ghost use Rattle.type_set.specs.Set.{has};
 ghost use Rattle.rows.specs.Decides.{Decides};
-ghost use Rattle.graph.specs.Graph.{Parental};
-ghost use Rattle.check_sds.specs.Held.{type-in, parent-in, Gathered, Closed-type, Applied, Ended, Row-where, Ends};
+ghost use Rattle.lookup.specs.Parents.{Parental};
+ghost use Rattle.check_sds.specs.Held.{type-in, parent-in, Gathered, Closed-type, Applied, Ended, Row-where};
+ghost use Rattle.lookup.specs.Found.{Ends};
 
 pub struct Held {
     pub types: TypeSet,
@@ -17,7 +20,7 @@ pub struct Held {
 
 // The types of the presences from `from` up to `to`, unless one stands twice.
 pub fn gather(base: &[u8], from: usize, to: usize) -> Held
-    requires { ⌜ (length (now base) ≡ base-length) × ((from ≤ to) × (to ≤ 512)) ⌝ }
+    requires { ⌜ (length (now base) ≡ base-length) × ((from ≤ to) × (to ≤ limits .presences)) ⌝ }
     requires { ⌜ ((i : ℕ) → i < to → type-in (now base) i < 128) ⌝ }
     ensures { λ r. ⌜ Gathered (now (base .entry)) from to r ⌝ }
 {
@@ -36,7 +39,7 @@ pub fn gather(base: &[u8], from: usize, to: usize) -> Held
 
 // Whether the first n parents of t are in the set.
 fn parents_in(base: &[u8], t: usize, n: usize, set: TypeSet) -> bool
-    requires { ⌜ (length (now base) ≡ base-length) × ((t < 128) × (n ≤ 4)) ⌝ }
+    requires { ⌜ (length (now base) ≡ base-length) × ((t < limits .types) × (n ≤ 4)) ⌝ }
     ensures { λ r. ⌜ Decides ((i : ℕ) → i < n → has set (parent-in (now (base .entry)) t i) ≡ true) r ⌝ }
 {
     let mut i = 0;
@@ -50,25 +53,25 @@ fn parents_in(base: &[u8], t: usize, n: usize, set: TypeSet) -> bool
 }
 
 fn type_closed(base: &[u8], t: usize, set: TypeSet) -> bool
-    requires { ⌜ (length (now base) ≡ base-length) × (t < 128) ⌝ }
+    requires { ⌜ (length (now base) ≡ base-length) × (t < limits .types) ⌝ }
     requires { ⌜ Parental (now base) ⌝ }
     ensures { λ r. ⌜ Decides (Closed-type (now (base .entry)) (has set) t) r ⌝ }
 {
     let kind = base::kind(base, t);
-    if kind == 1 {
+    if kind == Base::OBJECT {
         return parents_in(base, t, base::parent_count(base, t), set);
     }
-    if kind != 3 {
+    if kind != Base::LINK {
         return true;
     }
-    if base::value(base, t) == 4 {
+    if base::value(base, t) == Base::DESIGNATION {
         return true;
     }
     set.holds(base::reverse(base, t))
 }
 
 pub fn types_closed(base: &[u8], from: usize, to: usize, set: TypeSet) -> bool
-    requires { ⌜ (length (now base) ≡ base-length) × (to ≤ 512) ⌝ }
+    requires { ⌜ (length (now base) ≡ base-length) × (to ≤ limits .presences) ⌝ }
     requires { ⌜ Parental (now base) ⌝ }
     requires { ⌜ ((i : ℕ) → i < to → type-in (now base) i < 128) ⌝ }
     ensures { λ r. ⌜ Decides ((i : ℕ) → i < to → from ≤ i → Closed-type (now (base .entry)) (has set) (type-in (now (base .entry)) i)) r ⌝ }
@@ -84,11 +87,11 @@ pub fn types_closed(base: &[u8], from: usize, to: usize, set: TypeSet) -> bool
 }
 
 fn application_fine(base: &[u8], i: usize, set: TypeSet) -> bool
-    requires { ⌜ (length (now base) ≡ base-length) × (i < 256) ⌝ }
+    requires { ⌜ (length (now base) ≡ base-length) × (i < limits .applications) ⌝ }
     ensures { λ r. ⌜ Decides (Applied (now (base .entry)) (has set) i) r ⌝ }
 {
     let attribute = base::application_attribute(base, i);
-    if !lookup::is_kind(base, attribute, 2) {
+    if !lookup::types::is_kind(base, attribute, Base::ATTRIBUTE) {
         return false;
     }
     if !set.holds(attribute) {
@@ -98,14 +101,14 @@ fn application_fine(base: &[u8], i: usize, set: TypeSet) -> bool
     if !set.holds(to) {
         return false;
     }
-    if lookup::is_kind(base, to, 1) {
+    if lookup::types::is_kind(base, to, Base::OBJECT) {
         return true;
     }
-    lookup::is_kind(base, to, 3)
+    lookup::types::is_kind(base, to, Base::LINK)
 }
 
 pub fn applications_fine(base: &[u8], from: usize, to: usize, set: TypeSet) -> bool
-    requires { ⌜ (length (now base) ≡ base-length) × (to ≤ 256) ⌝ }
+    requires { ⌜ (length (now base) ≡ base-length) × (to ≤ limits .applications) ⌝ }
     ensures { λ r. ⌜ Decides ((i : ℕ) → i < to → from ≤ i → Applied (now (base .entry)) (has set) i) r ⌝ }
 {
     let mut i = from;
@@ -124,24 +127,24 @@ fn end_fine(base: &[u8], n: usize, near: usize, i: usize, set: TypeSet) -> usize
     ensures { λ r. ⌜ Row-where (Ended (now (base .entry)) (has set) i) n r ⌝ }
 {
     let link = base::end_link(base, i);
-    if !lookup::is_kind(base, link, 3) {
+    if !lookup::types::is_kind(base, link, Base::LINK) {
         return n;
     }
     if !set.holds(link) {
         return n;
     }
     let object = base::end_object(base, i);
-    if !lookup::is_kind(base, object, 1) {
+    if !lookup::types::is_kind(base, object, Base::OBJECT) {
         return n;
     }
     if !set.holds(object) {
         return n;
     }
-    if base::value(base, link) == 4 {
+    if base::value(base, link) == Base::DESIGNATION {
         return i;
     }
     let side = base::end_side(base, i);
-    lookup::end_row(
+    lookup::ends::end_near(
         base,
         n,
         near,

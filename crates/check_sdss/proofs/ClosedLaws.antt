@@ -1,22 +1,24 @@
 -- One SDS: its rows are those between two places, its set is what is present in it, and the checks of its rows are what is asked of it.
 -- Assumes nothing.
-use Prim.Native.Nat.{ℕ, suc, _+_, _*_, _≤_, _<_}
+use Prim.Native.Nat.{ℕ, _+_, _*_, _≤_, _<_}
 use native.Mathlib.Omega.{arith}
-use mathlib.Core.Path.{_≡_, refl, sym, ap, _∙_}
+use mathlib.Core.Path.{_≡_, refl, sym, ap, subst, _∙_}
 use mathlib.Core.Logic.{⊎-elim}
 use mathlib.Core.List.{List}
-use mathlib.Core.Bool.{Bool, true, false, _&&_, _||_, true≢false, false≢true}
+use mathlib.Core.Bool.{Bool, true, false, _||_, true≢false}
 use lib.Dec.{ltb, eqb}
 use lib.ListN.{getD}
 use borrow.Author.Count.{below-more}
 use borrow.Author.Tests.{ltb-true, ltb-false, eqb-true, eq-eqb}
+use Rattle.rules.specs.02-Limits.{limits}
 use Rattle.rules.specs.04-Schema.{Presence, holds-type, present}
 use Rattle.rules.proofs.Bools.{same-test, or-cases, or-left, or-right, and-both, and-of}
 use Rattle.rules.proofs.01-Lists.{any-at, any-where}
 use Rattle.type_set.specs.Set.{has}
 use Rattle.rows.specs.Rows.{Counted, Split}
-use Rattle.base.specs.Rows.{presence-at, application-at, end-at}
-use Rattle.base.specs.Back.{schema-of, presence-count, application-count, end-count, presence-shown, application-shown, end-shown}
+use Rattle.base.specs.Tables.{Split-at, applications, ends, presences}
+use Rattle.base.specs.Rows.{presence-at}
+use Rattle.base.specs.Back.{schema-of, presence-count, presence-shown}
 use Rattle.base.proofs.Shown.{presence-in, presence-there}
 use Rattle.check_sds.specs.declared.Held.{Held}
 use Rattle.check_sdss.specs.declared.Places.{Places}
@@ -43,28 +45,12 @@ module _ {b : List ℕ} {first w n d p e : ℕ} (s : Split b first w n d p) (z :
 
 -- ---- what is asked of a row does not depend on how the set is held
 
-module _ (b : List ℕ) (s u : ℕ → Bool) (alike : (t : ℕ) → s t ≡ u t) where
-  pub closed-alike : (t : ℕ) → Closed-type b s t → Closed-type b u t
-  closed-alike t x = record { parents = λ a by. sym (alike a) ∙ x .parents a by; reverse = λ c r e. sym (alike r) ∙ x .reverse c r e }
-
-  pub applied-alike : (i : ℕ) → Applied b s i → Applied b u i
-  applied-alike i x = record {
-    attribute = x .attribute;
-    to = x .to;
-    within = rw (← alike ((application-shown b i) .to), ← alike ((application-shown b i) .attribute)) (x .within);
-  }
-
-  pub ended-alike : (i : ℕ) → Ended b s i → Ended b u i
-  ended-alike i x = record {
-    link = x .link;
-    object = x .object;
-    within = rw (← alike ((end-shown b i) .link), ← alike ((end-shown b i) .object)) (x .within);
-    mirrored = x .mirrored;
-  }
+pub alike : {s u : ℕ → Bool} → ((t : ℕ) → s t ≡ u t) → (P : (ℕ → Bool) → Type 0) → P s → P u
+alike same P x = subst P (λ i t. same t i) x
 
 -- ---- the set that was gathered
 
-module _ {b : List ℕ} {n d p e : ℕ} (count : Counted (presence-count b) 512 n) (s : Split b 1280 18 n d p) (z : Split b 1280 18 n (d + 1) e)
+module _ {b : List ℕ} {n d p e : ℕ} (count : Counted (presence-count b) (limits .presences) n) (s : Split-at presences b n d p) (z : Split-at presences b n (d + 1) e)
     {h : Held} (g : Gathered b p e h) where
   pub gathered-shows : h .once ≡ true → Shows b d (h .types)
   unfolding present
@@ -92,7 +78,8 @@ module _ {b : List ℕ} {n d p e : ℕ} (count : Counted (presence-count b) 512 
   gathered-twice o x =
       let (i, j, l, m, u, q) = g .twice o in
       let fits = z .fits in
-      let same : i ≡ j = x .once i j (omega (arith, count .is)) (omega (arith, count .is)) (range-in s z i (omega arith) l) (range-in s z j u (omega arith)) q in
+      let same : i ≡ j
+      = x .once i j (omega (arith, count .is)) (omega (arith, count .is)) (range-in s z i (omega arith) l) (range-in s z j u (omega arith)) q in
       omega arith
 
   pub gathered-once : h .once ≡ true → (i j : ℕ) → i < presence-count b → j < presence-count b → getD b (presence-at i) 0 ≡ d → getD b (presence-at j) 0 ≡ d
@@ -100,34 +87,35 @@ module _ {b : List ℕ} {n d p e : ℕ} (count : Counted (presence-count b) 512 
   gathered-once o i j k m u v q = go (ltb i j) refl (ltb j i) refl
     where
       go : (x : Bool) → ltb i j ≡ x → (y : Bool) → ltb j i ≡ y → i ≡ j
-      go true f y w = absurd (g .once o i j (range-of s z i (omega (arith, count .is)) u .0) (ltb-true i j f) (range-of s z j (omega (arith, count .is)) v .1) q)
-      go false f true w = absurd (g .once o j i (range-of s z j (omega (arith, count .is)) v .0) (ltb-true j i w) (range-of s z i (omega (arith, count .is)) u .1) (sym q))
+      go true f y w =
+          absurd (g .once o i j (range-of s z i (omega (arith, count .is)) u .0) (ltb-true i j f) (range-of s z j (omega (arith, count .is)) v .1) q)
+      go false f true w =
+          absurd (g .once o j i (range-of s z j (omega (arith, count .is)) v .0) (ltb-true j i w)
+          (range-of s z i (omega (arith, count .is)) u .1) (sym q))
       go false f false w = omega (arith, ltb-false i j f, ltb-false j i w)
 
 -- ---- all of SDS d
 
 module _ {b : List ℕ} {n at : Places} {d : ℕ} (ready : Ready b n) (here : At b n d at) (h : Held) (shows : Shows b d (h .types)) where
-  pub asked-types : {p : ℕ} → Split b 1280 18 (n .presences) (d + 1) p → Sds-closed b d
+  pub asked-types : {p : ℕ} → Split-at presences b (n .presences) (d + 1) p → Sds-closed b d
       → (i : ℕ) → i < p → at .presences ≤ i → Closed-type b (has (h .types)) (type-in b i)
   asked-types sp x i u l =
       let fits = sp .fits in
-      closed-alike b (present (schema-of b) d) (has (h .types)) (λ t. sym (shows t)) (type-in b i) (x .types i (omega (arith, ready .presences .is))
-      (range-in (here .presences) sp i u l))
+      alike (λ t. sym (shows t)) (λ p. Closed-type b p (type-in b i)) (x .types i (omega (arith, ready .presences .is)) (range-in (here .presences) sp i u l))
 
-  pub asked-applications : {a : ℕ} → Split b 10496 3 (n .applications) (d + 1) a → Sds-closed b d
+  pub asked-applications : {a : ℕ} → Split-at applications b (n .applications) (d + 1) a → Sds-closed b d
       → (i : ℕ) → i < a → at .applications ≤ i → Applied b (has (h .types)) i
   asked-applications sa x i u l =
       let fits = sa .fits in
-      applied-alike b (present (schema-of b) d) (has (h .types)) (λ t. sym (shows t)) i (x .applications i (omega (arith, ready .applications .is))
-      (range-in (here .applications) sa i u l))
+      alike (λ t. sym (shows t)) (λ p. Applied b p i) (x .applications i (omega (arith, ready .applications .is)) (range-in (here .applications) sa i u l))
 
-  pub asked-ends : {e : ℕ} → Split b 11264 4 (n .ends) (d + 1) e → Sds-closed b d
+  pub asked-ends : {e : ℕ} → Split-at ends b (n .ends) (d + 1) e → Sds-closed b d
       → (i : ℕ) → i < e → at .ends ≤ i → Ended b (has (h .types)) i
   asked-ends se x i u l =
       let fits = se .fits in
-      ended-alike b (present (schema-of b) d) (has (h .types)) (λ t. sym (shows t)) i (x .ends i (omega (arith, ready .ends .counted .is)) (range-in (here .ends) se i u l))
+      alike (λ t. sym (shows t)) (λ p. Ended b p i) (x .ends i (omega (arith, ready .ends .counted .is)) (range-in (here .ends) se i u l))
 
-  pub sds-closed : {p a e : ℕ} → Split b 1280 18 (n .presences) (d + 1) p → Split b 10496 3 (n .applications) (d + 1) a → Split b 11264 4 (n .ends) (d + 1) e
+  pub sds-closed : {p a e : ℕ} → Split-at presences b (n .presences) (d + 1) p → Split-at applications b (n .applications) (d + 1) a → Split-at ends b (n .ends) (d + 1) e
       → Gathered b (at .presences) p h → h .once ≡ true
       → ((i : ℕ) → i < p → at .presences ≤ i → Closed-type b (has (h .types)) (type-in b i))
       → ((i : ℕ) → i < a → at .applications ≤ i → Applied b (has (h .types)) i)
@@ -136,13 +124,13 @@ module _ {b : List ℕ} {n at : Places} {d : ℕ} (ready : Ready b n) (here : At
     once = gathered-once (ready .presences) (here .presences) sp g o;
     types = λ i k q.
         let (l, r) = range-of (here .presences) sp i (omega (arith, ready .presences .is)) q in
-        closed-alike b (has (h .types)) (present (schema-of b) d) shows (type-in b i) (t i r l);
+        alike shows (λ p. Closed-type b p (type-in b i)) (t i r l);
     applications = λ i k q.
         let (l, r) = range-of (here .applications) sa i (omega (arith, ready .applications .is)) q in
-        applied-alike b (has (h .types)) (present (schema-of b) d) shows i (x i r l);
+        alike shows (λ p. Applied b p i) (x i r l);
     ends = λ i k q.
         let (l, r) = range-of (here .ends) se i (omega (arith, ready .ends .counted .is)) q in
-        ended-alike b (has (h .types)) (present (schema-of b) d) shows i (y i r l);
+        alike shows (λ p. Ended b p i) (y i r l);
   }
 
 -- a check that fails says nothing of the places

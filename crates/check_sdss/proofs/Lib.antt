@@ -1,2 +1,2 @@
-pub mod SdsLaws
 pub mod ClosedLaws
+pub mod SdsLaws

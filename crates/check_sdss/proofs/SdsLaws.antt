@@ -1,33 +1,38 @@
--- What is asked of every SDS is what `Closed` asks. Assumes nothing.
-use Prim.Native.Nat.{ℕ, suc, _+_, _*_, _≤_, _<_}
+-- What is asked of every SDS is what `Sdss-closed` asks. Assumes nothing.
+use Prim.Native.Nat.{ℕ, _+_, _*_, _≤_, _<_}
 use native.Mathlib.Omega.{arith}
-use mathlib.Core.Path.{_≡_, refl, sym, ap, _∙_, subst}
-use mathlib.Core.List.{List, []}
-use mathlib.Core.Bool.{Bool, true, false, not, _&&_, _||_, true≢false, false≢true}
-use lib.Dec.{ltb, eqb}
-use lib.ListN.{length, getD, drop}
-use borrow.Author.Tests.{ltb-true, ltb-false, eqb-true, eq-eqb, ne-eqb}
-use Rattle.rules.specs.01-Lists.{_∈_}
-use Rattle.rules.specs.04-Schema.{Kind, Presence, Application, End, kind-of, is-used, used-sds, holds-type, present}
+use mathlib.Core.Path.{_≡_, refl, sym, ap, _∙_}
+use mathlib.Core.List.{List}
+use mathlib.Core.Bool.{Bool, true, false, false≢true}
+use lib.Dec.{ltb}
+use lib.ListN.{getD}
+use borrow.Author.Tests.{ltb-true, ltb-false}
+use Rattle.rules.specs.01-Lists.{any}
+use Rattle.rules.specs.02-Limits.{limits}
+use Rattle.rules.specs.03-Names.{well-formed}
+use Rattle.rules.specs.04-Schema.{Kind, Presence, kind-of, is-used, used-sds, holds-type, present}
 use Rattle.rules.specs.04-Schema.Kind.{unused, object, attribute, designation, paired}
-use Rattle.rules.specs.05-Descent.{Parent}
 use Rattle.rules.specs.07-Picture.{pad, type-row}
-use Rattle.rules.proofs.Bools.{and-both, and-of}
-use Rattle.rules.proofs.01-Lists.{any-at, any-where}
-use Rattle.rows.specs.Rows.{part, Rising, Split, Counted}
+use Rattle.base.specs.Tables.{In-order, by-name}
+use Rattle.base.proofs.Back.{applications-written}
+use Rattle.base.proofs.OrderedLaws.{things-rise}
+use Rattle.base.proofs.Tables.{applications-sort, ends-sort}
+use Rattle.rules.specs.Parts.{of-presences, Once}
+use Rattle.rules.proofs.Parts.{present-each, applied-held, ended-held}
+use Rattle.rows.specs.Rows.{Split, Counted}
 use Rattle.rows.proofs.Rows.{part-byte}
 use Rattle.base.specs.Rows.{type-at, presence-at, application-at, end-at}
 use Rattle.base.specs.Back.{schema-of, presence-count, application-count, end-count, presence-shown, application-shown, end-shown, kind-shown}
 use Rattle.base.proofs.Shown.{sds-none, kind-is, kind-none, presence-in, presence-there, application-in, application-there, end-in, end-there}
 use Rattle.base.proofs.Shown.{shows-unused}
-use Rattle.graph.specs.Graph.{Parental}
+use Rattle.lookup.specs.Parents.{Parental}
 use Rattle.check_sdss.specs.declared.Places.{Places}
-use Rattle.check_rows.specs.Parts.{Presences, Rest}
-use Rattle.check_sdss.specs.Parts.{Closed}
+use Rattle.check_rows.specs.Fine.{Presences-fine, Rest-fine}
 use Rattle.check_sds.specs.Held.{type-in, Closed-type, Applied, Ended}
-use Rattle.check_sdss.specs.Sds.{Sds-closed, Ready}
-use Rattle.check_rows.proofs.OrderLaws.{front, front-once, presences-rise, applications-rise, ends-rise}
-use Rattle.check_rows.proofs.RestLaws.{written-side}
+use Rattle.check_sdss.specs.Sds.{Sds-closed, Sdss-closed, Ready}
+use Rattle.check_rows.proofs.OrderLaws.{row-once, presences-rise}
+use Rattle.lookup.proofs.EndRows.{written-side}
+use Rattle.check_sdss.proofs.ClosedLaws.{alike}
 
 below-16 : (b : List ℕ) (d : ℕ) → used-sds (schema-of b) d ≡ true → d < 16
 unfolding used-sds
@@ -37,95 +42,71 @@ below-16 b d e = go (ltb d 16) refl
     go true q = ltb-true d 16 q
     go false q = absurd (false≢true (rw (sds-none b d (ltb-false d 16 q)) at e))
 
--- a row says that its type is in its SDS
-pub present-row : (b : List ℕ) (i d : ℕ) → i < presence-count b → getD b (presence-at i) 0 ≡ d → present (schema-of b) d (type-in b i) ≡ true
-unfolding present
-present-row b i d h e =
-    let x = presence-shown b i in
-    any-at (holds-type d (type-in b i)) (presence-there b i h) (and-of (eqb (x .sds) d) (eqb (x .type) (type-in b i)) (eq-eqb (x .sds) d e) (eq-eqb (x .type) (type-in b i) refl))
+-- what an SDS holds is what the presences say, whatever else there is
+abbrev held : List ℕ → ℕ → ℕ → Bool
+held b d = present (of-presences ((schema-of b) .presences)) d
 
--- and what is present has a row
-pub row-present : (b : List ℕ) (d t : ℕ) → present (schema-of b) d t ≡ true → (i : ℕ) × (i < presence-count b) × (getD b (presence-at i) 0 ≡ d) × (type-in b i ≡ t)
+held-shown : (b : List ℕ) {d e : ℕ} → d ≡ e → (t : ℕ) → held b d t ≡ present (schema-of b) e t
 unfolding present
-row-present b d t e =
-    let (x, m, r) = any-where (holds-type d t) ((schema-of b) .presences) e in
-    let (i, h, y) = presence-in b x m in
-    let (sd, ty) = and-both (eqb (x .sds) d) (eqb (x .type) t) r in
-    (i, h, sym (ap (λ (v : Presence). v .sds) y) ∙ eqb-true (x .sds) d sd, sym (ap (λ (v : Presence). v .type) y) ∙ eqb-true (x .type) t ty)
+held-shown b s t = ap (λ (d : ℕ). any (holds-type d t) ((schema-of b) .presences)) s
 
-module _ {b : List ℕ} (pres : Presences b) where
-  rise : Rising b 1280 18 17 (presence-count b)
-  rise =
-      presences-rise b (pres .presence-rows) (λ i h. pres .presence-named (presence-shown b i) (presence-there b i h)) (pres .presences-rising) (pres .local-names-unique)
+module _ {b : List ℕ} (pres : Presences-fine b) where
+  named : (i : ℕ) → i < presence-count b → well-formed ((presence-shown b i) .name) ≡ true
+  named i h = pres .rows .named (presence-shown b i) (presence-there b i h)
+
+  rise : In-order by-name b (presence-count b)
+  rise = presences-rise b (pres .presence-rows) named (pres .rows .rises) (pres .rows .unique)
 
   row-below : (i : ℕ) → i < presence-count b → getD b (presence-at i) 0 < 16
-  row-below i h = below-16 b (getD b (presence-at i) 0) (pres .presence-sds (presence-shown b i) (presence-there b i h))
+  unfolding used-sds
+  row-below i h = below-16 b (getD b (presence-at i) 0) (pres .rows .in-used (presence-shown b i) (presence-there b i h))
 
-  pub present-below : (d t : ℕ) → present (schema-of b) d t ≡ true → d < 16
-  present-below d t e = let (i, h, s, y) = row-present b d t e in omega (arith, row-below i h, s)
+  present-below : (d t : ℕ) → held b d t ≡ true → d < 16
+  unfolding used-sds
+  present-below = present-each ((schema-of b) .presences) (λ d t. d < 16) (λ p m. below-16 b (p .sds) (pres .rows .in-used p m))
 
-  -- ---- from `Closed`
+  -- ---- from `Sdss-closed`
 
-  module _ (c : Closed b) where
+  module _ (c : Sdss-closed b) where
     pub closed-sds : (d : ℕ) → Sds-closed b d
     closed-sds d = record {
       once = λ i j h k s u e.
           let one : presence-shown b i ≡ presence-shown b j
-          = c .one-presence (presence-shown b i) (presence-shown b j) (presence-there b i h) (presence-there b j k) (s ∙ sym u) e in
-          front-once b (pres .presence-rows) (λ i h. pres .presence-named (presence-shown b i) (presence-there b i h)) rise i j h k (ap front one);
-      types = λ i h s. record {
-        parents = λ a by. c .parents-present d (type-in b i) a (present-row b i d h s) by;
-        reverse = λ e r q. c .reverse-present d (type-in b i) e r (present-row b i d h s) q;
-      };
-      applications = λ i h s. record {
-        attribute = c .applied-attribute (application-shown b i) (application-there b i h);
-        to = c .applied-to (application-shown b i) (application-there b i h);
-        within = rw s at (c .application-present (application-shown b i) (application-there b i h));
-      };
-      ends = λ i h s. record {
-        link = c .end-link (end-shown b i) (end-there b i h);
-        object = c .end-object (end-shown b i) (end-there b i h);
-        within = rw s at (c .end-present (end-shown b i) (end-there b i h));
+          = c .once (presence-shown b i) (presence-shown b j) (presence-there b i h) (presence-there b j k) (s ∙ sym u) e in
+          row-once b (pres .presence-rows) named rise i j h k one;
+      types = λ i h s. alike (held-shown b s) (λ p. Closed-type b p (type-in b i)) (c .closed (presence-shown b i) (presence-there b i h));
+      applications = λ i h s. alike (held-shown b s) (λ p. Applied b p i) (c .applications (application-shown b i) (application-there b i h));
+      ends = λ i h s. alike (held-shown b s) (λ p. Ended b p i) (record {
+        fits = c .ends (end-shown b i) (end-there b i h);
         mirrored = c .mirrored (end-shown b i) (end-there b i h);
-      };
+      });
     }
 
     pub application-below : (i : ℕ) → i < application-count b → getD b (application-at i) 0 < 16
     application-below i h =
         let x = application-shown b i in
-        present-below (x .sds) (x .to) (and-both (present (schema-of b) (x .sds) (x .to)) (present (schema-of b) (x .sds) (x .attribute))
-        (c .application-present x (application-there b i h)) .0)
+        present-below (x .sds) (x .to) (applied-held (c .applications x (application-there b i h)) .0)
 
     pub end-below : (i : ℕ) → i < end-count b → getD b (end-at i) 0 < 16
     end-below i h =
         let x = end-shown b i in
-        present-below (x .sds) (x .link) (and-both (present (schema-of b) (x .sds) (x .link)) (present (schema-of b) (x .sds) (x .object)) (c .end-present x (end-there b i h)) .0)
+        present-below (x .sds) (x .link) (ended-held (c .ends x (end-there b i h)) .0)
 
-  -- ---- to `Closed`
+  -- ---- to `Sdss-closed`
 
   pub sds-closed-all : ((d : ℕ) → d < 16 → Sds-closed b d)
       → ((i : ℕ) → i < application-count b → getD b (application-at i) 0 < 16) → ((i : ℕ) → i < end-count b → getD b (end-at i) 0 < 16)
-      → ((t : ℕ) → is-used (kind-of (schema-of b) t) ≡ true → (d : ℕ) × (present (schema-of b) d t ≡ true)) → Closed b
+      → ((t : ℕ) → is-used (kind-of (schema-of b) t) ≡ true → (d : ℕ) × (present (schema-of b) d t ≡ true)) → Sdss-closed b
   sds-closed-all f la le w = record {
-    one-presence = λ p q m n s e. one p q m n s e;
-    somewhere = w;
-    parents-present = λ d t a e by. let (i, h, s, y) = row-present b d t e in with-type y (λ u. (a : ℕ) → Parent (schema-of b) u a → present
-        (schema-of b) d a ≡ true) (f d (present-below d t e) .types i h s .parents) a by;
-    reverse-present = λ d t c r e q. let (i, h, s, y) = row-present b d t e in with-type y (λ u. (c r : ℕ) → kind-of
-        (schema-of b) u ≡ paired c r → present (schema-of b) d r ≡ true) (f d (present-below d t e) .types i h s .reverse) c r q;
-    applied-attribute = λ x m. let (i, h, e) = application-in b x m in rw e (applied i h .attribute);
-    applied-to = λ x m. let (i, h, e) = application-in b x m in rw e (applied i h .to);
-    application-present = λ x m. let (i, h, e) = application-in b x m in rw e (applied i h .within);
-    end-link = λ x m. let (i, h, e) = end-in b x m in rw e (ended i h .link);
-    end-object = λ x m. let (i, h, e) = end-in b x m in rw e (ended i h .object);
-    end-present = λ x m. let (i, h, e) = end-in b x m in rw e (ended i h .within);
+    once = one;
+    closed = λ p m. let (i, h, e) = presence-in b p m in rw e (closed i h);
+    somewhere = λ t u. let (d, e) = w t u in (d, held-shown b refl t ∙ e);
+    applications = λ x m. let (i, h, e) = application-in b x m in rw e (applied i h);
+    ends = λ x m. let (i, h, e) = end-in b x m in rw e (ended i h .fits);
     mirrored = λ x m. let (i, h, e) = end-in b x m in rw e (ended i h .mirrored);
   }
     where
-      with-type : {t u : ℕ} → u ≡ t → (P : ℕ → Type 0) → P u → P t
-      with-type e P x = subst P e x
-
-      one : (p q : Presence) → p ∈ (schema-of b) .presences → q ∈ (schema-of b) .presences → p .sds ≡ q .sds → p .type ≡ q .type → p ≡ q
+      one : Once ((schema-of b) .presences)
       one p q m n s e =
           let (i, h, pi) = presence-in b p m in
           let (j, k, qj) = presence-in b q n in
@@ -135,11 +116,14 @@ module _ {b : List ℕ} (pres : Presences b) where
           let same : i ≡ j = f (q .sds) (omega (arith, row-below j k, sj)) .once i j h k si sj ty in
           pi ∙ ap (presence-shown b) same ∙ sym qj
 
-      applied : (i : ℕ) → i < application-count b → Applied b (present (schema-of b) (getD b (application-at i) 0)) i
-      applied i h = f (getD b (application-at i) 0) (la i h) .applications i h refl
+      closed : (i : ℕ) → i < presence-count b → Closed-type b (held b (getD b (presence-at i) 0)) (type-in b i)
+      closed i h = alike (λ t. sym (held-shown b refl t)) (λ p. Closed-type b p (type-in b i)) (f (getD b (presence-at i) 0) (row-below i h) .types i h refl)
 
-      ended : (i : ℕ) → i < end-count b → Ended b (present (schema-of b) (getD b (end-at i) 0)) i
-      ended i h = f (getD b (end-at i) 0) (le i h) .ends i h refl
+      applied : (i : ℕ) → i < application-count b → Applied b (held b (getD b (application-at i) 0)) i
+      applied i h = alike (λ t. sym (held-shown b refl t)) (λ p. Applied b p i) (f (getD b (application-at i) 0) (la i h) .applications i h refl)
+
+      ended : (i : ℕ) → i < end-count b → Ended b (held b (getD b (end-at i) 0)) i
+      ended i h = alike (λ t. sym (held-shown b refl t)) (λ p. Ended b p i) (f (getD b (end-at i) 0) (le i h) .ends i h refl)
 
 -- ---- a used type has a first byte that is not 0
 
@@ -168,8 +152,10 @@ byte-used b t u = go (ltb t 128) refl
 
 -- ---- before and after the SDSs are gone through
 
-pub ready-of : {b : List ℕ} {n : Places} → Parental b → Presences b → Rest b
-    → Counted (presence-count b) 512 (n .presences) → Counted (application-count b) 256 (n .applications) → Counted (end-count b) 512 (n .ends) → Ready b n
+pub ready-of : {b : List ℕ} {n : Places} → Parental b → Presences-fine b → Rest-fine b
+    → Counted (presence-count b) (limits .presences) (n .presences) → Counted (application-count b) (limits .applications) (n .applications)
+    → Counted (end-count b) (limits .ends) (n .ends) → Ready b n
+unfolding schema-of
 ready-of {b} {n} p pres rest cp ca ce = record {
   long = p .long;
   parental = p;
@@ -178,12 +164,12 @@ ready-of {b} {n} p pres rest cp ca ce = record {
   ends = record {
     long = p .long;
     counted = ce;
-    rise = rw (ce .is) (ends-rise b (rest .end-rows) (rest .ends-rising));
+    rise = rw (ce .is) (things-rise ends-sort b (end-count b) (rest .end-rows) (λ i h. tt) (rest .ends .rises));
     sides = λ i h. written-side b i (rest .end-rows i (omega (arith, ce .is)));
   };
   presences-rise = rw (cp .is) (rise pres);
-  applications-rise = rw (ca .is) (applications-rise b (p .long) (omega (arith, ca .is, ca .fits)) (rest .applications-rising));
-  types = λ i h. used-below (presence-shown b i .type) (pres .presence-type (presence-shown b i) (presence-there b i (omega (arith, cp .is))));
+  applications-rise = rw (ca .is) (things-rise applications-sort b (application-count b) (applications-written b (p .long)) (λ i h. tt) (rest .applications .rises));
+  types = λ i h. used-below (presence-shown b i .type) (pres .typed (presence-shown b i) (presence-there b i (omega (arith, cp .is))));
 }
   where
     used-below : (t : ℕ) → is-used (kind-of (schema-of b) t) ≡ true → t < 128
@@ -207,6 +193,8 @@ module _ {b : List ℕ} {first w n r : ℕ} (s : Split b first w n 16 r) where
           go false q = absurd (n (omega (arith, ltb-false x y q)))
 
 -- a used type is present somewhere, and so is marked
-pub marked-used : {b : List ℕ} → Presences b → Closed b → {p : ℕ → Bool} → ((d t : ℕ) → d < 16 → present (schema-of b) d t ≡ true → p t ≡ true)
+pub marked-used : {b : List ℕ} → Presences-fine b → Sdss-closed b → {p : ℕ → Bool} → ((d t : ℕ) → d < 16 → present (schema-of b) d t ≡ true → p t ≡ true)
     → (t : ℕ) → is-used (kind-of (schema-of b) t) ≡ true → p t ≡ true
-marked-used pres c f t u = let (d, e) = c .somewhere t u in f d t (present-below pres d t e) e
+marked-used {b} pres c f t u =
+    let (d, e) = c .somewhere t u in
+    f d t (present-below pres d t e) (sym (held-shown b refl t) ∙ e)

@@ -4,17 +4,21 @@ use mathlib.Core.Path.{_≡_}
 use mathlib.Core.List.{List}
 use mathlib.Core.Bool.{true, false}
 use lib.ListN.{length, getD}
+use Rattle.rules.specs.02-Limits.{limits}
 use Rattle.rules.specs.04-Schema.{present}
 use Rattle.rules.specs.07-Picture.{base-length}
+use Rattle.base.specs.Tables.{In-order, Split-at, applications, by-application, by-name, ends, presences}
+use Rattle.rules.specs.Parts.{Once, Closed, Somewhere, Applications-fit, Ends-fit, Ends-mirrored}
 use Rattle.type_set.specs.declared.TypeSet.{TypeSet}
 use Rattle.type_set.specs.Set.{has}
-use Rattle.rows.specs.Rows.{Counted, Rising, Split}
+use Rattle.rows.specs.Rows.{Counted}
 use Rattle.base.specs.Rows.{presence-at, application-at, end-at}
 use Rattle.base.specs.Back.{schema-of, presence-count, application-count, end-count}
-use Rattle.graph.specs.Graph.{Parental}
+use Rattle.lookup.specs.Parents.{Parental}
 use Rattle.check_sdss.specs.declared.Places.{Places}
 use Rattle.check_sdss.specs.declared.Checked.{Checked}
-use Rattle.check_sds.specs.Held.{type-in, Closed-type, Applied, Ended, Ends}
+use Rattle.check_sds.specs.Held.{type-in, Closed-type, Applied, Ended}
+use Rattle.lookup.specs.Found.{Ends}
 
 -- the set is that of the types in SDS d
 abbrev pub Shows : List ℕ → ℕ → TypeSet → Type 0
@@ -28,22 +32,31 @@ pub record Sds-closed (b : List ℕ) (d : ℕ) : Type 0 where
   pub applications : (i : ℕ) → i < application-count b → getD b (application-at i) 0 ≡ d → Applied b (present (schema-of b) d) i
   pub ends : (i : ℕ) → i < end-count b → getD b (end-at i) 0 ≡ d → Ended b (present (schema-of b) d) i
 
+-- what is asked of all SDSs: the parts of `Good` that speak of the types that an SDS holds
+pub record Sdss-closed (b : List ℕ) : Type 0 where
+  pub once : Once ((schema-of b) .presences)
+  pub closed : Closed ((schema-of b) .types) ((schema-of b) .presences)
+  pub somewhere : Somewhere ((schema-of b) .types) ((schema-of b) .presences)
+  pub applications : Applications-fit ((schema-of b) .types) ((schema-of b) .presences) ((schema-of b) .applications)
+  pub ends : Ends-fit ((schema-of b) .types) ((schema-of b) .presences) ((schema-of b) .ends)
+  pub mirrored : Ends-mirrored ((schema-of b) .types) ((schema-of b) .ends)
+
 -- what holds before the SDSs are gone through: n is how many rows of each table are used
 pub record Ready (b : List ℕ) (n : Places) : Type 0 where
   pub long : length b ≡ base-length
   pub parental : Parental b
-  pub presences : Counted (presence-count b) 512 (n .presences)
-  pub applications : Counted (application-count b) 256 (n .applications)
+  pub presences : Counted (presence-count b) (limits .presences) (n .presences)
+  pub applications : Counted (application-count b) (limits .applications) (n .applications)
   pub ends : Ends b (n .ends)
-  pub presences-rise : Rising b 1280 18 17 (n .presences)
-  pub applications-rise : Rising b 10496 3 3 (n .applications)
+  pub presences-rise : In-order by-name b (n .presences)
+  pub applications-rise : In-order by-application b (n .applications)
   pub types : (i : ℕ) → i < n .presences → type-in b i < 128
 
 -- the rows before these places are in SDSs below d, the others are not
 pub record At (b : List ℕ) (n : Places) (d : ℕ) (at : Places) : Type 0 where
-  pub presences : Split b 1280 18 (n .presences) d (at .presences)
-  pub applications : Split b 10496 3 (n .applications) d (at .applications)
-  pub ends : Split b 11264 4 (n .ends) d (at .ends)
+  pub presences : Split-at presences b (n .presences) d (at .presences)
+  pub applications : Split-at applications b (n .applications) d (at .applications)
+  pub ends : Split-at ends b (n .ends) d (at .ends)
 
 -- what the check of SDS d answers
 pub record Checks (b : List ℕ) (n : Places) (d : ℕ) (r : Checked) : Type 0 where

@@ -1,16 +1,18 @@
 // SDS by SDS, with one set of the types that are in it: that these are closed, and that applications and ends stand on them.
+use base::Base;
 use type_set::TypeSet;
+use rules::Limits;
 ghost use mathlib.Core.Path.{_≡_};
 ghost use mathlib.Core.Bool.{true};
 ghost use Prim.Native.Nat.{ℕ, _<_};
+ghost use Rattle.rules.specs.02-Limits.{limits};
 ghost use Rattle.rules.specs.04-Schema.{kind-of, is-used};
 ghost use Rattle.type_set.specs.Set.{has};
 ghost use Rattle.rows.specs.Decides.{Decides};
 ghost use Rattle.base.specs.Back.{schema-of};
-ghost use Rattle.graph.specs.Graph.{Parental};
-ghost use Rattle.check_rows.specs.Parts.{Presences, Rest};
-ghost use Rattle.check_sdss.specs.Parts.{Closed};
-ghost use Rattle.check_sdss.specs.Sds.{Ready, At, Checks, Gone-through};
+ghost use Rattle.lookup.specs.Parents.{Parental};
+ghost use Rattle.check_rows.specs.Fine.{Presences-fine, Rest-fine};
+ghost use Rattle.check_sdss.specs.Sds.{Sdss-closed, Ready, At, Checks, Gone-through};
 
 // A row of each table that has an order of its own.
 pub struct Places {
@@ -76,10 +78,10 @@ fn sds_fine(base: &[u8], n: Places, at: Places, d: usize) -> Checked
 }
 
 fn is_in_if_used(base: &[u8], t: usize, set: TypeSet) -> bool
-    requires { ⌜ (Parental (now base)) × (t < 128) ⌝ }
+    requires { ⌜ (Parental (now base)) × (t < limits .types) ⌝ }
     ensures { λ r. ⌜ Decides (is-used (kind-of (schema-of (now (base .entry))) t) ≡ true → has set t ≡ true) r ⌝ }
 {
-    if base::kind(base, t) == 0 {
+    if base::kind(base, t) == Base::UNUSED {
         return true;
     }
     set.test(t)
@@ -88,10 +90,10 @@ fn is_in_if_used(base: &[u8], t: usize, set: TypeSet) -> bool
 // Whether every used type is in the set.
 fn used_in(base: &[u8], set: TypeSet) -> bool
     requires { ⌜ Parental (now base) ⌝ }
-    ensures { λ r. ⌜ Decides ((t : ℕ) → t < 128 → is-used (kind-of (schema-of (now (base .entry))) t) ≡ true → has set t ≡ true) r ⌝ }
+    ensures { λ r. ⌜ Decides ((t : ℕ) → t < limits .types → is-used (kind-of (schema-of (now (base .entry))) t) ≡ true → has set t ≡ true) r ⌝ }
 {
     let mut t = 0;
-    while t < 128 {
+    while t < Limits::TYPES {
         if !is_in_if_used(base, t, set) {
             return false;
         }
@@ -112,7 +114,7 @@ fn sdss_fine(base: &[u8], n: Places) -> Checked
     };
     let mut all = TypeSet::empty();
     let mut d = 0;
-    while d < 16 {
+    while d < Limits::SDSS {
         let sds = sds_fine(base, n, at, d);
         if !sds.fine {
             return sds;
@@ -132,9 +134,9 @@ fn sdss_fine(base: &[u8], n: Places) -> Checked
 
 pub fn closed_fine(base: &[u8]) -> bool
     requires { ⌜ Parental (now base) ⌝ }
-    requires { ⌜ Presences (now base) ⌝ }
-    requires { ⌜ Rest (now base) ⌝ }
-    ensures { λ r. ⌜ Decides (Closed (now (base .entry))) r ⌝ }
+    requires { ⌜ Presences-fine (now base) ⌝ }
+    requires { ⌜ Rest-fine (now base) ⌝ }
+    ensures { λ r. ⌜ Decides (Sdss-closed (now (base .entry))) r ⌝ }
 {
     let n = Places {
         presences: base::used::presence_count(base),

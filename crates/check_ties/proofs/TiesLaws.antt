@@ -15,9 +15,11 @@ use Rattle.rules.specs.04-Schema.{Kind, kind-of, is-object, parents-in, parents
 use Rattle.rules.specs.04-Schema.Kind.{unused, object, attribute, designation, paired}
 use Rattle.rules.specs.05-Descent.{Parent}
 use Rattle.rules.specs.07-Picture.{base-length}
+use Rattle.rules.specs.Parts.{Parents, Reverses}
 use Rattle.rules.proofs.Bools.{and-both, and-of}
 use Rattle.rules.proofs.01-Lists.{at-place, place-in}
-use Rattle.rows.specs.Rows.{part, Reads}
+use Rattle.rules.proofs.Parts.{parent-in, parent-of}
+use Rattle.rows.specs.Rows.{Reads}
 use Rattle.rows.specs.Decides.{Decides}
 use Rattle.rows.proofs.Decides.{decides-iff}
 use Rattle.base.specs.Rows.{type-at}
@@ -25,9 +27,8 @@ use Rattle.base.specs.Back.{schema-of}
 use Rattle.base.proofs.Shown.{kind-is, shows-paired}
 use Rattle.lookup.proofs.KindBytes.{kind-byte, value-byte, reverse-byte, count-byte, parent-byte, parent-places, listed-parents}
 use Rattle.lookup.proofs.KindBytes.{object-shown, place-byte, places-long, object-bytes, paired-bytes}
-use Rattle.check_types.specs.Parts.{Kinds}
+use Rattle.check_types.specs.TypeRows.{KindsFine}
 use Rattle.check_types.proofs.TypesLaws.{fine-object, kinds-row}
-use Rattle.check_ties.specs.Parts.{Parents, Reverses}
 use Rattle.check_ties.specs.Ties.{least, ParentsFine, Answers, ReverseFine}
 
 -- ---- the parents of all types: the part `Parents`
@@ -47,12 +48,12 @@ rising-next (x ∷ y ∷ l) f =
     and-of (ltb x y) (rising ltb (y ∷ l)) (lt-ltb x y (f 0 (omega arith))) (rising-next (y ∷ l) (λ i h. f (suc i) (omega arith)))
 
 -- a kind with a parent is an object type's
-parent-in : {a : ℕ} (k : Kind) → a ∈ parents-in k → (ps : List ℕ) × (k ≡ object ps) × (a ∈ ps)
-parent-in unused i = absurd (List·Memᴰ·not-nil i)
-parent-in (object ps) i = (ps, refl, i)
-parent-in (attribute v) i = absurd (List·Memᴰ·not-nil i)
-parent-in designation i = absurd (List·Memᴰ·not-nil i)
-parent-in (paired c r) i = absurd (List·Memᴰ·not-nil i)
+parent-listed : {a : ℕ} (k : Kind) → a ∈ parents-in k → (ps : List ℕ) × (k ≡ object ps) × (a ∈ ps)
+parent-listed unused i = absurd (List·Memᴰ·not-nil i)
+parent-listed (object ps) i = (ps, refl, i)
+parent-listed (attribute v) i = absurd (List·Memᴰ·not-nil i)
+parent-listed designation i = absurd (List·Memᴰ·not-nil i)
+parent-listed (paired c r) i = absurd (List·Memᴰ·not-nil i)
 
 object-in : (k : Kind) → is-object k ≡ true → (ps : List ℕ) × (k ≡ object ps)
 object-in unused e = absurd (false≢true e)
@@ -74,7 +75,7 @@ kind-at {b} k e = k .is ∙ ap (kind-byte b) e
 pub root-fine : (b : List ℕ) → count-byte b 0 ≡ 0 → ParentsFine b 0
 root-fine b n = record { only-root = λ k z. refl; each = λ k i u. absurd (omega arith) }
 
-module _ (b : List ℕ) (long : length b ≡ base-length) (kinds : Kinds b) where
+module _ (b : List ℕ) (long : length b ≡ base-length) (kinds : KindsFine b) where
   pub count-few : (t : ℕ) → t < 128 → kind-byte b t ≡ 1 → count-byte b t ≤ 4
   count-few t h e = (fine-object b t long h e (kinds-row kinds t h)) .parents .count
 
@@ -93,7 +94,7 @@ module _ (b : List ℕ) (long : length b ≡ base-length) (kinds : Kinds b) wher
       → (t < 128) × (kind-byte b t ≡ 1) × ((i : ℕ) × (i < count-byte b t) × (parent-byte b t i ≡ a))
   unfolding parents
   parent-place t a p =
-      let (ps, e, m) = parent-in (kind-of (schema-of b) t) (p .listed) in
+      let (ps, e, m) = parent-listed (kind-of (schema-of b) t) (p .listed) in
       let (h, k, q) = object-bytes b t ps e in
       let (i, u, g) = at-place 0 (subst (λ (l : List ℕ). a ∈ l) q m) in
       let u′ : i < count-byte b t = omega (arith, listed-long t h k) in
@@ -105,17 +106,17 @@ module _ (b : List ℕ) (long : length b ≡ base-length) (kinds : Kinds b) wher
       let m : getD (listed-parents b t) i 0 ∈ listed-parents b t = place-in 0 (listed-parents b t) i (omega (arith, listed-long t h k)) in
       record { listed = rw (object-is t h k) (rw (listed-byte t h k i u) at m) }
 
-  pub parents-of : kind-byte b 0 ≡ 1 → count-byte b 0 ≡ 0 → ((t : ℕ) → t < 128 → ParentsFine b t) → Parents b
+  pub parents-of : kind-byte b 0 ≡ 1 → count-byte b 0 ≡ 0 → ((t : ℕ) → t < 128 → ParentsFine b t) → Parents ((schema-of b) .types)
   unfolding least
   parents-of e n f = record {
-    parents-rising = λ t ps q.
+    rises = λ t ps q.
         let (h, k, p) = object-bytes b t ps q in
         rw p (rising-next (listed-parents b t) (λ i u.
         let u′ : suc i < count-byte b t = omega (arith, listed-long t h k) in
         let r = (f t h .each k (suc i) u′) .rising in
         omega (arith, listed-byte t h k i (omega arith), listed-byte t h k (suc i) u′)));
-    parents-objects = λ t a p.
-        let (h, k, (i, u, g)) = parent-place t a p in
+    objects = λ t a p.
+        let (h, k, (i, u, g)) = parent-place t a (parent-of t a p) in
         let fine = f t h .each k i u in
         rw (← g) (ap is-object (object-is (parent-byte b t i) (fine .small) (fine .object)));
     root = object-is 0 (omega arith) e ∙ ap (λ (m : ℕ). object (take m (parent-places b 0))) n;
@@ -124,7 +125,7 @@ module _ (b : List ℕ) (long : length b ≡ base-length) (kinds : Kinds b) wher
         f t h .only-root k (sym (listed-long t h k) ∙ sym (ap length p));
   }
 
-  module _ (p : Parents b) where
+  module _ (p : Parents ((schema-of b) .types)) where
     pub parents-root : (kind-byte b 0 ≡ 1) × (count-byte b 0 ≡ 0)
     parents-root =
         let (h, k, q) = object-bytes b 0 [] (p .root) in
@@ -135,7 +136,8 @@ module _ (b : List ℕ) (long : length b ≡ base-length) (kinds : Kinds b) wher
     parents-each t h = record {
       only-root = λ k n. p .only-root t (object-is t h k ∙ ap (λ (m : ℕ). object (take m (parent-places b t))) n);
       each = λ k i u.
-          let (ps, e) = object-in (kind-of (schema-of b) (parent-byte b t i)) (p .parents-objects t (parent-byte b t i) (place-parent t h k i u)) in
+          let (ps, e) = object-in (kind-of (schema-of b) (parent-byte b t i))
+          (p .objects t (parent-byte b t i) (parent-in t (parent-byte b t i) (place-parent t h k i u))) in
           let (small, kind, _) = object-bytes b (parent-byte b t i) ps e in
           record { rising = past k i u; small = small; object = kind };
     }
@@ -143,7 +145,7 @@ module _ (b : List ℕ) (long : length b ≡ base-length) (kinds : Kinds b) wher
         past : kind-byte b t ≡ 1 → (i : ℕ) → i < count-byte b t → least b t i ≤ parent-byte b t i
         past k zero u = omega arith
         past k (suc i) u =
-            let r = next-rising (listed-parents b t) (p .parents-rising t (listed-parents b t) (object-is t h k)) i (omega (arith, listed-long t h k)) in
+            let r = next-rising (listed-parents b t) (p .rises t (listed-parents b t) (object-is t h k)) i (omega (arith, listed-long t h k)) in
             omega (arith, listed-byte t h k i (omega arith), listed-byte t h k (suc i) u)
 
 -- ---- the reverses of all types: the part `Reverses`
@@ -152,36 +154,36 @@ module _ (b : List ℕ) where
   paired-is : (t r : ℕ) → t < 128 → kind-byte b t ≡ 3 → (value-byte b t ≡ 4 → ⊥) → reverse-byte b t ≡ r → kind-of (schema-of b) t ≡ paired (value-byte b t) r
   paired-is t r h k v e = kind-is b t h ∙ shows-paired b t k v ∙ ap (paired (value-byte b t)) e
 
-  pub reverses-of : ((t : ℕ) → t < 128 → ReverseFine b t) → Reverses b
+  pub reverses-of : ((t : ℕ) → t < 128 → ReverseFine b t) → Reverses ((schema-of b) .types)
   reverses-of f = record {
-    reverse-different = λ t c r e q.
+    different = λ t c r e q.
         let (h, k, v, _, n) = paired-bytes b t c r e in
         (f t h k v) .different (n ∙ q);
-    reverse-in-turn = λ t c r e.
+    in-turn = λ t c r e.
         let (h, k, v, _, n) = paired-bytes b t c r e in
         let m = f t h k v in
         let back = paired-is (reverse-byte b t) t (m .small) (m .answers .link) (m .answers .paired) (m .answers .in-turn) in
         (value-byte b (reverse-byte b t), subst (λ (x : ℕ). kind-of (schema-of b) x ≡ paired (value-byte b (reverse-byte b t)) t) n back);
-    not-both-implicit = λ t r e g.
+    not-both = λ t r e g.
         let (h, k, v, c, n) = paired-bytes b t 3 r e in
         let (_, _, _, d, _) = paired-bytes b r 3 t g in
         (f t h k v) .answers .not-both-implicit (ap (value-byte b) n ∙ d) c;
   }
 
-  pub reverses-each : Reverses b → (t : ℕ) → t < 128 → ReverseFine b t
+  pub reverses-each : Reverses ((schema-of b) .types) → (t : ℕ) → t < 128 → ReverseFine b t
   reverses-each x t h k v =
       let r = reverse-byte b t in
       let e : kind-of (schema-of b) t ≡ paired (value-byte b t) r = paired-is t r h k v refl in
-      let (c′, g) = x .reverse-in-turn t (value-byte b t) r e in
+      let (c′, g) = x .in-turn t (value-byte b t) r e in
       let (small, link, other, _, back) = paired-bytes b r c′ t g in
       record {
-        different = x .reverse-different t (value-byte b t) r e;
+        different = x .different t (value-byte b t) r e;
         small = small;
         answers = record {
           link = link;
           in-turn = back;
           paired = other;
-          not-both-implicit = λ d c. x .not-both-implicit t r (e ∙ ap (λ (n : ℕ). paired n r) c) (paired-is r t small link other back ∙ ap (λ (n : ℕ). paired n t) d);
+          not-both-implicit = λ d c. x .not-both t r (e ∙ ap (λ (n : ℕ). paired n r) c) (paired-is r t small link other back ∙ ap (λ (n : ℕ). paired n t) d);
         };
       }
 

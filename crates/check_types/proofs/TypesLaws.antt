@@ -1,4 +1,4 @@
--- What one type's bytes say, of all types together, is what the part `Kinds` says of the schema. Assumes nothing.
+-- What one type's bytes say, of all types together, is what `KindsFine` says. Assumes nothing.
 use Prim.Native.Nat.{ℕ, zero, suc, _≤_, _<_}
 use native.Mathlib.Omega.{arith}
 use mathlib.Core.Path.{_≡_, refl, sym, ap, _∙_, subst}
@@ -10,18 +10,17 @@ use lib.Seq.{ext-getD, getD-take}
 use borrow.Author.Tests.{ltb-true, ltb-false, eqb-true, eqb-false}
 use Rattle.rules.specs.04-Schema.{Kind, kind-of, parents}
 use Rattle.rules.specs.04-Schema.Kind.{unused, object, attribute, designation, paired}
-use Rattle.rules.specs.07-Picture.{pad, type-row, base-length}
+use Rattle.rules.specs.07-Picture.{pad, type-row, base-length, type-width}
 use Rattle.rules.proofs.07-Picture.{length-pad}
 use Rattle.rows.specs.Rows.{part}
 use Rattle.rows.specs.Decides.{Decides}
 use Rattle.rows.proofs.Decides.{decides-iff}
 use Rattle.base.specs.Rows.{type-at}
 use Rattle.base.specs.Back.{schema-of, kind-shown}
-use Rattle.base.proofs.Shown.{kind-is, kind-none, shows-attribute, shows-designation, shows-paired, shows-unused}
+use Rattle.base.proofs.Shown.{types-long, kind-is, kind-none, shows-attribute, shows-designation, shows-paired, shows-unused}
 use Rattle.lookup.proofs.KindBytes.{kind-byte, value-byte, reverse-byte, count-byte, parent-places, listed-parents}
 use Rattle.lookup.proofs.KindBytes.{object-shown, place-byte, places-long, row-bytes}
-use Rattle.check_types.specs.Parts.{Kinds}
-use Rattle.check_types.specs.TypeRows.{NoParentsFrom, FewParents, PlainRow, LinkRow, Bounded, RowFine}
+use Rattle.check_types.specs.TypeRows.{NoParentsFrom, FewParents, PlainRow, LinkRow, Bounded, RowFine, KindsFine}
 
 -- ---- a field with zeros behind what it holds
 
@@ -66,14 +65,14 @@ module _ (b : List ℕ) (t : ℕ) (long : length b ≡ base-length) (h : t < 128
   from-places ps e i u l =
       sym (place-byte b t i u) ∙ ap (λ (x : List ℕ). getD x i 0) (sym e) ∙ pad-byte 4 ps i u ∙ List·getD-eq-default ps 0 {n = i} l
 
-  bare-row : (k v r : ℕ) → kind-byte b t ≡ k → value-byte b t ≡ v → reverse-byte b t ≡ r → FewParents b t 0 → bare k v r ≡ part b (type-at t) 8
+  bare-row : (k v r : ℕ) → kind-byte b t ≡ k → value-byte b t ≡ v → reverse-byte b t ≡ r → FewParents b t 0 → bare k v r ≡ part b (type-at t) type-width
   unfolding pad
   bare-row k v r ek ev er f =
       let n : count-byte b t ≡ 0 = omega (arith, f .count) in
       let p : pad 4 [] ≡ parent-places b t = places-from 0 (rw n at (f .places)) in
       rw (row-bytes b t long h) (λ i. sym ek i ∷ sym ev i ∷ sym er i ∷ sym n i ∷ p i)
 
-  row-bare : (k v r : ℕ) → bare k v r ≡ part b (type-at t) 8 → (kind-byte b t ≡ k) × (value-byte b t ≡ v) × (reverse-byte b t ≡ r) × FewParents b t 0
+  row-bare : (k v r : ℕ) → bare k v r ≡ part b (type-at t) type-width → (kind-byte b t ≡ k) × (value-byte b t ≡ v) × (reverse-byte b t ≡ r) × FewParents b t 0
   unfolding pad
   row-bare k v r e =
       let e′ = e ∙ row-bytes b t long h in
@@ -81,10 +80,10 @@ module _ (b : List ℕ) (t : ℕ) (long : length b ≡ base-length) (h : t < 128
       = λ f. sym (ap (λ (x : List ℕ). getD x f 0) e′) in
       (byte 0, byte 1, byte 2, record { count = omega (arith, byte 3); places = rw (byte 3) (from-places [] (ap (drop 4) e′)) })
 
-  fine-of : (k : Kind) → kind-shown b t ≡ k → type-row k ≡ part b (type-at t) 8 → Bounded k → RowFine b t
+  fine-of : (k : Kind) → kind-shown b t ≡ k → type-row k ≡ part b (type-at t) type-width → Bounded k → RowFine b t
   fine-of k e r u = record { row = ap type-row e ∙ r; bounded = subst Bounded (sym e) u }
 
-  of-fine : (k : Kind) → kind-shown b t ≡ k → RowFine b t → type-row k ≡ part b (type-at t) 8
+  of-fine : (k : Kind) → kind-shown b t ≡ k → RowFine b t → type-row k ≡ part b (type-at t) type-width
   of-fine k e f = sym (ap type-row e) ∙ f .row
 
   shown-none : kind-byte b t ≡ 0 → kind-shown b t ≡ unused
@@ -182,7 +181,7 @@ module _ (b : List ℕ) (t : ℕ) (long : length b ≡ base-length) (h : t < 128
   unfolding type-row pad
   no-row z o a l f = z (row-bare 0 0 0 (of-fine unused (shows-unused b t o a l) f) .0)
 
--- ---- all rows: the part `Kinds`
+-- ---- all rows
 
 bounded-of : (k : Kind) → ((ps : List ℕ) → k ≡ object ps → length ps ≤ 4) → ((v : ℕ) → k ≡ attribute v → v ≤ 5)
     → ((c r : ℕ) → k ≡ paired c r → c ≤ 3) → Bounded k
@@ -192,20 +191,24 @@ bounded-of (attribute v) o a p = a v refl
 bounded-of designation o a p = tt
 bounded-of (paired c r) o a p = p c r refl
 
-pub kinds-row : {b : List ℕ} → Kinds b → (t : ℕ) → t < 128 → RowFine b t
+pub kinds-row : {b : List ℕ} → KindsFine b → (t : ℕ) → t < 128 → RowFine b t
 kinds-row {b} k t h =
     let e = kind-is b t h in
     record {
       row = k .type-rows t h;
-      bounded = bounded-of (kind-shown b t) (λ ps q. k .parents-few t ps (e ∙ q)) (λ v q. k .value-kinds t v (e ∙ q)) (λ c r q. k .categories t c r (e ∙ q));
+      bounded = bounded-of (kind-shown b t) (λ ps q. k .kinds .few t ps (e ∙ q)) (λ v q. k .kinds .value-kinds t v (e ∙ q))
+          (λ c r q. k .kinds .categories t c r (e ∙ q));
     }
 
-pub rows-kinds : (b : List ℕ) → ((t : ℕ) → t < 128 → RowFine b t) → Kinds b
+pub rows-kinds : (b : List ℕ) → ((t : ℕ) → t < 128 → RowFine b t) → KindsFine b
 rows-kinds b f = record {
   type-rows = λ t h. (f t h) .row;
-  parents-few = λ t ps e. subst Bounded e (bounded t);
-  value-kinds = λ t v e. subst Bounded e (bounded t);
-  categories = λ t c r e. subst Bounded e (bounded t);
+  kinds = record {
+    room = types-long b;
+    few = λ t ps e. subst Bounded e (bounded t);
+    value-kinds = λ t v e. subst Bounded e (bounded t);
+    categories = λ t c r e. subst Bounded e (bounded t);
+  };
 }
   where
     bounded : (t : ℕ) → Bounded (kind-of (schema-of b) t)

@@ -1,14 +1,15 @@
--- What the parts of the check of the rows of types answer of one type.
+-- What the check of the rows of types answers, of one type and of all.
 use Prim.Native.Nat.{ℕ, _≤_, _<_}
 use mathlib.Core.Path.{_≡_}
 use mathlib.Core.List.{List}
 use lib.ListN.{length}
 use Rattle.rules.specs.04-Schema.{Kind}
 use Rattle.rules.specs.04-Schema.Kind.{unused, object, attribute, designation, paired}
-use Rattle.rules.specs.07-Picture.{type-row}
+use Rattle.rules.specs.07-Picture.{type-row, type-width}
+use Rattle.rules.specs.Parts.{Kinds}
 use Rattle.rows.specs.Rows.{part}
 use Rattle.base.specs.Rows.{type-at}
-use Rattle.base.specs.Back.{kind-shown}
+use Rattle.base.specs.Back.{schema-of, kind-shown}
 use Rattle.lookup.proofs.KindBytes.{value-byte, reverse-byte, count-byte, parent-byte}
 
 -- no parent stands in place n or after it
@@ -40,7 +41,12 @@ Bounded (attribute v) = v ≤ 5
 Bounded designation = Unit {0}
 Bounded (paired c r) = c ≤ 3
 
--- what `Kinds` asks of the row of type t
+-- what `KindsFine` asks of the row of type t
 pub record RowFine (b : List ℕ) (t : ℕ) : Type 0 where
-  pub row : type-row (kind-shown b t) ≡ part b (type-at t) 8
+  pub row : type-row (kind-shown b t) ≡ part b (type-at t) type-width
   pub bounded : Bounded (kind-shown b t)
+
+-- what all the rows are asked: to be as they would be written, and to show kinds as 01 has them
+pub record KindsFine (b : List ℕ) : Type 0 where
+  pub type-rows : (t : ℕ) → t < 128 → type-row (kind-shown b t) ≡ part b (type-at t) type-width
+  pub kinds : Kinds ((schema-of b) .types)

@@ -17,9 +17,10 @@ use Rattle.base.specs.Back.{schema-of}
 use Rattle.base.specs.Tested.{told, Tested}
 use Rattle.base.specs.Tested.Tested.{spoiled, tested}
 use Rattle.base.proofs.TestedLaws.{Come, come-first, come-stops, come-past, tested-first, tested-sound}
-use Rattle.working.specs.Listed.{Named-in}
+use Rattle.lookup.specs.Found.{Named-in}
 use Rattle.conditions.specs.Aimed.{sds-refusals, aim-refusals, Aimed, Type-of, Refused-or}
-use Rattle.conditions.proofs.NameLaws.{borne, not-borne, name-there, name-missing}
+use Rattle.rules.proofs.NameTests.{name-there, name-missing}
+use Rattle.lookup.proofs.NamedLaws.{borne, not-borne}
 
 -- ---- where none of the refusals holds
 

@@ -1,4 +1,3 @@
-pub mod NameLaws
 pub mod ReverseLaws
 pub mod ConditionLaws
 pub mod AimedLaws

@@ -8,13 +8,13 @@ use borrow.Author.Tests.{eq-eqb, ne-eqb, lt-ltb, le-ltb}
 use Rattle.rules.specs.04-Schema.{Schema, Kind, kind-of, is-link, reverse-in, reverse}
 use Rattle.rules.specs.04-Schema.Kind.{unused, object, attribute, designation, paired}
 use Rattle.rules.specs.07-Picture.{Sound}
+use Rattle.rules.specs.Read.{reverse-offset, value-offset}
 use Rattle.rows.specs.Rows.{Reads}
 use Rattle.base.specs.Rows.{type-at}
 use Rattle.base.specs.Back.{schema-of}
 use Rattle.base.proofs.Back.{sound-good}
 use Rattle.base.proofs.Shown.{kind-is, shows-designation}
-use Rattle.lookup.proofs.KindBytes.{link-byte}
-use Rattle.check_sds.proofs.HeldLaws.{link-paired, link-below}
+use Rattle.lookup.proofs.KindBytes.{link-byte, link-paired, link-below}
 use Rattle.conditions.specs.Reverse.{one-or-none, Reverse-of}
 
 pub one-is : {r : ℕ} → r < 128 → one-or-none r ≡ r ∷ []
@@ -39,11 +39,11 @@ module _ {b : List ℕ} (s : Sound b) {l : ℕ} (h : l < 128) {k : ℕ} (code : 
   no-link-no-reverse n = none-there l (no-link-none (kind-of (schema-of b) l) (sym (link-byte b l k h (code .is)) ∙ ne-eqb k 3 n))
 
   module _ (three : k ≡ 3) where
-    pub no-reverse : {x : ℕ} → Reads b (type-at l + 1) x → x ≡ 4 → Reverse-of (schema-of b) l 128
+    pub no-reverse : {x : ℕ} → Reads b (type-at l + value-offset) x → x ≡ 4 → Reverse-of (schema-of b) l 128
     unfolding reverse
     no-reverse r e = none-there l (ap reverse-in (kind-is b l h ∙ shows-designation b l (sym (code .is) ∙ three) (sym (r .is) ∙ e)))
 
-    pub its-reverse : {x r : ℕ} → Reads b (type-at l + 1) x → (x ≡ 4 → ⊥) → Reads b (type-at l + 2) r → Reverse-of (schema-of b) l r
+    pub its-reverse : {x r : ℕ} → Reads b (type-at l + value-offset) x → (x ≡ 4 → ⊥) → Reads b (type-at l + reverse-offset) r → Reverse-of (schema-of b) l r
     unfolding reverse
     its-reverse {x} {r} v n w = record {
       fits = omega (arith, below);

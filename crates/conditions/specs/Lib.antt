@@ -1,3 +1,2 @@
 pub mod Reverse
-pub mod Conditions
 pub mod Aimed

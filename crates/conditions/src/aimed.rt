@@ -34,7 +34,7 @@ pub fn aimed_at(base: &[u8], sds: usize) -> usize
     if !sound::is_sound(base) {
         return 1;
     }
-    if !lookup::is_sds(base, sds) {
+    if !lookup::sdss::is_sds(base, sds) {
         return 2;
     }
     if sds == 0 {
@@ -85,7 +85,7 @@ pub fn named(base: &[u8], sds: usize, name: &[u8], no: usize) -> Told
     if no != 0 {
         return Told::refused(no);
     }
-    let t = working::find::type_in(base, sds, name);
+    let t = lookup::named::type_in(base, sds, name);
     if t == Limits::TYPES {
         return Told::refused(6);
     }
@@ -106,11 +106,11 @@ pub fn named_two(base: &[u8], sds: usize, name: &[u8], other: &[u8]) -> Told
     if no != 0 {
         return Told::refused(no);
     }
-    let one = working::find::type_in(base, sds, name);
+    let one = lookup::named::type_in(base, sds, name);
     if one == Limits::TYPES {
         return Told::refused(6);
     }
-    let two = working::find::type_in(base, sds, other);
+    let two = lookup::named::type_in(base, sds, other);
     if two == Limits::TYPES {
         return Told::refused(6);
     }
@@ -124,10 +124,10 @@ pub fn are_taken(base: &[u8], sds: usize, name: &[u8], other: &[u8]) -> bool
     requires { ⌜ Sound (now base) ⌝ }
     ensures { λ r. ⌜ r ≡ names-taken (schema-of (now (base .entry))) sds (now (name .entry) ∷ now (other .entry) ∷ []) ⌝ }
 {
-    if working::find::type_in(base, sds, name) != Limits::TYPES {
+    if lookup::named::type_in(base, sds, name) != Limits::TYPES {
         return true;
     }
-    if working::find::type_in(base, sds, other) != Limits::TYPES {
+    if lookup::named::type_in(base, sds, other) != Limits::TYPES {
         return true;
     }
     names::is_same(name, other)

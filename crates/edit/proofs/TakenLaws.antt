@@ -1,30 +1,27 @@
 -- A row that was taken out is what a test takes out that this row alone passes. Assumes nothing.
-use Prim.Native.Nat.{ℕ, _+_, _<_}
+use Prim.Native.Nat.{ℕ, _<_}
 use native.Mathlib.Omega.{arith}
 use mathlib.Core.Path.{_≡_, refl, sym, ap, _∙_}
 use mathlib.Core.List.{List}
 use mathlib.Core.Bool.{Bool, true, _&&_}
 use lib.Dec.{eqb}
-use lib.ListN.{getD}
-use borrow.Author.Tests.{eqb-true, eq-eqb}
+use lib.ListN.{length, getD}
+use borrow.Author.Tests.{eqb-true}
 use Rattle.rules.specs.01-Lists.{_∈_, without}
-use Rattle.rules.specs.04-Schema.{Presence, Application, Side, End, system-presence, is-application, is-end, side-code}
+use Rattle.rules.specs.04-Schema.{Schema, Presence, Application, Side, End, system-presence, is-application, is-end, side-code}
 use Rattle.rules.specs.07-Picture.{end-row}
-use Rattle.rules.proofs.Bools.{and-both, and-of}
-use Rattle.rules.proofs.07-Picture.{end-back}
 use Rattle.rules.specs.Read.{read-side, read-end}
-use Rattle.base.specs.Rows.{application-at}
-use Rattle.base.specs.Back.{schema-of, presence-count, application-count, end-count, presence-shown, end-shown}
+use Rattle.rules.proofs.Bools.{and-both}
+use Rattle.rules.proofs.07-Picture.{end-back}
+use Rattle.base.specs.Tables.{Table, Sorted}
+use Rattle.base.specs.Back.{schema-of, presence-count, application-count, end-count, presence-shown, application-shown, end-shown}
 use Rattle.base.specs.Stored.{Stored, less-row}
+use Rattle.base.proofs.Tables.{Keeps, keeps-presences, keeps-applications, keeps-ends}
 use Rattle.base.proofs.Back.{no-application, no-end}
 use Rattle.base.proofs.Shown.{presences-long, applications-long, ends-long, presence-is, application-is, end-is}
-use Rattle.base.proofs.OrderedLaws.{of-presences, of-applications, of-ends, without-row}
+use Rattle.base.proofs.OrderedLaws.{without-row}
 
 -- ---- what tells one row from all others
-
-own-application : (d t a : ℕ) → is-application d t a (record { sds = d; to = t; attribute = a }) ≡ true
-own-application d t a =
-    and-of (eqb d d) (eqb t t && eqb a a) (eq-eqb d d refl) (and-of (eqb t t) (eqb a a) (eq-eqb t t refl) (eq-eqb a a refl))
 
 one-application : (d t a : ℕ) (x : Application) → is-application d t a x ≡ true → x ≡ record { sds = d; to = t; attribute = a }
 one-application d t a x e =
@@ -50,25 +47,26 @@ one-end d l s o x e =
 -- ---- the three tables
 
 module _ {b : List ℕ} (x : Stored b) (i : ℕ) where
+  -- row i alone passes
+  alone : {A : Type 0} {t : Table A} {o : Sorted t} {of : Schema → List A} {put : Schema → List A → Schema} → Keeps o of put
+      → (d : A) {y : A} (q : A → Bool) → i < length (of (schema-of b)) → getD (of (schema-of b)) i d ≡ y → q y ≡ true
+      → ((z : A) → z ∈ of (schema-of b) → q z ≡ true → z ≡ y) → without q (of (schema-of b)) ≡ less-row i (of (schema-of b))
+  alone k d q h is e one = without-row (k .sorts) (k .kept (x .rows)) d q i h (ap q is ∙ e) (λ z m t. one z m t ∙ sym is)
+
   -- which test tells a presence from all others depends on what is known of the schema
   pub presence-without : i < presence-count b → (q : Presence → Bool) → q (presence-shown b i) ≡ true
       → ((p : Presence) → p ∈ (schema-of b) .presences → q p ≡ true → p ≡ presence-shown b i)
       → without q ((schema-of b) .presences) ≡ less-row i ((schema-of b) .presences)
-  presence-without h q e alone =
-      let is = presence-is b i system-presence h in
-      without-row of-presences (x .rows .presences) system-presence q i (omega (arith, presences-long b)) (ap q is ∙ e) (λ p m t. alone p m t ∙ sym is)
+  presence-without h q e one = alone keeps-presences system-presence q (omega (arith, presences-long b)) (presence-is b i system-presence h) e one
 
-  pub application-without : (d t a : ℕ) → i < application-count b → getD b (application-at i) 0 ≡ d → getD b (application-at i + 1) 0 ≡ t
-      → getD b (application-at i + 2) 0 ≡ a → without (is-application d t a) ((schema-of b) .applications) ≡ less-row i ((schema-of b) .applications)
-  application-without d t a h e f g =
-      let is : getD ((schema-of b) .applications) i no-application ≡ record { sds = d; to = t; attribute = a }
-      = application-is b i no-application h ∙ (λ j. record { sds = e j; to = f j; attribute = g j }) in
-      without-row of-applications (x .rows .applications) no-application (is-application d t a) i (omega (arith, applications-long b))
-      (ap (is-application d t a) is ∙ own-application d t a) (λ y m q. one-application d t a y q ∙ sym is)
+  pub application-without : (d t a : ℕ) → i < application-count b → is-application d t a (application-shown b i) ≡ true
+      → without (is-application d t a) ((schema-of b) .applications) ≡ less-row i ((schema-of b) .applications)
+  application-without d t a h e =
+      alone keeps-applications no-application (is-application d t a) (omega (arith, applications-long b)) (application-is b i no-application h) e
+      (λ y m q. one-application d t a y q ∙ sym (one-application d t a (application-shown b i) e))
 
   pub end-without : (d l : ℕ) (s : Side) (o : ℕ) → i < end-count b → is-end d l s o (end-shown b i) ≡ true
       → without (is-end d l s o) ((schema-of b) .ends) ≡ less-row i ((schema-of b) .ends)
   end-without d l s o h e =
-      let is = end-is b i no-end h in
-      without-row of-ends (x .rows .ends) no-end (is-end d l s o) i (omega (arith, ends-long b))
-      (ap (is-end d l s o) is ∙ e) (λ y m q. one-end d l s o y q ∙ sym (is ∙ one-end d l s o (end-shown b i) e))
+      alone keeps-ends no-end (is-end d l s o) (omega (arith, ends-long b)) (end-is b i no-end h) e
+      (λ y m q. one-end d l s o y q ∙ sym (one-end d l s o (end-shown b i) e))

@@ -1,12 +1,12 @@
 // Rows put in, taken out and written over: each is the same edit of the schema that the bytes show. Within a call a base is not
 // always sound; here it need only be stored. Where a row starts and how wide it is, `base` says.
 use base::Base;
-use rules::Limits;
 ghost use mathlib.Core.Path.{_≡_};
 ghost use mathlib.Core.Bool.{true, false};
 ghost use Prim.Native.Nat.{_≤_, _<_};
 ghost use lib.ListN.{length};
 ghost use Rattle.rules.specs.01-Lists.{put};
+ghost use Rattle.rules.specs.02-Limits.{limits};
 ghost use Rattle.rules.specs.03-Names.{well-formed};
 ghost use Rattle.rules.specs.04-Schema.{bears, applied, has-end, presence-before, application-before, end-before, fresh};
 ghost use Rattle.rules.specs.07-Picture.{presence-row, sds-row, picture, base-length};
@@ -25,19 +25,19 @@ pub fn write_fresh(base: &mut [u8])
     ensures { λ _. ⌜ now (base .exit) ≡ picture fresh ⌝ }
 {
     rows::table::clear(base);
-    rows::table::write(base, 0, b"system");
+    rows::table::write(base, Base::SDSS_AT, b"system");
     base[Base::TYPES_AT] = 1;
-    rows::table::write(base, Base::PRESENCES_AT + 1, b"object");
+    rows::table::write(base, Base::PRESENCES_AT + Base::NAME_OFFSET, b"object");
 }
 
 // ---- SDSs
 
 // SDS d gets the name, or none where it is blank.
 pub fn write_sds(base: &mut [u8], d: usize, name: &[u8])
-    requires { ⌜ (length (now base) ≡ base-length) × ((d < 16) × (length (now name) ≤ 16)) ⌝ }
+    requires { ⌜ (length (now base) ≡ base-length) × ((d < limits .sdss) × (length (now name) ≤ limits .name)) ⌝ }
     ensures { λ _. ⌜ now (base .exit) ≡ written (now (base .entry)) (sds-at d) (sds-row (now (name .entry))) ⌝ }
 {
-    let at = d * Base::SDS_WIDTH;
+    let at = Base::SDSS_AT + d * Base::SDS_WIDTH;
     let end = at + Base::SDS_WIDTH;
     rows::table::clear(&mut base[at..end]);
     rows::table::write(base, at, name);
@@ -47,22 +47,22 @@ pub fn write_sds(base: &mut [u8], d: usize, name: &[u8])
 
 // The bytes of the row that says that type t is in SDS d under that name.
 fn presence_bytes(d: usize, name: &[u8], t: usize) -> [u8; Base::PRESENCE_WIDTH]
-    requires { ⌜ (d < 256) × ((t < 256) × (length (now name) ≤ 16)) ⌝ }
+    requires { ⌜ (d < 256) × ((t < 256) × (length (now name) ≤ limits .name)) ⌝ }
     ensures { λ r. ⌜ r ≡ presence-row (record { sds = d; name = now (name .entry); type = t }) ⌝ }
 {
     let mut row: [u8; Base::PRESENCE_WIDTH] = [0; Base::PRESENCE_WIDTH];
     row[0] = (d % 256) as u8;
-    row[Limits::NAME + 1] = (t % 256) as u8;
-    rows::table::write(&mut row, 1, name);
+    row[Base::TYPE_OFFSET] = (t % 256) as u8;
+    rows::table::write(&mut row, Base::NAME_OFFSET, name);
     row
 }
 
 // Type t gets a presence in SDS d, under a name that is free there.
 pub fn put_presence(base: &mut [u8], d: usize, name: &[u8], t: usize)
     requires { ⌜ Stored (now base) ⌝ }
-    requires { ⌜ (d < 256) × (t < 256) ⌝ }
+    requires { ⌜ (d ≡ 0 → ⊥) × ((d < 256) × (t < 256)) ⌝ }
     requires { ⌜ well-formed (now name) ≡ true ⌝ }
-    requires { ⌜ length ((schema-of (now base)) .presences) < 512 ⌝ }
+    requires { ⌜ length ((schema-of (now base)) .presences) < limits .presences ⌝ }
     requires { ⌜ bears (schema-of (now base)) d (now name) ≡ false ⌝ }
     ensures { λ _. ⌜ (let s = schema-of (now (base .entry)) in
         Shows (now (base .exit)) (with-presences s (put presence-before (record { sds = d; name = now (name .entry); type = t }) (s .presences)))) ⌝ }
@@ -90,7 +90,7 @@ pub fn take_presence(base: &mut [u8], i: usize)
 pub fn put_application(base: &mut [u8], d: usize, t: usize, a: usize)
     requires { ⌜ Stored (now base) ⌝ }
     requires { ⌜ (d ≡ 0 → ⊥) × ((d < 256) × ((t < 256) × (a < 256))) ⌝ }
-    requires { ⌜ length ((schema-of (now base)) .applications) < 256 ⌝ }
+    requires { ⌜ length ((schema-of (now base)) .applications) < limits .applications ⌝ }
     requires { ⌜ applied (schema-of (now base)) d t a ≡ false ⌝ }
     ensures { λ _. ⌜ (let s = schema-of (now (base .entry)) in
         Shows (now (base .exit)) (with-applications s (put application-before (record { sds = d; to = t; attribute = a }) (s .applications)))) ⌝ }
@@ -118,7 +118,7 @@ pub fn take_application(base: &mut [u8], i: usize)
 pub fn put_end(base: &mut [u8], d: usize, l: usize, side: usize, o: usize)
     requires { ⌜ Stored (now base) ⌝ }
     requires { ⌜ (d ≡ 0 → ⊥) × ((d < 256) × ((l < 256) × ((side < 2) × (o < 256)))) ⌝ }
-    requires { ⌜ length ((schema-of (now base)) .ends) < 512 ⌝ }
+    requires { ⌜ length ((schema-of (now base)) .ends) < limits .ends ⌝ }
     requires { ⌜ has-end (schema-of (now base)) d l (read-side side) o ≡ false ⌝ }
     ensures { λ _. ⌜ (let s = schema-of (now (base .entry)) in
         Shows (now (base .exit)) (with-ends s (put end-before (record { sds = d; link = l; side = read-side side; object = o }) (s .ends)))) ⌝ }
@@ -157,7 +157,7 @@ pub fn write_type(
     parents: &[u8],
 )
     requires { ⌜ Stored (now base) ⌝ }
-    requires { ⌜ t < 128 ⌝ }
+    requires { ⌜ t < limits .types ⌝ }
     requires { ⌜ (kind < 256) × ((value < 256) × (reverse < 256)) ⌝ }
     requires { ⌜ length (now parents) ≤ 4 ⌝ }
     ensures { λ _. ⌜ Type-written (now (base .entry)) t (type-fields kind value reverse (now (parents .entry))) (now (base .exit)) ⌝ }
@@ -172,7 +172,7 @@ pub fn write_type(
         0,
         0,
     ];
-    rows::table::write(&mut row, 4, parents);
+    rows::table::write(&mut row, Base::PARENTS_OFFSET, parents);
     let at = Base::TYPES_AT + t * Base::TYPE_WIDTH;
     rows::table::write(base, at, &row);
 }

@@ -2,7 +2,6 @@
 -- type twice is no longer than there are types; and a set to which no round adds has every object type whose ways up end.
 -- Assumes nothing.
 use Prim.Native.Nat.{ℕ, zero, suc, _+_, _-_, _≤_, _<_}
-use native.Mathlib.Numerals.{add-one}
 use native.Mathlib.Omega.{arith}
 use mathlib.Core.Path.{_≡_, refl, sym, ap, _∙_}
 use mathlib.Core.Logic.{_⊎_, inl, inr, ⊎-elim}
@@ -16,29 +15,19 @@ use Rattle.rules.specs.01-Lists.{_∈_, numbers}
 use Rattle.rules.specs.04-Schema.{Schema}
 use Rattle.rules.specs.05-Descent.{Parent, Descends, members}
 use Rattle.rules.specs.05-Descent.Descends.{by-parent, by-step}
+use Rattle.rules.specs.Read.{count-offset, parents-offset}
 use Rattle.rules.proofs.Bools.{or-cases, or-left, or-right}
 use Rattle.rules.proofs.01-Lists.{Different}
-use Rattle.rules.proofs.05-Descent.{past, members-at-most, members-most}
+use Rattle.rules.specs.Parts.{Acyclic}
+use Rattle.rules.proofs.05-Descent.{past, descends-over, members-at-most, members-most}
+use Rattle.rules.proofs.Parts.{parent-in, parent-of}
 use Rattle.base.specs.Rows.{type-at}
 use Rattle.base.specs.Back.{schema-of}
-use Rattle.type_set.proofs.Members.{members-le, members-same}
-use Rattle.graph.specs.Graph.{object-in, Parental, Grounded, Ready, Settled, Round}
+use Rattle.type_set.proofs.Members.{members-le, members-same, types-taken, types-passed}
+use Rattle.graph.specs.Graph.{object-in, Grounded, Ready, Settled, Round}
+use Rattle.lookup.specs.Parents.{Parental}
 use Rattle.graph.specs.Graph.Grounded.{ground}
-use Rattle.graph.proofs.Rows.{object-below, parent-at, parent-place}
-
--- ---- the types from t on that pass: t and those behind it, or those alone
-
-module _ (p : ℕ → Bool) (t : ℕ) (h : t < 128) where
-  one : 128 - t ≡ suc (128 - (t + 1))
-  one = omega arith
-
-  pub types-taken : p t ≡ true → numbers t (128 - t) p ≡ t ∷ numbers (t + 1) (128 - (t + 1)) p
-  unfolding numbers
-  types-taken e = rw (one, e, add-one t)
-
-  pub types-passed : p t ≡ false → numbers t (128 - t) p ≡ numbers (t + 1) (128 - (t + 1)) p
-  unfolding numbers
-  types-passed e = rw (one, e, add-one t)
+use Rattle.lookup.proofs.Parents.{object-below, parent-at, parent-place}
 
 -- ---- how many numbers pass: n of those before t, and those from t on
 
@@ -117,26 +106,23 @@ module _ {s : Schema} where
 module _ {b : List ℕ} (rows : Parental b) where
   -- a type is ready where each place below its count holds a type that is in
   module _ (p : ℕ → Bool) (t : ℕ) (h : t < 128) where
-    pub lacks-parent : (i : ℕ) → i < getD b (type-at t + 3) 0 → p (getD b (type-at t + 4 + i) 0) ≡ false → Ready (schema-of b) p t → ⊥
+    pub lacks-parent : (i : ℕ) → i < getD b (type-at t + count-offset) 0 → p (getD b (type-at t + parents-offset + i) 0) ≡ false → Ready (schema-of b) p t → ⊥
     lacks-parent i l e w = false≢true (sym e ∙ w .parents _ (parent-at rows t h i l))
 
-    pub has-parents : object-in b t ≡ true → ((i : ℕ) → i < getD b (type-at t + 3) 0 → p (getD b (type-at t + 4 + i) 0) ≡ true) → Ready (schema-of b) p t
+    pub has-parents : object-in b t ≡ true → ((i : ℕ) → i < getD b (type-at t + count-offset) 0 → p (getD b (type-at t + parents-offset + i) 0) ≡ true) → Ready (schema-of b) p t
     has-parents o f = record { object = o; parents = λ a by. let (i, l, e) = parent-place rows t h a by in rw e at (f i l) }
 
-  abbrev Acyclic : Type 0
-  Acyclic = (t : ℕ) → Descends (schema-of b) t t → ⊥
-
   -- where no type is its own ancestor every way up ends: l is the way up to t, no type is in it twice, and n more steps are too many
-  ends : Acyclic → (n : ℕ) (l : List ℕ) (t : ℕ) → n + length l ≡ 129 → Different l
+  ends : Acyclic ((schema-of b) .types) → (n : ℕ) (l : List ℕ) (t : ℕ) → n + length l ≡ 129 → Different l
       → ((x : ℕ) → x ∈ l → (object-in b x ≡ true) × Descends (schema-of b) x t) → object-in b t ≡ true → Grounded (schema-of b) t
   ends h zero l t e d up o =
       absurd (omega (arith, members-at-most (object-in b) l d (λ x i. (object-below b x (up x i .0), up x i .0)), members-most (object-in b)))
   ends h (suc n) l t e d up o = ground (λ a by.
-      ends h n (t ∷ l) a (omega arith) ((λ i. h t (up t i .1)), d)
+      ends h n (t ∷ l) a (omega arith) ((λ i. h t (descends-over parent-in (up t i .1))), d)
       (λ x i. ⊎-elim (λ q. rw q (o, by-parent by)) (λ j. (up x j .0, past (up x j .1) by)) (List·Memᴰ·cases-cons i))
       (rows .parents-objects t a by))
 
-  acyclic-grounded : Acyclic → (t : ℕ) → object-in b t ≡ true → Grounded (schema-of b) t
+  acyclic-grounded : Acyclic ((schema-of b) .types) → (t : ℕ) → object-in b t ≡ true → Grounded (schema-of b) t
   acyclic-grounded h t o = ends h 129 [] t refl tt (λ x i. absurd (List·Memᴰ·not-nil i)) o
 
   -- a set that has every type that is ready has every object type whose ways up end
@@ -150,14 +136,14 @@ module _ {b : List ℕ} (rows : Parental b) where
   ancestor (by-step by d) = ancestor d
 
   -- with every object type settled there is no way around
-  pub all-settled : (p : ℕ → Bool) → Settled (schema-of b) p → length (members (object-in b)) ≤ length (members p) → Acyclic
+  pub all-settled : (p : ℕ → Bool) → Settled (schema-of b) p → length (members (object-in b)) ≤ length (members p) → Acyclic ((schema-of b) .types)
   all-settled p done le t d =
-      let o = ancestor d in
-      loopless (done .grounded t (members-same p (object-in b) (done .objects) le t (object-below b t o) o)) d
+      let o = ancestor (descends-over parent-of d) in
+      loopless (done .grounded t (members-same p (object-in b) (done .objects) le t (object-below b t o) o)) (descends-over parent-of d)
 
   -- where a round adds none and an object type is not settled, there is one
   pub none-added : {p q : ℕ → Bool} → Round (schema-of b) 128 p q → length (members q) ≤ length (members p)
-      → length (members q) < length (members (object-in b)) → Acyclic → ⊥
+      → length (members q) < length (members (object-in b)) → Acyclic ((schema-of b) .types) → ⊥
   none-added {p} {q} round le out h =
       let full : (t : ℕ) → t < 128 → Ready (schema-of b) p t → p t ≡ true = λ t l w. members-same p q (round .kept) le t l (round .taken t l w) in
       omega (arith, members-le (object-in b) p (λ t o. whole p full o (acyclic-grounded h t o)), members-le p q (round .kept))

@@ -4,23 +4,13 @@ use Prim.Native.Nat.{ℕ, _<_}
 use mathlib.Core.Path.{_≡_}
 use mathlib.Core.List.{List}
 use mathlib.Core.Bool.{Bool, true}
-use lib.ListN.{length}
 use Rattle.rules.specs.04-Schema.{Schema, is-object, kind-of}
 use Rattle.rules.specs.05-Descent.{Parent}
-use Rattle.rules.specs.07-Picture.{type-row, base-length}
-use Rattle.rows.specs.Rows.{part}
-use Rattle.base.specs.Rows.{type-at}
-use Rattle.base.specs.Back.{schema-of, kind-shown}
+use Rattle.base.specs.Back.{schema-of}
 
 -- t is an object type of the base b
 abbrev pub object-in : List ℕ → ℕ → Bool
 object-in b t = is-object (kind-of (schema-of b) t)
-
--- the rows of types are as they would be written, and parents are object types
-pub record Parental (b : List ℕ) : Type 0 where
-  pub long : length b ≡ base-length
-  pub type-rows : (t : ℕ) → t < 128 → type-row (kind-shown b t) ≡ part b (type-at t) 8
-  pub parents-objects : (t a : ℕ) → Parent (schema-of b) t a → is-object (kind-of (schema-of b) a) ≡ true
 
 -- every way up from t ends, whichever parents it takes
 pub data Grounded (s : Schema) : ℕ → Type 0 where

@@ -1,22 +1,26 @@
 // Whether no type is its own ancestor, from the rows of types alone.
 
+use base::Base;
 use rules::Limits;
 use type_set::TypeSet;
 ghost use mathlib.Core.Path.{_≡_};
-ghost use Prim.Native.Nat.{ℕ, _<_};
+ghost use Prim.Native.Nat.{_<_};
 ghost use lib.ListN.{length};
-ghost use Rattle.rules.specs.05-Descent.{Descends, members};
+ghost use Rattle.rules.specs.02-Limits.{limits};
+ghost use Rattle.rules.specs.05-Descent.{members};
+ghost use Rattle.rules.specs.Parts.{Acyclic};
 ghost use Rattle.rules.specs.07-Picture.{base-length};
 ghost use Rattle.rows.specs.Decides.{Decides};
 ghost use Rattle.base.specs.Back.{schema-of};
 ghost use Rattle.type_set.specs.Set.{has};
-ghost use Rattle.graph.specs.Graph.{object-in, Parental, Ready, Round};
+ghost use Rattle.graph.specs.Graph.{object-in, Ready, Round};
+ghost use Rattle.lookup.specs.Parents.{Parental};
 
 fn is_object(base: &[u8], t: usize) -> bool
     requires { ⌜ length (now base) ≡ base-length ⌝ }
     ensures { λ r. ⌜ r ≡ object-in (now (base .entry)) t ⌝ }
 {
-    lookup::is_kind(base, t, 1)
+    lookup::types::is_kind(base, t, Base::OBJECT)
 }
 
 // How many object types there are.
@@ -37,7 +41,7 @@ fn object_count(base: &[u8]) -> usize
 
 // Whether `t` is an object type whose parents are all in `s`.
 fn is_ready(base: &[u8], t: usize, s: TypeSet) -> bool
-    requires { ⌜ Parental (now base) × (t < 128) ⌝ }
+    requires { ⌜ Parental (now base) × (t < limits .types) ⌝ }
     ensures { λ r. ⌜ Decides (Ready (schema-of (now (base .entry))) (has s) t) r ⌝ }
 {
     if !is_object(base, t) {
@@ -75,7 +79,7 @@ fn settle(base: &[u8], s: TypeSet) -> TypeSet
 // Rounds from nothing, until every object type is settled, or a round adds none.
 pub fn is_acyclic(base: &[u8]) -> bool
     requires { ⌜ Parental (now base) ⌝ }
-    ensures { λ r. ⌜ Decides ((t : ℕ) → Descends (schema-of (now (base .entry))) t t → ⊥) r ⌝ }
+    ensures { λ r. ⌜ Decides (Acyclic ((schema-of (now (base .entry))) .types)) r ⌝ }
 {
     let objects = object_count(base);
     let mut s = TypeSet::empty();

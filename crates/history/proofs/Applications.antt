@@ -1,12 +1,11 @@
 -- Apply and unapply keep a schema good. Assumes nothing.
 use Prim.Native.Nat.{ℕ, _+_, _≤_}
-use native.Mathlib.Omega.{arith}
-use mathlib.Core.Path.{_≡_, refl, sym, _∙_}
-use mathlib.Core.List.{List}
+use mathlib.Core.Path.{_≡_, refl, sym, subst, _∙_}
+use mathlib.Core.List.{List, [], _∷_, List·Memᴰ·not-nil, List·Memᴰ·eq-of-singleton}
 use mathlib.Core.Bool.{Bool, true, false, not, _&&_, _||_, true≢false}
 use lib.ListN.{length}
 use borrow.Author.Tests.{not-false, ltb-false, eq-eqb}
-use Rattle.rules.specs.01-Lists.{any, without, put}
+use Rattle.rules.specs.01-Lists.{_∈_, any, without, put}
 use Rattle.rules.specs.02-Limits.{limits}
 use Rattle.rules.specs.03-Names.{Name}
 use Rattle.rules.specs.04-Schema.{Schema, Kind, Presence, Application, kind-of, is-object, is-attribute, is-link, present, type-named}
@@ -14,44 +13,35 @@ use Rattle.rules.specs.04-Schema.{applied, is-application, application-before}
 use Rattle.rules.specs.06-Good.{Good}
 use Rattle.rules.specs.09-Refusals.{no-such-name, no-object, no-attribute, no-link, applications-full}
 use Rattle.rules.specs.09-Refusals.Outcome.{done}
-use Rattle.rules.specs.10-Changes.{with-applications, apply, apply-refusals, unapply, unapply-refusals}
+use Rattle.rules.specs.10-Changes.{with-applications, put-all, apply, apply-refusals, unapply, unapply-refusals}
 use Rattle.rules.specs.13-History.{next}
+use Rattle.rules.specs.Parts.{of-presences, Application-fits, Applications}
 use Rattle.rules.proofs.Bools.{or-neither, and-of}
 use Rattle.rules.proofs.01-Lists.{any-at}
-use Rattle.rules.proofs.Edits.{put-long, put-each, without-in, without-long}
+use Rattle.rules.proofs.Edits.{put-each, without-in}
 use Rattle.rules.proofs.09-Refusals.{verdict-keeps}
-use Rattle.history.proofs.Parts.{of-types, of-presences, Applications, parts-of, with-applications-good}
-use Rattle.history.proofs.Orders.{application-order, put-rises, without-rises}
-use Rattle.history.proofs.Passed.{aimed, named-present}
+use Rattle.rules.proofs.Parts.{parts-of}
+use Rattle.history.proofs.Parts.{with-applications-good, ordered-less, ordered-more}
+use Rattle.history.proofs.Orders.{application-order}
+use Rattle.history.proofs.Passed.{named-present}
 
 module _ {ks : List Kind} {ps : List Presence} {xs : List Application} (g : Applications ks ps xs) where
   fewer : (p : Application → Bool) → Applications ks ps (without p xs)
-  fewer p = record {
-    room = omega (arith, without-long p xs, g .room);
-    of-attribute = λ x i. g .of-attribute x (without-in p xs i .0);
-    to-either = λ x i. g .to-either x (without-in p xs i .0);
-    there = λ x i. g .there x (without-in p xs i .0);
-    outside = λ x i. g .outside x (without-in p xs i .0);
-    rises = without-rises application-order p xs (g .rises);
-  }
+  fewer p = record { rows = ordered-less application-order (g .rows) p; each = λ x i. g .each x (without-in p xs i .0) }
 
-  one-more : (x : Application) → length xs + 1 ≤ limits .applications → is-attribute (kind-of (of-types ks) (x .attribute)) ≡ true
-      → is-object (kind-of (of-types ks) (x .to)) || is-link (kind-of (of-types ks) (x .to)) ≡ true
-      → present (of-presences ps) (x .sds) (x .to) && present (of-presences ps) (x .sds) (x .attribute) ≡ true
-      → (x .sds ≡ 0 → ⊥) → any (is-application (x .sds) (x .to) (x .attribute)) xs ≡ false → Applications ks ps (put application-before x xs)
-  one-more x room is to there outside new = record {
-    room = omega (arith, put-long application-before x xs);
-    of-attribute = λ y i. put-each application-before i (λ z. is-attribute (kind-of (of-types ks) (z .attribute)) ≡ true) is (g .of-attribute y);
-    to-either = λ y i. put-each application-before i (λ z. is-object (kind-of (of-types ks) (z .to)) || is-link (kind-of (of-types ks) (z .to)) ≡ true)
-        to (g .to-either y);
-    there = λ y i. put-each application-before i
-        (λ z. present (of-presences ps) (z .sds) (z .to) && present (of-presences ps) (z .sds) (z .attribute) ≡ true) there (g .there y);
-    outside = λ y i. put-each application-before i (λ z. z .sds ≡ 0 → ⊥) outside (g .outside y);
-    rises = put-rises application-order x xs (g .rises) (λ i.
-        true≢false (sym (any-at (is-application (x .sds) (x .to) (x .attribute)) i itself) ∙ new));
+  one-more : (x : Application) → length xs + 1 ≤ limits .applications → Application-fits ks (present (of-presences ps) (x .sds)) x
+      → any (is-application (x .sds) (x .to) (x .attribute)) xs ≡ false → Applications ks ps (put application-before x xs)
+  unfolding put-all
+  one-more x room fits new = record {
+    rows = ordered-more application-order (g .rows) (x ∷ []) room (List·Memᴰ·not-nil, tt)
+        (λ y m i. true≢false (sym (any-at test (subst (λ (z : Application). z ∈ xs) (List·Memᴰ·eq-of-singleton m) i) itself) ∙ new));
+    each = λ y i. put-each application-before i (λ z. Application-fits ks (present (of-presences ps) (z .sds)) z) fits (g .each y);
   }
     where
-      itself : is-application (x .sds) (x .to) (x .attribute) x ≡ true
+      test : Application → Bool
+      test = is-application (x .sds) (x .to) (x .attribute)
+
+      itself : test x ≡ true
       itself = rw (eq-eqb (x .sds) (x .sds) refl, eq-eqb (x .to) (x .to) refl, eq-eqb (x .attribute) (x .attribute) refl)
 
 pub unapply-keeps : (d : ℕ) (a n : Name) (s : Schema) → Good s → Good (next s (unapply d a n s))
@@ -71,8 +61,8 @@ apply-keeps d a n s g =
     (λ passed.
     let kinds = passed .fails 7 in
     with-applications-good g
-    (one-more (parts-of g .applications) x (room (passed .fails 14)) (attribute kinds) (to kinds) (there (passed .fails 6)) (aimed d (passed .fails 3))
-    (passed .fails 9)))
+    (one-more (parts-of g .applications) x (room (passed .fails 14))
+    (record { attribute = attribute kinds; to = to kinds; within = there (passed .fails 6) }) (passed .fails 9)))
   where
     x : Application
     x = record { sds = d; to = type-named s d n; attribute = type-named s d a }

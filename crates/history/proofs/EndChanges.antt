@@ -21,14 +21,16 @@ use Rattle.rules.specs.09-Refusals.{no-such-name, no-object, no-link, ends-full
 use Rattle.rules.specs.09-Refusals.Outcome.{done}
 use Rattle.rules.specs.10-Changes.{with-ends, put-all, both-ends, is-one-of, add-end, add-end-refusals, remove-end, remove-end-refusals}
 use Rattle.rules.specs.13-History.{next}
+use Rattle.rules.specs.Parts.{of-types, of-presences, of-ends, Types, End-fits, Ends}
 use Rattle.rules.proofs.Bools.{or-neither, and-both, and-of, fails}
 use Rattle.rules.proofs.01-Lists.{any-at, any-where, Different}
-use Rattle.rules.proofs.Edits.{put-all-long, put-all-in, put-all-old, put-all-new, without-in, without-keeps, without-long}
+use Rattle.rules.proofs.Edits.{put-all-in, put-all-old, put-all-new, without-in, without-keeps}
 use Rattle.rules.proofs.09-Refusals.{verdict-keeps}
+use Rattle.rules.proofs.Parts.{parts-of, ended-held}
 use Rattle.history.proofs.KindLaws.{alone-or-pair, no-pair, one-reverse}
-use Rattle.history.proofs.Parts.{of-types, of-presences, of-ends, Types, Ends, parts-of, with-ends-good}
-use Rattle.history.proofs.Orders.{side-is, end-order, put-all-rises, without-rises}
-use Rattle.history.proofs.Passed.{aimed, named-present}
+use Rattle.history.proofs.Parts.{with-ends-good, ordered-less, ordered-more}
+use Rattle.history.proofs.Orders.{side-is, end-order}
+use Rattle.history.proofs.Passed.{named-present}
 
 -- ---- an end is known by its four parts
 
@@ -88,49 +90,32 @@ abbrev Mirrored : List Kind → List End → Type 0
 Mirrored ks es = (e : End) → e ∈ es → (c r : ℕ) → kind-of (of-types ks) (e .link) ≡ paired c r → mirror r e ∈ es
 
 -- what is asked of an end alone
-record Fit (ks : List Kind) (ps : List Presence) (e : End) : Type 0 where
-  of-link : is-link (kind-of (of-types ks) (e .link)) ≡ true
-  at-object : is-object (kind-of (of-types ks) (e .object)) ≡ true
-  there : present (of-presences ps) (e .sds) (e .link) && present (of-presences ps) (e .sds) (e .object) ≡ true
-  outside : e .sds ≡ 0 → ⊥
+abbrev Fit : List Kind → List Presence → End → Type 0
+Fit ks ps e = End-fits ks (present (of-presences ps) (e .sds)) e
 
 module _ {ks : List Kind} {ps : List Presence} {es : List End} (ty : Types ks) (g : Ends ks ps es) where
   mirrors : Mirrored ks es
   mirrors e i c r k = has-in es (mirror r e) (g .mirrored e i c r k)
 
-  fits : (e : End) → e ∈ es → Fit ks ps e
-  fits e i = record { of-link = g .of-link e i; at-object = g .at-object e i; there = g .there e i; outside = g .outside e i }
-
   -- the mirror of an end's mirror is the end
   back : (some : List End) → Mirrored ks some → (e : End) (c r : ℕ) → kind-of (of-types ks) (e .link) ≡ paired c r → mirror r e ∈ some → e ∈ some
   back some f e c r k i =
-      let (c′, h) = ty .in-turn (e .link) c r k in
+      let (c′, h) = ty .reverses .in-turn (e .link) c r k in
       subst (λ (y : End). y ∈ some) (mirror-twice r e) (f (mirror r e) i c′ (e .link) h)
 
   more-ends : (new : List End) → length es + length new ≤ limits .ends → ((e : End) → e ∈ new → Fit ks ps e) → Different new
       → ((e : End) → e ∈ new → e ∈ es → ⊥) → Mirrored ks new → Ends ks ps (put-all end-before new es)
   more-ends new room fit apart none f = record {
-    room = omega (arith, put-all-long end-before new es);
-    of-link = λ e i. each e i .of-link;
-    at-object = λ e i. each e i .at-object;
-    there = λ e i. each e i .there;
-    outside = λ e i. each e i .outside;
-    rises = put-all-rises end-order new es (g .rises) apart none;
+    rows = ordered-more end-order (g .rows) new room apart none;
+    each = λ e i. ⊎-elim (fit e) (g .each e) (put-all-in end-before new es i);
     mirrored = λ e i c r k. in-has (put-all end-before new es) (mirror r e)
         (⊎-elim (λ j. put-all-new end-before new es (f e j c r k)) (λ j. put-all-old end-before new es (mirrors e j c r k)) (put-all-in end-before new es i));
   }
-    where
-      each : (e : End) → e ∈ put-all end-before new es → Fit ks ps e
-      each e i = ⊎-elim (fit e) (fits e) (put-all-in end-before new es i)
 
   fewer-ends : (gone : List End) → Mirrored ks gone → Ends ks ps (without (is-one-of gone) es)
   fewer-ends gone f = record {
-    room = omega (arith, without-long (is-one-of gone) es, g .room);
-    of-link = λ e i. g .of-link e (was i);
-    at-object = λ e i. g .at-object e (was i);
-    there = λ e i. g .there e (was i);
-    outside = λ e i. g .outside e (was i);
-    rises = without-rises end-order (is-one-of gone) es (g .rises);
+    rows = ordered-less end-order (g .rows) (is-one-of gone);
+    each = λ e i. g .each e (was i);
     mirrored = λ e i c r k. in-has (without (is-one-of gone) es) (mirror r e)
         (without-keeps (is-one-of gone) es (mirrors e (was i) c r k) (fails (is-one-of gone (mirror r e)) (stays e i c r k)));
   }
@@ -179,12 +164,11 @@ module _ {s : Schema} (g : Good s) {a : End} where
     where
       other : Fit (s .types) (s .presences) (mirror r a)
       other =
-          let (l, o) = and-both (present s (a .sds) (a .link)) (present s (a .sds) (a .object)) (f .there) in
+          let (l, o) = ended-held f in
           record {
-            of-link = ap is-link (g .reverse-in-turn (a .link) c r k .1);
-            at-object = f .at-object;
-            there = and-of (present s (a .sds) r) (present s (a .sds) (a .object)) (g .reverse-present (a .sds) (a .link) c r l k) o;
-            outside = f .outside;
+            link = ap is-link (g .reverse-in-turn (a .link) c r k .1);
+            object = f .object;
+            within = and-of (present s (a .sds) r) (present s (a .sds) (a .object)) (g .reverse-present (a .sds) (a .link) c r l k) o;
           }
 
   both-different : {new : List End} → Both s a new → Different new
@@ -227,7 +211,7 @@ add-end-keeps side d n m s g =
     (λ passed.
     let kinds = passed .fails 7 in
     let fit : Fit (s .types) (s .presences) a
-    = record { of-link = link kinds; at-object = object-type kinds; there = there (passed .fails 6); outside = aimed d (passed .fails 3) } in
+    = record { link = link kinds; object = object-type kinds; within = there (passed .fails 6) } in
     with-ends-good g
     (more-ends (parts-of g .types) (parts-of g .ends) new (room (passed .fails 14)) (both-fit g (both s a) fit) (both-different g (both s a))
     (both-new g (both s a) (λ i. true≢false (sym (in-has (s .ends) a i) ∙ passed .fails 9))) (both-mirrored g (both s a))))

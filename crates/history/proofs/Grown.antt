@@ -16,8 +16,10 @@ use Rattle.rules.specs.05-Descent.{Parent, Descends}
 use Rattle.rules.specs.05-Descent.Descends.{by-parent, by-step}
 use Rattle.rules.specs.06-Good.{Good}
 use Rattle.rules.specs.10-Changes.{with-types, with-presences}
+use Rattle.rules.specs.Parts.{of-types, of-presences, Types, Presences}
 use Rattle.rules.proofs.05-Descent.{object-used}
-use Rattle.history.proofs.Parts.{of-types, of-presences, Types, Rows, Closed, Presences, presence-there, parts-of, whole, applications-over, ends-over}
+use Rattle.rules.proofs.Parts.{presence-there, parts-of, whole}
+use Rattle.history.proofs.Parts.{Rows, Placed, placed-at, presences-of, applications-over, ends-over}
 use Rattle.history.proofs.Rows.{present-over}
 
 -- "An object type has 1 to 4 different parents, all object types", present in that SDS
@@ -99,7 +101,7 @@ module _ (ks ks′ : List Kind) (ps ps′ : List Presence) (d : ℕ) where
     unfolding parents
     parent-old old t a p =
         ⊎-elim
-        (λ h. old .objects t a (record { listed = subst (λ (k : Kind). a ∈ parents-in k) h (p .listed) }))
+        (λ h. old .parents .objects t a (record { listed = subst (λ (k : Kind). a ∈ parents-in k) h (p .listed) }))
         (λ n. fits-parent t (kind-of (of-types ks′) t) (n .fits) a (p .listed) .0)
         (g .each t)
 
@@ -123,21 +125,27 @@ module _ (ks ks′ : List Kind) (ps ps′ : List Presence) (d : ℕ) where
 
       pub types-grown : Types ks′
       types-grown = record {
-        room = g .room;
-        few = λ t qs e. said t (object qs) e (old .few t qs) (λ f. f .few);
-        rises = λ t qs e. said t (object qs) e (old .rises t qs) (λ f. f .rises);
-        objects = λ t a p. let o = parent-old old t a p in ap is-object (kept a (object-used (kind-of (of-types ks) a) o)) ∙ o;
-        root = kept-kind 0 (object []) refl (old .root);
-        only-root = λ t e. said t (object []) e (old .only-root t) (λ f. absurd (f .some refl));
-        value-kinds = λ t v e. said t (attribute v) e (old .value-kinds t v) (λ f. f);
-        categories = λ t c r e. said t (paired c r) e (old .categories t c r) (λ f. f .category);
-        different = λ t c r e. said t (paired c r) e (old .different t c r) (λ f. f .different);
-        in-turn = λ t c r e. said t (paired c r) e
-            (λ h. let (c′, h′) = old .in-turn t c r h in (c′, kept-kind r (paired c′ t) refl h′))
-            (λ f. (f .back, f .in-turn));
-        not-both = λ t r e e′. said t (paired 3 r) e
-            (λ h. let (c′, h′) = old .in-turn t 3 r h in old .not-both t r h (sym (kept r (ap is-used h′)) ∙ e′))
-            (λ f. f .not-both refl (same-category (sym (f .in-turn) ∙ e′)));
+        kinds = record {
+          room = g .room;
+          few = λ t qs e. said t (object qs) e (old .kinds .few t qs) (λ f. f .few);
+          value-kinds = λ t v e. said t (attribute v) e (old .kinds .value-kinds t v) (λ f. f);
+          categories = λ t c r e. said t (paired c r) e (old .kinds .categories t c r) (λ f. f .category);
+        };
+        parents = record {
+          rises = λ t qs e. said t (object qs) e (old .parents .rises t qs) (λ f. f .rises);
+          objects = λ t a p. let o = parent-old old t a p in ap is-object (kept a (object-used (kind-of (of-types ks) a) o)) ∙ o;
+          root = kept-kind 0 (object []) refl (old .parents .root);
+          only-root = λ t e. said t (object []) e (old .parents .only-root t) (λ f. absurd (f .some refl));
+        };
+        reverses = record {
+          different = λ t c r e. said t (paired c r) e (old .reverses .different t c r) (λ f. f .different);
+          in-turn = λ t c r e. said t (paired c r) e
+              (λ h. let (c′, h′) = old .reverses .in-turn t c r h in (c′, kept-kind r (paired c′ t) refl h′))
+              (λ f. (f .back, f .in-turn));
+          not-both = λ t r e e′. said t (paired 3 r) e
+              (λ h. let (c′, h′) = old .reverses .in-turn t 3 r h in old .reverses .not-both t r h (sym (kept r (ap is-used h′)) ∙ e′))
+              (λ f. f .not-both refl (same-category (sym (f .in-turn) ∙ e′)));
+        };
         acyclic = λ t w. old .acyclic t (descends-was (descends-old w) w);
       }
         where
@@ -150,30 +158,33 @@ module _ (ks ks′ : List Kind) (ps ps′ : List Presence) (d : ℕ) where
     still = present-over ps ps′ (λ p i. presence-there (g .old-rows p i))
 
     -- an old type asks what it asked, and a new one has what it asks
-    closed-old : {e t : ℕ} → Closed ks ps e t → Closed ks′ ps′ e t
-    closed-old {e} {t} c = record {
-      of-used = kept-used t (c .of-used);
-      with-parents = λ a p. still e a (c .with-parents a (parent-was t a (c .of-used) p));
-      with-reverse = λ b r k. still e r (c .with-reverse b r (sym (kept t (c .of-used)) ∙ k));
+    placed-old : {e t : ℕ} → Placed ks ps e t → Placed ks′ ps′ e t
+    placed-old {e} {t} c = record {
+      used = kept-used t (c .used);
+      closed = record {
+        parents = λ a p. still e a (c .closed .parents a (parent-was t a (c .used) p));
+        reverse = λ b r k. still e r (c .closed .reverse b r (sym (kept t (c .used)) ∙ k));
+      };
     }
 
-    closed-new : {t : ℕ} → New ks ks′ ps ps′ d t → Closed ks′ ps′ d t
+    placed-new : {t : ℕ} → New ks ks′ ps ps′ d t → Placed ks′ ps′ d t
     unfolding parents
-    closed-new {t} n = record {
-      of-used = fits-used t (kind-of (of-types ks′) t) (n .fits);
-      with-parents = λ a p. still d a (fits-parent t (kind-of (of-types ks′) t) (n .fits) a (p .listed) .1);
-      with-reverse = λ c r k. new-fits (paired c r) n k .there;
+    placed-new {t} n = record {
+      used = fits-used t (kind-of (of-types ks′) t) (n .fits);
+      closed = record {
+        parents = λ a p. still d a (fits-parent t (kind-of (of-types ks′) t) (n .fits) a (p .listed) .1);
+        reverse = λ c r k. new-fits (paired c r) n k .there;
+      };
     }
 
     pub presences-grown : {ns : List Name} → Presences ns ks ps → Rows ns ps′ → Presences ns ks′ ps′
-    presences-grown old rs = record {
-      rows = rs;
-      each = λ p i. ⊎-elim
-          (λ j. closed-old (old .each p j))
-          (λ n. subst (λ (x : ℕ). Closed ks′ ps′ x (p .type)) (sym (n .0)) (closed-new (n .1)))
-          (g .rows p i);
-      somewhere = λ t u. ⊎-elim (λ h. let (e, q) = old .somewhere t (ap is-used (sym h) ∙ u) in (e, still e t q)) (λ n. (d, n .there)) (g .each t);
-    }
+    presences-grown old rs =
+        presences-of rs
+        (λ p i. ⊎-elim
+        (λ j. placed-old (placed-at old (p .sds) (p .type) (presence-there j)))
+        (λ n. subst (λ (x : ℕ). Placed ks′ ps′ x (p .type)) (sym (n .0)) (placed-new (n .1)))
+        (g .rows p i))
+        (λ t u. ⊎-elim (λ h. let (e, q) = old .somewhere t (ap is-used (sym h) ∙ u) in (e, still e t q)) (λ n. (d, n .there)) (g .each t))
 
 -- nothing else speaks of types or presences but applications and ends, and theirs stay
 pub grown-good : {s : Schema} → Good s → (ks′ : List Kind) (ps′ : List Presence) (d : ℕ) → Grown (s .types) ks′ (s .presences) ps′ d → Rows (s .sdss) ps′

@@ -19,12 +19,14 @@ use Rattle.rules.specs.09-Refusals.{unknown-sds, system-sds, malformed, malform
 use Rattle.rules.specs.09-Refusals.Outcome.{done}
 use Rattle.rules.specs.10-Changes.{with-presences, put-all, filled, imported, import, import-refusals}
 use Rattle.rules.specs.13-History.{next}
+use Rattle.rules.specs.Parts.{of-types, of-presences}
 use Rattle.rules.proofs.Bools.{or-neither, fails}
 use Rattle.rules.proofs.01-Lists.{none-at}
 use Rattle.rules.proofs.Edits.{put-long, put-each, first-in}
 use Rattle.rules.proofs.09-Refusals.{verdict-keeps}
+use Rattle.rules.proofs.Parts.{presence-there, parts-of}
 use Rattle.history.proofs.KindLaws.{alone-or-pair, no-pair, one-reverse}
-use Rattle.history.proofs.Parts.{of-types, of-presences, Rows, Closed, presence-there, closed-at, parts-of}
+use Rattle.history.proofs.Parts.{Rows, Placed, rows-of, placed-at}
 use Rattle.history.proofs.Passed.{formed, named-present, one-free, both-free, presences-room}
 use Rattle.history.proofs.Rows.{present-still, present-new, row-fits, fits-still, rows-more, with-presences-good}
 
@@ -53,7 +55,7 @@ module _ (s : Schema) (g : Good s) where
 
     type-used : is-used (kind-of s t) ≡ true
     unfolding present
-    type-used = closed-at (parts-of g .presences) source t there .of-used
+    type-used = placed-at (parts-of g .presences) source t there .used
 
     parent-there : (a : ℕ) → Parent (of-types (s .types)) t a → present s target a ≡ true
     unfolding missing-parent not-present parents
@@ -65,15 +67,17 @@ module _ (s : Schema) (g : Good s) where
     unfolding present
     alone-comes none free room =
         with-presences-good g
-        (rows-more (parts-of g .presences .rows) x room (row-fits s target t n known outside well free lacks))
+        (rows-more (rows-of (parts-of g .presences)) x room (row-fits s target t n known outside well free lacks))
         (present-still x (s .presences))
         (λ p i. put-each presence-before i
         (λ q. (present (of-presences (s .presences)) (q .sds) (q .type) ≡ true)
-        ⊎ Closed (s .types) (put presence-before x (s .presences)) (q .sds) (q .type))
+        ⊎ Placed (s .types) (put presence-before x (s .presences)) (q .sds) (q .type))
         (inr (record {
-          of-used = type-used;
-          with-parents = λ a by. present-still x (s .presences) target a (parent-there a by);
-          with-reverse = λ c r k. absurd (no-pair (kind-of s t) none c r k);
+          used = type-used;
+          closed = record {
+            parents = λ a by. present-still x (s .presences) target a (parent-there a by);
+            reverse = λ c r k. absurd (no-pair (kind-of s t) none c r k);
+          };
         }))
         (λ j. inl (presence-there j)))
 
@@ -96,28 +100,32 @@ module _ (s : Schema) (g : Good s) where
           let (c′, back) = g .reverse-in-turn t c r pair in
           fails (present s target r) (λ e. true≢false (sym (g .reverse-present target r c′ t e back) ∙ lacks))
 
-      closed-x : Closed (s .types) with-both target t
+      placed-x : Placed (s .types) with-both target t
       unfolding present
-      closed-x = record {
-        of-used = type-used;
-        with-parents = λ a by. still target a (parent-there a by);
-        with-reverse = λ c′ r′ k. rw (one-reverse k pair) (present-new y with-x);
+      placed-x = record {
+        used = type-used;
+        closed = record {
+          parents = λ a by. still target a (parent-there a by);
+          reverse = λ c′ r′ k. rw (one-reverse k pair) (present-new y with-x);
+        };
       }
 
-      closed-y : Closed (s .types) with-both target r
-      closed-y =
+      placed-y : Placed (s .types) with-both target r
+      placed-y =
           let (c′, back) = g .reverse-in-turn t c r pair in
           record {
-            of-used = ap is-used back;
-            with-parents = λ a by. absurd (pair-no-parent (s .types) r c′ t a back by);
-            with-reverse = λ c″ t′ k. rw (one-reverse k back) (present-still y with-x target t (present-new x (s .presences)));
+            used = ap is-used back;
+            closed = record {
+              parents = λ a by. absurd (pair-no-parent (s .types) r c′ t a back by);
+              reverse = λ c″ t′ k. rw (one-reverse k back) (present-still y with-x target t (present-new x (s .presences)));
+            };
           }
 
       rows : well-formed m ≡ true → bears s target n ≡ false → bears s target m ≡ false → same-name n m ≡ false
           → length (s .presences) + 2 ≤ limits .presences → Rows (s .sdss) with-both
       rows well′ free free′ differ room =
           rows-more
-          (rows-more (parts-of g .presences .rows) x (omega arith) (row-fits s target t n known outside well free lacks))
+          (rows-more (rows-of (parts-of g .presences)) x (omega arith) (row-fits s target t n known outside well free lacks))
           y (omega (arith, put-long presence-before x (s .presences)))
           (fits-still x (row-fits s target r m known outside well′ free′ reverse-lacks)
           (rw (eq-eqb target target refl) differ)
@@ -128,11 +136,11 @@ module _ (s : Schema) (g : Good s) where
       pair-comes well′ free free′ differ room =
           with-presences-good g (rows well′ free free′ differ room) still
           (λ p i. put-each presence-before i
-          (λ q. (present (of-presences (s .presences)) (q .sds) (q .type) ≡ true) ⊎ Closed (s .types) with-both (q .sds) (q .type))
-          (inr closed-y)
+          (λ q. (present (of-presences (s .presences)) (q .sds) (q .type) ≡ true) ⊎ Placed (s .types) with-both (q .sds) (q .type))
+          (inr placed-y)
           (λ j. put-each presence-before j
-          (λ q. (present (of-presences (s .presences)) (q .sds) (q .type) ≡ true) ⊎ Closed (s .types) with-both (q .sds) (q .type))
-          (inr closed-x)
+          (λ q. (present (of-presences (s .presences)) (q .sds) (q .type) ≡ true) ⊎ Placed (s .types) with-both (q .sds) (q .type))
+          (inr placed-x)
           (λ k. inl (presence-there k))))
 
 -- the presences that come in, in the two cases

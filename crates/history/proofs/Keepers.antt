@@ -6,8 +6,8 @@ use mathlib.Core.Path.{_≡_, refl, sym, subst, ap, _∙_}
 use mathlib.Core.List.{List, [], _∷_, _++_}
 use lib.ListN.{length, getD, set}
 use Rattle.rules.specs.declared.Answer.{Answer}
-use Rattle.rules.specs.01-Lists.{bytes, same-bytes, any, all, numbers}
-use Rattle.rules.specs.03-Names.{letter, letter-or-digit, well-formed, same-name}
+use Rattle.rules.specs.01-Lists.{bytes, any, all, numbers}
+use Rattle.rules.specs.03-Names.{letter, letter-or-digit, well-formed}
 use Rattle.rules.specs.04-Schema.{Schema, fresh, used-sds}
 use Rattle.rules.specs.06-Good.{Good}
 use Rattle.rules.specs.07-Picture.{Sound, picture, pad, sds-row, table}
@@ -19,6 +19,7 @@ use Rattle.rules.specs.13-History.{Call, next, after, after-all, Allowed, Runs}
 use Rattle.rules.specs.13-History.Change.{new-sds}
 use Rattle.rules.specs.13-History.Call.{begin-fresh, change, ask}
 use Rattle.rules.specs.13-History.Runs.{stop, step}
+use Rattle.rules.proofs.03-Names.{unlike-long}
 use Rattle.rules.proofs.06-Good.{fresh-good}
 use Rattle.rules.proofs.07-Picture.{picture-length, picture-same}
 use Rattle.history.proofs.Numbers.{no-of, allowed-not-1}
@@ -37,22 +38,22 @@ pub record Keeps (k : Keeper) : Type 0 where
 abbrev pub new-bus : Call
 new-bus = change (new-sds (bytes "bus"))
 
-abbrev pub new-ground : Call
-new-ground = change (new-sds (bytes "ground"))
+abbrev pub new-radio : Call
+new-radio = change (new-sds (bytes "radio"))
 
 abbrev with-bus : Schema
 with-bus = Changes.with-sdss fresh (set (fresh .sdss) 1 (bytes "bus"))
 
 abbrev with-both : Schema
-with-both = Changes.with-sdss with-bus (set (with-bus .sdss) 2 (bytes "ground"))
+with-both = Changes.with-sdss with-bus (set (with-bus .sdss) 2 (bytes "radio"))
 
 bus-done : Changes.new-sds (bytes "bus") fresh ≡ done 1 0 0 with-bus
-unfolding Changes.new-sds verdict malformed sds-name-taken no-free-sds free-sdss well-formed letter letter-or-digit same-name same-bytes all any numbers fresh used-sds
-bus-done = refl
+unfolding Changes.new-sds verdict malformed sds-name-taken no-free-sds free-sdss well-formed letter letter-or-digit all any numbers fresh used-sds
+bus-done = rw (unlike-long (bytes "system") (bytes "bus") (λ e. omega arith))
 
-ground-done : Changes.new-sds (bytes "ground") with-bus ≡ done 2 0 0 with-both
-unfolding Changes.new-sds verdict malformed sds-name-taken no-free-sds free-sdss well-formed letter letter-or-digit same-name same-bytes all any numbers fresh used-sds
-ground-done = refl
+radio-done : Changes.new-sds (bytes "radio") with-bus ≡ done 2 0 0 with-both
+unfolding Changes.new-sds verdict malformed sds-name-taken no-free-sds free-sdss well-formed letter letter-or-digit all any numbers fresh used-sds
+radio-done = rw (unlike-long (bytes "system") (bytes "radio") (λ e. omega arith), unlike-long (bytes "bus") (bytes "radio") (λ e. omega arith))
 
 -- the first byte of each SDS's name in the base
 fresh-byte : getD (picture fresh) 16 0 ≡ 0
@@ -67,9 +68,9 @@ bus-next-byte : getD (picture with-bus) 32 0 ≡ 0
 unfolding picture table sds-row pad fresh
 bus-next-byte = refl
 
-ground-byte : getD (picture with-both) 32 0 ≡ 103
+radio-byte : getD (picture with-both) 32 0 ≡ 114
 unfolding picture table sds-row pad fresh
-ground-byte = refl
+radio-byte = refl
 
 bus-kept : {a : Answer} {b : List ℕ} → Allowed new-bus (picture fresh) a b → (a ≡ success 1 0 0) × (b ≡ picture with-bus)
 bus-kept k =
@@ -81,13 +82,13 @@ bus-kept k =
 bus-good : Good with-bus
 bus-good = subst (λ (o : Outcome Schema). Good (next fresh o)) bus-done (new-sds-keeps (bytes "bus") fresh fresh-good)
 
-ground-kept : {b b′ : List ℕ} {a : Answer} → b ≡ picture with-bus → Allowed new-ground b a b′ → b′ ≡ picture with-both
-ground-kept {b} e k = k .kept with-bus bus-good e .1 ∙ ap (base-after b) ground-done
+radio-kept : {b b′ : List ℕ} {a : Answer} → b ≡ picture with-bus → Allowed new-radio b a b′ → b′ ≡ picture with-both
+radio-kept {b} e k = k .kept with-bus bus-good e .1 ∙ ap (base-after b) radio-done
 
-second-stored : {b b′ : List ℕ} {a : Answer} → b ≡ picture with-bus → Allowed new-ground b a b′ → b′ ≡ b → ⊥
+second-stored : {b b′ : List ℕ} {a : Answer} → b ≡ picture with-bus → Allowed new-radio b a b′ → b′ ≡ b → ⊥
 second-stored stored k same =
-    let e : picture with-bus ≡ picture with-both = sym stored ∙ sym same ∙ ground-kept stored k in
-    let z : _≡_ {A = ℕ} 0 103 = sym bus-next-byte ∙ ap (λ (x : List ℕ). getD x 32 0) e ∙ ground-byte in
+    let e : picture with-bus ≡ picture with-both = sym stored ∙ sym same ∙ radio-kept stored k in
+    let z : _≡_ {A = ℕ} 0 114 = sym bus-next-byte ∙ ap (λ (x : List ℕ). getD x 32 0) e ∙ radio-byte in
     omega arith
 
 -- ---- every call answers 1 on no bytes at all, and not so on a fresh base
@@ -126,7 +127,7 @@ module _ (k : Keeper) (keeps : Keeps k) where
   pub not-feigns-afterwards : ((before : Call) (past : List Call) (c : Call) (b : List ℕ) → k (before ∷ past) c b .1 ≡ b) → ⊥
   not-feigns-afterwards same =
       let b = k [] new-bus (picture fresh) .1 in
-      second-stored (bus-kept (keeps .allowed [] new-bus (picture fresh)) .1) (keeps .allowed (new-bus ∷ []) new-ground b) (same new-bus [] new-ground b)
+      second-stored (bus-kept (keeps .allowed [] new-bus (picture fresh)) .1) (keeps .allowed (new-bus ∷ []) new-radio b) (same new-bus [] new-radio b)
 
 -- ---- the last of them over runs
 
@@ -134,7 +135,7 @@ one-step : {b b′ : List ℕ} {c : Call} → Runs b (c ∷ []) b′ → (answer
 one-step (step c answer k stop) = (answer, k)
 
 -- the second of two calls from a fresh base
-pub second-not-feigned : (b : List ℕ) → Runs (picture fresh) (new-bus ∷ []) b → Runs b (new-ground ∷ []) b → ⊥
+pub second-not-feigned : (b : List ℕ) → Runs (picture fresh) (new-bus ∷ []) b → Runs b (new-radio ∷ []) b → ⊥
 second-not-feigned b r q = second-stored (bus-kept (one-step r .1) .1) (one-step q .1) refl
 
 runs-on : {b b′ b″ : List ℕ} {cs ds : List Call} → Runs b cs b′ → Runs b′ ds b″ → Runs b (cs ++ ds) b″

@@ -20,11 +20,13 @@ use Rattle.rules.specs.09-Refusals.{malformed, no-pair, free-types}
 use Rattle.rules.specs.09-Refusals.Outcome.{done}
 use Rattle.rules.specs.10-Changes.{new-type, second-new-type, with-pair, new-pair, new-pair-refusals}
 use Rattle.rules.specs.13-History.{next}
+use Rattle.rules.specs.Parts.{of-types, of-presences}
 use Rattle.rules.proofs.Bools.{or-neither}
 use Rattle.rules.proofs.Edits.{put-long, put-in, put-old, set-either}
 use Rattle.rules.proofs.05-Descent.{members-once}
 use Rattle.rules.proofs.09-Refusals.{verdict-keeps}
-use Rattle.history.proofs.Parts.{of-types, of-presences, parts-of}
+use Rattle.rules.proofs.Parts.{parts-of}
+use Rattle.history.proofs.Parts.{rows-of}
 use Rattle.history.proofs.Passed.{formed, both-free, types-room}
 use Rattle.history.proofs.Rows.{present-still, present-new, Row-fits, row-fits, fits-still, rows-more}
 use Rattle.history.proofs.Grown.{Reverse-fits, Fits, New, Grown, grown-good}
@@ -129,7 +131,7 @@ module _ {s : Schema} (good : Good s) (t r d : ℕ) (n m : Name) (c c′ : ℕ) 
         → same-name n m ≡ false → Good (with-pair t r d n m c c′ s)
     one-pair room fit-row fit-reverse differ =
         grown-good good ks ps d grown
-        (rows-more (rows-more (parts-of good .presences .rows) row (omega arith) fit-row)
+        (rows-more (rows-more (rows-of (parts-of good .presences)) row (omega arith) fit-row)
         reverse-row (omega (arith, put-long presence-before row (s .presences)))
         (fits-still row fit-reverse (rw (eq-eqb d d refl) differ) (rw (eq-eqb d d refl) (ne-eqb t r (λ e. other (sym e))))))
 

@@ -28,7 +28,8 @@ use Rattle.rules.proofs.Edits.{put-in, put-old, put-all-long, put-all-in, set-e
 use Rattle.rules.proofs.05-Descent.{members-in}
 use Rattle.rules.proofs.09-Refusals.{verdict-keeps}
 use Rattle.history.proofs.Orders.{number-order, put-all-rises}
-use Rattle.history.proofs.Parts.{closed-at, parts-of}
+use Rattle.rules.proofs.Parts.{parts-of}
+use Rattle.history.proofs.Parts.{rows-of, placed-at}
 use Rattle.history.proofs.Passed.{formed, named-present, one-free, types-room}
 use Rattle.history.proofs.Rows.{present-new, Row-fits, row-fits, rows-more}
 use Rattle.history.proofs.Grown.{Parents-fit, Fits, New, Grown, grown-good}
@@ -46,7 +47,7 @@ free-number s i h =
 -- what is unused is nowhere
 pub unused-nowhere : {s : Schema} → Good s → (d t : ℕ) → is-used (kind-of s t) ≡ false → present s d t ≡ false
 unfolding present
-unused-nowhere {s} good d t u = fails (present s d t) (λ e. true≢false (sym (closed-at (parts-of good .presences) d t e .of-used) ∙ u))
+unused-nowhere {s} good d t u = fails (present s d t) (λ e. true≢false (sym (placed-at (parts-of good .presences) d t e .used) ∙ u))
 
 -- ---- one type
 
@@ -87,7 +88,7 @@ module _ {s : Schema} (good : Good s) (t : ℕ) (k : Kind) (d : ℕ) (n : Name) 
     }
 
     one-type : length (s .presences) + 1 ≤ limits .presences → Row-fits (s .sdss) (s .presences) row → Good (with-type t k d n s)
-    one-type room fit = grown-good good more-types more-presences d grown (rows-more (parts-of good .presences .rows) row room fit)
+    one-type room fit = grown-good good more-types more-presences d grown (rows-more (rows-of (parts-of good .presences)) row room fit)
 
 -- ---- the calls
 

@@ -16,7 +16,7 @@ use Rattle.rules.specs.04-Schema.Side.{origin, destination}
 use Rattle.rules.specs.10-Changes.{put-all}
 use Rattle.rules.proofs.Bools.{or-cases, or-left, or-right, or-neither, and-both, and-of}
 use Rattle.rules.proofs.01-Lists.{Different}
-use Rattle.rules.proofs.03-Names.{same-name-is, name-transitive, name-connected}
+use Rattle.rules.proofs.03-Names.{name-transitive, name-connected}
 use Rattle.rules.proofs.Edits.{tail-rising, put-rising, put-in, without-in}
 
 pub record Order {A : Type 0} (before : A → A → Bool) : Type 0 where
@@ -114,7 +114,7 @@ named-connected n m t u e f =
     let (c, d) = or-neither (name-before m n) (not (name-before n m) && ltb u t) f in
     let b′ : ltb t u ≡ false = rw c at b in
     let d′ : ltb u t ≡ false = rw a at d in
-    (same-name-is n m (name-connected n m a c), omega (arith, ltb-false t u b′, ltb-false u t d′))
+    (name-connected n m a c, omega (arith, ltb-false t u b′, ltb-false u t d′))
 
 named-transitive : (n m o : Name) (t u v : ℕ) → named n m t u ≡ true → named m o u v ≡ true → named n o t v ≡ true
 named-transitive n m o t u v e f = go (name-before n m) refl (name-before m o) refl e f
@@ -125,16 +125,16 @@ named-transitive n m o t u v e f = go (name-before n m) refl (name-before m o) r
     go true p true q e f = or-left (name-before n o) (not (name-before o n) && ltb t v) (name-transitive n m o p q)
     go true p false q e f =
         let (x, y) = and-both (not (name-before o m)) (ltb u v) f in
-        let same : m ≡ o = same-name-is m o (name-connected m o q (flip (name-before o m) x)) in
+        let same : m ≡ o = name-connected m o q (flip (name-before o m) x) in
         or-left (name-before n o) (not (name-before o n) && ltb t v) (ap (name-before n) (sym same) ∙ p)
     go false p true q e f =
         let (x, y) = and-both (not (name-before m n)) (ltb t u) e in
-        let same : n ≡ m = same-name-is n m (name-connected n m p (flip (name-before m n) x)) in
+        let same : n ≡ m = name-connected n m p (flip (name-before m n) x) in
         or-left (name-before n o) (not (name-before o n) && ltb t v) (ap (λ (k : Name). name-before k o) same ∙ q)
     go false p false q e f =
         let (x, y) = and-both (not (name-before m n)) (ltb t u) e in
         let (z, w) = and-both (not (name-before o m)) (ltb u v) f in
-        let same : n ≡ m = same-name-is n m (name-connected n m p (flip (name-before m n) x)) in
+        let same : n ≡ m = name-connected n m p (flip (name-before m n) x) in
         or-right (name-before n o) (not (name-before o n) && ltb t v)
         (and-of (not (name-before o n)) (ltb t v) (ap (λ (k : Name). not (name-before o k)) same ∙ z)
         (number-order .transitive t u v y w))

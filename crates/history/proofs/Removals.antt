@@ -11,7 +11,7 @@ use lib.Seq.{getD-set-same, getD-set-other, set-out}
 use borrow.Author.Tests.{eqb-true, eqb-false, eq-eqb, leb-true, leb-false}
 use Rattle.rules.specs.01-Lists.{_∈_, any, among, without}
 use Rattle.rules.specs.03-Names.{Name}
-use Rattle.rules.specs.04-Schema.{Schema, Kind, Presence, Application, End, system-presence, kind-of, is-used, is-object, is-attribute, is-link}
+use Rattle.rules.specs.04-Schema.{Schema, Kind, Presence, Application, End, system-presence, kind-of, is-used, is-object}
 use Rattle.rules.specs.04-Schema.{parents, parents-in, is-parent, reverse, reverse-in, with-reverse, present, type-named}
 use Rattle.rules.specs.04-Schema.Kind.{unused, object, attribute, paired}
 use Rattle.rules.specs.05-Descent.{Parent}
@@ -20,14 +20,15 @@ use Rattle.rules.specs.09-Refusals.{has-child, in-application, in-end, still-us
 use Rattle.rules.specs.09-Refusals.Outcome.{done}
 use Rattle.rules.specs.10-Changes.{with-types, with-presences, less-gone, remove-type, remove-type-refusals}
 use Rattle.rules.specs.13-History.{next}
+use Rattle.rules.specs.Parts.{of-types, of-presences, Types, Presences, Applications, Ends, Parts}
 use Rattle.rules.proofs.Bools.{or-left, or-right, or-neither, and-both, and-of, fails}
 use Rattle.rules.proofs.01-Lists.{any-at, any-where, none-at, among-in, in-among}
 use Rattle.rules.proofs.05-Descent.{descends-over, object-used, child-object}
 use Rattle.rules.proofs.Edits.{without-in, without-keeps}
 use Rattle.rules.proofs.09-Refusals.{verdict-keeps}
+use Rattle.rules.proofs.Parts.{presence-there, presence-of, parts-of, whole, applied-over, ended-over, applied-held, ended-held}
 use Rattle.history.proofs.KindLaws.{kind-unused, has-reverse}
-use Rattle.history.proofs.Parts.{of-types, of-presences, Types, Closed, Presences, Applications, Ends, Parts, presence-there, presence-of, closed-at}
-use Rattle.history.proofs.Parts.{parts-of, whole}
+use Rattle.history.proofs.Parts.{Placed, rows-of, placed-at, presences-of}
 use Rattle.history.proofs.Passed.{aimed}
 use Rattle.history.proofs.Rows.{rows-less}
 
@@ -40,10 +41,10 @@ record Left (ks ks′ : List Kind) (ps : List Presence) : Type 0 where
   found : (t : ℕ) → is-used (kind-of (of-types ks′) t) ≡ true → (d : ℕ) × (present (of-presences ps) d t ≡ true)
 
 -- what is present is there with its parents and its reverse
-abbrev All-closed : List Kind → List Presence → Type 0
-All-closed ks ps = (d t : ℕ) → present (of-presences ps) d t ≡ true → Closed ks ps d t
+abbrev All-placed : List Kind → List Presence → Type 0
+All-placed ks ps = (d t : ℕ) → present (of-presences ps) d t ≡ true → Placed ks ps d t
 
-module _ {ks ks′ : List Kind} {ps : List Presence} (closed : All-closed ks ps) (left : Left ks ks′ ps) where
+module _ {ks ks′ : List Kind} {ps : List Presence} (placed : All-placed ks ps) (left : Left ks ks′ ps) where
   was : (t : ℕ) (k : Kind) → is-used k ≡ true → kind-of (of-types ks′) t ≡ k → kind-of (of-types ks) t ≡ k
   was t k u e = let (d, h) = left .found t (ap is-used e ∙ u) in sym (left .stays d t h) ∙ e
 
@@ -60,26 +61,32 @@ module _ {ks ks′ : List Kind} {ps : List Presence} (closed : All-closed ks ps)
   parent-left : (t a : ℕ) → Parent (of-types ks′) t a → kind-of (of-types ks′) a ≡ kind-of (of-types ks) a
   parent-left t a by =
       let (d, h) = left .found t (parent-used t a by) in
-      left .stays d a (closed d t h .with-parents a (parent-was t a by))
+      left .stays d a (placed d t h .closed .parents a (parent-was t a by))
 
   reverse-left : (t c r : ℕ) → kind-of (of-types ks′) t ≡ paired c r → kind-of (of-types ks′) r ≡ kind-of (of-types ks) r
   reverse-left t c r e =
       let (d, h) = left .found t (ap is-used e) in
-      left .stays d r (closed d t h .with-reverse c r (was t (paired c r) refl e))
+      left .stays d r (placed d t h .closed .reverse c r (was t (paired c r) refl e))
 
   types-left : system-presence ∈ ps → Types ks → Types ks′
   types-left system g = record {
-    room = left .long ∙ g .room;
-    few = λ t l e. g .few t l (was t (object l) refl e);
-    rises = λ t l e. g .rises t l (was t (object l) refl e);
-    objects = λ t a by. ap is-object (parent-left t a by) ∙ g .objects t a (parent-was t a by);
-    root = left .stays 0 0 (presence-there system) ∙ g .root;
-    only-root = λ t e. g .only-root t (was t (object []) refl e);
-    value-kinds = λ t v e. g .value-kinds t v (was t (attribute v) refl e);
-    categories = λ t c r e. g .categories t c r (was t (paired c r) refl e);
-    different = λ t c r e. g .different t c r (was t (paired c r) refl e);
-    in-turn = λ t c r e. let (c′, h) = g .in-turn t c r (was t (paired c r) refl e) in (c′, reverse-left t c r e ∙ h);
-    not-both = λ t r e h. g .not-both t r (was t (paired 3 r) refl e) (was r (paired 3 t) refl h);
+    kinds = record {
+      room = left .long ∙ g .kinds .room;
+      few = λ t l e. g .kinds .few t l (was t (object l) refl e);
+      value-kinds = λ t v e. g .kinds .value-kinds t v (was t (attribute v) refl e);
+      categories = λ t c r e. g .kinds .categories t c r (was t (paired c r) refl e);
+    };
+    parents = record {
+      rises = λ t l e. g .parents .rises t l (was t (object l) refl e);
+      objects = λ t a by. ap is-object (parent-left t a by) ∙ g .parents .objects t a (parent-was t a by);
+      root = left .stays 0 0 (presence-there system) ∙ g .parents .root;
+      only-root = λ t e. g .parents .only-root t (was t (object []) refl e);
+    };
+    reverses = record {
+      different = λ t c r e. g .reverses .different t c r (was t (paired c r) refl e);
+      in-turn = λ t c r e. let (c′, h) = g .reverses .in-turn t c r (was t (paired c r) refl e) in (c′, reverse-left t c r e ∙ h);
+      not-both = λ t r e h. g .reverses .not-both t r (was t (paired 3 r) refl e) (was r (paired 3 t) refl h);
+    };
     acyclic = λ t d. g .acyclic t (descends-over parent-was d);
   }
 
@@ -87,40 +94,37 @@ module _ {ks ks′ : List Kind} {ps : List Presence} (closed : All-closed ks ps)
       → ((x : Application) → x ∈ xs → (present (of-presences ps) (x .sds) (x .to) ≡ true) × (present (of-presences ps) (x .sds) (x .attribute) ≡ true))
       → Applications ks ps₀ xs → Applications ks′ ps xs
   applications-left both g = record {
-    room = g .room;
-    of-attribute = λ x i. ap is-attribute (left .stays (x .sds) (x .attribute) (both x i .1)) ∙ g .of-attribute x i;
-    to-either = λ x i. ap (λ (k : Kind). is-object k || is-link k) (left .stays (x .sds) (x .to) (both x i .0)) ∙ g .to-either x i;
-    there = λ x i. and-of (present (of-presences ps) (x .sds) (x .to)) (present (of-presences ps) (x .sds) (x .attribute)) (both x i .0) (both x i .1);
-    outside = g .outside;
-    rises = g .rises;
+    rows = g .rows;
+    each = λ x i.
+        let (a, b) = both x i in
+        applied-over (g .each x i) (left .stays (x .sds) (x .to) a) (left .stays (x .sds) (x .attribute) b) a b;
   }
 
   ends-left : {es : List End} {ps₀ : List Presence}
       → ((e : End) → e ∈ es → (present (of-presences ps) (e .sds) (e .link) ≡ true) × (present (of-presences ps) (e .sds) (e .object) ≡ true))
       → Ends ks ps₀ es → Ends ks′ ps es
   ends-left both g = record {
-    room = g .room;
-    of-link = λ e i. ap is-link (left .stays (e .sds) (e .link) (both e i .0)) ∙ g .of-link e i;
-    at-object = λ e i. ap is-object (left .stays (e .sds) (e .object) (both e i .1)) ∙ g .at-object e i;
-    there = λ e i. and-of (present (of-presences ps) (e .sds) (e .link)) (present (of-presences ps) (e .sds) (e .object)) (both e i .0) (both e i .1);
-    outside = g .outside;
-    rises = g .rises;
+    rows = g .rows;
+    each = λ e i.
+        let (a, b) = both e i in
+        ended-over (g .each e i) (left .stays (e .sds) (e .link) a) (left .stays (e .sds) (e .object) b) a b;
     mirrored = λ e i c r k. g .mirrored e i c r (was (e .link) (paired c r) refl k);
   }
 
-presences-left : {ns : List Name} {ks ks′ : List Kind} (q : Presence → Bool) {ps : List Presence} → All-closed ks (without q ps)
+presences-left : {ns : List Name} {ks ks′ : List Kind} (q : Presence → Bool) {ps : List Presence} → All-placed ks (without q ps)
     → Left ks ks′ (without q ps) → q system-presence ≡ false → Presences ns ks ps → Presences ns ks′ (without q ps)
-presences-left q closed left stays g = record {
-  rows = rows-less (g .rows) q stays;
-  each = λ p i.
-      let c = closed (p .sds) (p .type) (presence-there i) in
-      record {
-        of-used = ap is-used (left .stays (p .sds) (p .type) (presence-there i)) ∙ c .of-used;
-        with-parents = λ a by. c .with-parents a (parent-was closed left (p .type) a by);
-        with-reverse = λ b r k. c .with-reverse b r (was closed left (p .type) (paired b r) refl k);
+presences-left q placed left stays g =
+    presences-of (rows-less (rows-of g) q stays)
+    (λ p i.
+    let c = placed (p .sds) (p .type) (presence-there i) in
+    record {
+      used = ap is-used (left .stays (p .sds) (p .type) (presence-there i)) ∙ c .used;
+      closed = record {
+        parents = λ a by. c .closed .parents a (parent-was placed left (p .type) a by);
+        reverse = λ b r k. c .closed .reverse b r (was placed left (p .type) (paired b r) refl k);
       };
-  somewhere = left .found;
-}
+    })
+    (left .found)
 
 -- ---- the types that are gone
 
@@ -305,16 +309,18 @@ module _ {s : Schema} (g : Good s) (d t : ℕ) (outside : d ≡ 0 → ⊥) (free
   stays-present : (e u : ℕ) → present (of-presences (s .presences)) e u ≡ true → (e ≡ d → u ∈ with-reverse s t → ⊥) → present (of-presences rest) e u ≡ true
   stays-present = present-stays d (with-reverse s t) (s .presences)
 
-  rest-closed : All-closed (s .types) rest
+  rest-placed : All-placed (s .types) rest
   unfolding present
-  rest-closed e v h =
+  rest-placed e v h =
       let (w, n) = present-was d (with-reverse s t) (s .presences) e v h in
-      let c = closed-at (parts-of g .presences) e v w in
+      let c = placed-at (parts-of g .presences) e v w in
       record {
-        of-used = c .of-used;
-        with-parents = λ a by. stays-present e a (c .with-parents a by)
-            (λ same i. childless a v i (subst (λ (x : ℕ). present s x v ≡ true) same w) by);
-        with-reverse = λ b r k. stays-present e r (c .with-reverse b r k) (λ same i. n same (pair-closed v b r k i));
+        used = c .used;
+        closed = record {
+          parents = λ a by. stays-present e a (c .closed .parents a by)
+              (λ same i. childless a v i (subst (λ (x : ℕ). present s x v ≡ true) same w) by);
+          reverse = λ b r k. stays-present e r (c .closed .reverse b r k) (λ same i. n same (pair-closed v b r k i));
+        };
       }
 
   types-rest : Left (s .types) (left .types) rest
@@ -345,10 +351,10 @@ module _ {s : Schema} (g : Good s) (d t : ℕ) (outside : d ≡ 0 → ⊥) (free
       subst Good (sym (gone-is (with-reverse s t) (with-presences s rest)))
       (whole (record {
         sdss = p .sdss;
-        types = types-left rest-closed types-rest (without-keeps (goes d (with-reverse s t)) (s .presences) (p .presences .rows .system) system) (p .types);
-        presences = presences-left (goes d (with-reverse s t)) rest-closed types-rest system (p .presences);
-        applications = applications-left rest-closed types-rest applied (p .applications);
-        ends = ends-left rest-closed types-rest ended (p .ends);
+        types = types-left rest-placed types-rest (without-keeps (goes d (with-reverse s t)) (s .presences) (p .presences .rows .system) system) (p .types);
+        presences = presences-left (goes d (with-reverse s t)) rest-placed types-rest system (p .presences);
+        applications = applications-left rest-placed types-rest applied (p .applications);
+        ends = ends-left rest-placed types-rest ended (p .ends);
       }))
     where
       p : Parts s
@@ -360,15 +366,13 @@ module _ {s : Schema} (g : Good s) (d t : ℕ) (outside : d ≡ 0 → ⊥) (free
       applied : (x : Application) → x ∈ s .applications
           → (present (of-presences rest) (x .sds) (x .to) ≡ true) × (present (of-presences rest) (x .sds) (x .attribute) ≡ true)
       applied x i =
-          let (a, b) = and-both (present (of-presences (s .presences)) (x .sds) (x .to)) (present (of-presences (s .presences)) (x .sds) (x .attribute))
-          (p .applications .there x i) in
+          let (a, b) = applied-held (p .applications .each x i) in
           let (to-free, attribute-free) = unapplied x i in
           (stays-present (x .sds) (x .to) a to-free, stays-present (x .sds) (x .attribute) b attribute-free)
 
       ended : (x : End) → x ∈ s .ends → (present (of-presences rest) (x .sds) (x .link) ≡ true) × (present (of-presences rest) (x .sds) (x .object) ≡ true)
       ended x i =
-          let (a, b) = and-both (present (of-presences (s .presences)) (x .sds) (x .link)) (present (of-presences (s .presences)) (x .sds) (x .object))
-          (p .ends .there x i) in
+          let (a, b) = ended-held (p .ends .each x i) in
           let (link-free, object-free) = endless x i in
           (stays-present (x .sds) (x .link) a link-free, stays-present (x .sds) (x .object) b object-free)
 

@@ -17,12 +17,14 @@ use Rattle.rules.specs.09-Refusals.{unknown-sds, system-sds, malformed, borne-b
 use Rattle.rules.specs.09-Refusals.Outcome.{done}
 use Rattle.rules.specs.10-Changes.{with-presences, rename, rename-refusals}
 use Rattle.rules.specs.13-History.{next}
+use Rattle.rules.specs.Parts.{of-presences}
 use Rattle.rules.proofs.Bools.{or-neither, and-both, and-of, and-rest, fails}
 use Rattle.rules.proofs.01-Lists.{any-at, any-none}
-use Rattle.rules.proofs.03-Names.{same-name-is, same-name-refl}
+use Rattle.rules.proofs.03-Names.{same-asked}
 use Rattle.rules.proofs.Edits.{put-each, put-old, first-in, without-in, without-keeps, without-fewer}
 use Rattle.rules.proofs.09-Refusals.{verdict-keeps}
-use Rattle.history.proofs.Parts.{of-presences, presence-there, parts-of}
+use Rattle.rules.proofs.Parts.{presence-there, parts-of}
+use Rattle.history.proofs.Parts.{rows-of}
 use Rattle.history.proofs.Passed.{known, aimed, formed, named-present}
 use Rattle.history.proofs.Rows.{present-over, present-new, Row-fits, rows-less, rows-more, with-presences-good}
 
@@ -46,9 +48,8 @@ module _ (s : Schema) (g : Good s) (d : ℕ) (new : Name) (t : ℕ) where
       let (j, k) = first-in (holds-name d new) (record { sds = 0; name = []; type = 0 }) (s .presences) borne in
       let (a, b) = and-both (eqb (q .sds) d) (same-name (q .name) new) h in
       let (a′, b′) = and-both (eqb (p .sds) d) (same-name (p .name) new) k in
-      let names : q .name ≡ p .name = same-name-is (q .name) new b ∙ sym (same-name-is (p .name) new b′) in
       let one : q ≡ p = g .local-names-unique q p i j (eqb-true (q .sds) d a ∙ sym (eqb-true (p .sds) d a′))
-      (ap (λ (m : Name). same-name m (p .name)) names ∙ same-name-refl (p .name)) in
+      (same-asked (p .name) new b′ (q .name) ∙ b) in
       ap (λ r. r .type) one ∙ eqb-true (p .type) t (not-false (eqb (p .type) t) (and-rest (bears s d new) (not (eqb (p .type) t)) borne e))
 
   -- without it none of type t is left, nor one of the new name
@@ -93,7 +94,7 @@ module _ (s : Schema) (g : Good s) (d : ℕ) (new : Name) (t : ℕ) where
       → Good (with-presences s after)
   renamed is-known outside well there another =
       with-presences-good g
-      (rows-more (rows-less (parts-of g .presences .rows) (holds-type d t) stays) x (room there) (fits is-known outside well another))
+      (rows-more (rows-less (rows-of (parts-of g .presences)) (holds-type d t) stays) x (room there) (fits is-known outside well another))
       still
       (λ p i. inl (was there p i))
     where

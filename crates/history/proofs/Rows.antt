@@ -16,13 +16,14 @@ use Rattle.rules.specs.04-Schema.{Schema, Presence, system-presence, used-sds, 
 use Rattle.rules.specs.06-Good.{Good}
 use Rattle.rules.specs.09-Refusals.{unknown-sds, system-sds}
 use Rattle.rules.specs.10-Changes.{with-presences}
+use Rattle.rules.specs.Parts.{of-sdss, of-presences, Presence-rows}
 use Rattle.rules.proofs.Bools.{and-of}
 use Rattle.rules.proofs.01-Lists.{any-at}
-use Rattle.rules.proofs.03-Names.{same-name-is, same-name-refl}
+use Rattle.rules.proofs.03-Names.{same-turned}
 use Rattle.rules.proofs.Edits.{put-long, put-each, put-none, put-in, put-new, put-old, without-in, without-keeps, without-long}
+use Rattle.rules.proofs.Parts.{presence-there, present-each, parts-of, whole, closed-over}
 use Rattle.history.proofs.Orders.{presence-order, put-rises, without-rises}
-use Rattle.history.proofs.Parts.{of-sdss, of-presences, Rows, Closed, presence-there, presence-of, closed-at, parts-of, whole}
-use Rattle.history.proofs.Parts.{applications-over, ends-over}
+use Rattle.history.proofs.Parts.{Rows, Placed, placed-at, presences-of, applications-over, ends-over}
 use Rattle.history.proofs.Passed.{known, aimed}
 
 -- ---- which types are present
@@ -30,9 +31,7 @@ use Rattle.history.proofs.Passed.{known, aimed}
 -- all are still present where each presence's type is
 pub present-over : (ps ps′ : List Presence) → ((p : Presence) → p ∈ ps → present (of-presences ps′) (p .sds) (p .type) ≡ true)
     → (d t : ℕ) → present (of-presences ps) d t ≡ true → present (of-presences ps′) d t ≡ true
-present-over ps ps′ f d t e =
-    let (p, i, a, b) = presence-of ps d t e in
-    sym (λ j. present (of-presences ps′) (a j) (b j)) ∙ f p i
+present-over ps ps′ = present-each ps (λ d t. present (of-presences ps′) d t ≡ true)
 
 module _ (x : Presence) (ps : List Presence) where
   -- with one more all are present that were, and its type
@@ -70,16 +69,21 @@ module _ {ns : List Name} {ps : List Presence} where
   }
 
   module _ (g : Rows ns ps) where
+    r : Presence-rows ns ps
+    r = g .rows
+
     pub rows-less : (out : Presence → Bool) → out system-presence ≡ false → Rows ns (without out ps)
     rows-less out stays = record {
-      room = omega (arith, without-long out ps, g .room);
-      in-used = λ p i. g .in-used p (was i);
-      named = λ p i. g .named p (was i);
-      unique = λ p q i j. g .unique p q (was i) (was j);
-      one = λ p q i j. g .one p q (was i) (was j);
-      system = without-keeps out ps (g .system) stays;
-      system-alone = λ p i. g .system-alone p (was i);
-      rises = without-rises presence-order out ps (g .rises);
+      rows = record {
+        room = omega (arith, without-long out ps, r .room);
+        in-used = λ p i. r .in-used p (was i);
+        named = λ p i. r .named p (was i);
+        unique = λ p q i j. r .unique p q (was i) (was j);
+        system = without-keeps out ps (r .system) stays;
+        system-alone = λ p i. r .system-alone p (was i);
+        rises = without-rises presence-order out ps (r .rises);
+      };
+      once = λ p q i j. g .once p q (was i) (was j);
     }
       where
         was : {p : Presence} → p ∈ without out ps → p ∈ ps
@@ -87,27 +91,28 @@ module _ {ns : List Name} {ps : List Presence} where
 
     pub rows-more : (x : Presence) → length ps + 1 ≤ limits .presences → Row-fits ns ps x → Rows ns (put presence-before x ps)
     rows-more x room f = record {
-      room = omega (arith, put-long presence-before x ps);
-      in-used = λ p i. put-each presence-before i (λ q. used-sds (of-sdss ns) (q .sds) ≡ true) (f .in-used) (g .in-used p);
-      named = λ p i. put-each presence-before i (λ q. well-formed (q .name) ≡ true) (f .named) (g .named p);
-      unique = λ p q i j d e. both p q i j
-          (λ k l. g .unique p q k l d e)
-          (λ h l. free q l (ap (λ r. r .sds) (sym h) ∙ d) (ap (λ r. r .name) (sym h) ∙ same-name-is (p .name) (q .name) e))
-          (λ k h. free p k (ap (λ r. r .sds) (sym h) ∙ sym d) (ap (λ r. r .name) (sym h) ∙ sym (same-name-is (p .name) (q .name) e)));
-      one = λ p q i j d e. both p q i j
-          (λ k l. g .one p q k l d e)
+      rows = record {
+        room = omega (arith, put-long presence-before x ps);
+        in-used = λ p i. put-each presence-before i (λ q. used-sds (of-sdss ns) (q .sds) ≡ true) (f .in-used) (r .in-used p);
+        named = λ p i. put-each presence-before i (λ q. well-formed (q .name) ≡ true) (f .named) (r .named p);
+        unique = λ p q i j d e. both p q i j
+            (λ k l. r .unique p q k l d e)
+            (λ h l. free q l (ap (λ r. r .sds) (sym h) ∙ d) (ap (λ r. same-name (q .name) (r .name)) (sym h) ∙ same-turned (q .name) (p .name) ∙ e))
+            (λ k h. free p k (ap (λ r. r .sds) (sym h) ∙ sym d) (ap (λ r. same-name (p .name) (r .name)) (sym h) ∙ e));
+        system = put-old presence-before x ps (r .system);
+        system-alone = λ p i. put-each presence-before i (λ q. q .sds ≡ 0 → q ≡ system-presence) (λ z. absurd (f .outside z)) (r .system-alone p);
+        rises = put-rises presence-order x ps (r .rises) (λ i. new x i refl refl);
+      };
+      once = λ p q i j d e. both p q i j
+          (λ k l. g .once p q k l d e)
           (λ h l. new q l (ap (λ r. r .sds) (sym h) ∙ d) (ap (λ r. r .type) (sym h) ∙ e))
           (λ k h. new p k (ap (λ r. r .sds) (sym h) ∙ sym d) (ap (λ r. r .type) (sym h) ∙ sym e));
-      system = put-old presence-before x ps (g .system);
-      system-alone = λ p i. put-each presence-before i (λ q. q .sds ≡ 0 → q ≡ system-presence) (λ z. absurd (f .outside z)) (g .system-alone p);
-      rises = put-rises presence-order x ps (g .rises) (λ i. new x i refl refl);
     }
       where
-        free : (q : Presence) → q ∈ ps → x .sds ≡ q .sds → x .name ≡ q .name → ⊥
+        free : (q : Presence) → q ∈ ps → x .sds ≡ q .sds → same-name (q .name) (x .name) ≡ true → ⊥
         free q i d n =
             true≢false (sym (any-at (holds-name (x .sds) (x .name)) i
-            (and-of (eqb (q .sds) (x .sds)) (same-name (q .name) (x .name)) (eq-eqb (q .sds) (x .sds) (sym d))
-            (ap (same-name (q .name)) n ∙ same-name-refl (q .name)))) ∙ f .free)
+            (and-of (eqb (q .sds) (x .sds)) (same-name (q .name) (x .name)) (eq-eqb (q .sds) (x .sds) (sym d)) n)) ∙ f .free)
 
         new : (q : Presence) → q ∈ ps → x .sds ≡ q .sds → x .type ≡ q .type → ⊥
         new q i d t =
@@ -125,25 +130,19 @@ module _ {ns : List Name} {ps : List Presence} where
 -- a good schema with its presences changed: all that was present still is, and what was not is there with its parents and its reverse
 pub with-presences-good : {s : Schema} → Good s → {ps : List Presence} → Rows (s .sdss) ps
     → ((d t : ℕ) → present (of-presences (s .presences)) d t ≡ true → present (of-presences ps) d t ≡ true)
-    → ((p : Presence) → p ∈ ps → (present (of-presences (s .presences)) (p .sds) (p .type) ≡ true) ⊎ Closed (s .types) ps (p .sds) (p .type))
+    → ((p : Presence) → p ∈ ps → (present (of-presences (s .presences)) (p .sds) (p .type) ≡ true) ⊎ Placed (s .types) ps (p .sds) (p .type))
     → Good (with-presences s ps)
 with-presences-good {s} g {ps} rows still each =
     let p = parts-of g in
     whole (record {
       sdss = p .sdss;
       types = p .types;
-      presences = record {
-        rows = rows;
-        each = λ q i. ⊎-elim (λ h. over (closed-at (p .presences) (q .sds) (q .type) h)) (λ c. c) (each q i);
-        somewhere = λ t u. let (d, e) = p .presences .somewhere t u in (d, still d t e);
-      };
+      presences = presences-of rows
+          (λ q i. ⊎-elim (λ h. over (placed-at (p .presences) (q .sds) (q .type) h)) (λ c. c) (each q i))
+          (λ t u. let (d, e) = p .presences .somewhere t u in (d, still d t e));
       applications = applications-over (s .types) (s .types) (s .presences) ps (λ t u. refl) still (p .applications);
       ends = ends-over (s .types) (s .types) (s .presences) ps (λ t u. refl) still (p .ends);
     })
   where
-    over : {d t : ℕ} → Closed (s .types) (s .presences) d t → Closed (s .types) ps d t
-    over {d} c = record {
-      of-used = c .of-used;
-      with-parents = λ a by. still d a (c .with-parents a by);
-      with-reverse = λ b r k. still d r (c .with-reverse b r k);
-    }
+    over : {d t : ℕ} → Placed (s .types) (s .presences) d t → Placed (s .types) ps d t
+    over {d} c = record { used = c .used; closed = closed-over (still d) (c .closed) }

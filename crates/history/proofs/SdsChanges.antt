@@ -18,12 +18,14 @@ use Rattle.rules.specs.09-Refusals.{unknown-sds, sds-name-taken, holds-presence
 use Rattle.rules.specs.09-Refusals.Outcome.{done}
 use Rattle.rules.specs.10-Changes.{with-sdss, new-sds, new-sds-number, new-sds-refusals, remove-sds, remove-sds-refusals}
 use Rattle.rules.specs.13-History.{next}
+use Rattle.rules.specs.Parts.{of-sdss, Sdss}
 use Rattle.rules.proofs.Bools.{or-neither, and-of}
 use Rattle.rules.proofs.01-Lists.{any-at, place-in, numbers-in}
-use Rattle.rules.proofs.03-Names.{same-name-is, same-name-refl}
+use Rattle.rules.proofs.03-Names.{same-turned}
 use Rattle.rules.proofs.Edits.{set-either}
 use Rattle.rules.proofs.09-Refusals.{verdict-keeps}
-use Rattle.history.proofs.Parts.{of-sdss, Sdss, parts-of, with-sdss-good}
+use Rattle.rules.proofs.Parts.{parts-of}
+use Rattle.history.proofs.Parts.{with-sdss-good}
 use Rattle.history.proofs.Passed.{aimed, formed}
 
 -- ---- one name written
@@ -74,10 +76,10 @@ module _ {ns : List Name} (g : Sdss ns) (d : ℕ) (h : d < length ns) where
         ⊎-elim
         (λ p. ⊎-elim
         (λ r. p .0 ∙ sym (r .0))
-        (λ r. absurd (clash f (sym (used-alike (set ns d n) ns f (r .1)) ∙ v) (sym (same-name-is n (getD ns f []) (rw (p .1, r .1) at q)))))
+        (λ r. absurd (clash f (sym (used-alike (set ns d n) ns f (r .1)) ∙ v) (same-turned (getD ns f []) n ∙ (rw (p .1, r .1) at q))))
         (set-either ns d n [] h f))
         (λ p. ⊎-elim
-        (λ r. absurd (clash e (sym (used-alike (set ns d n) ns e (p .1)) ∙ u) (same-name-is (getD ns e []) n (rw (p .1, r .1) at q))))
+        (λ r. absurd (clash e (sym (used-alike (set ns d n) ns e (p .1)) ∙ u) (rw (p .1, r .1) at q)))
         (λ r. g .unique e f (sym (used-alike (set ns d n) ns e (p .1)) ∙ u) (sym (used-alike (set ns d n) ns f (r .1)) ∙ v) (rw (p .1, r .1) at q))
         (set-either ns d n [] h f))
         (set-either ns d n [] h e);
@@ -87,10 +89,10 @@ module _ {ns : List Name} (g : Sdss ns) (d : ℕ) (h : d < length ns) where
         (set-either ns d n [] h 0);
   }
     where
-      clash : (e : ℕ) → used-sds (of-sdss ns) e ≡ true → getD ns e [] ≡ n → ⊥
+      clash : (e : ℕ) → used-sds (of-sdss ns) e ≡ true → same-name (getD ns e []) n ≡ true → ⊥
       clash e u q =
           true≢false (sym (any-at (λ m. not (blank m) && same-name m n) (place-in [] ns e (used-inside ns e u))
-          (and-of (not (blank (getD ns e []))) (same-name (getD ns e []) n) (sym (name-used ns e (getD ns e []) refl) ∙ u) (rw q (same-name-refl n)))) ∙ new)
+          (and-of (not (blank (getD ns e []))) (same-name (getD ns e []) n) (sym (name-used ns e (getD ns e []) refl) ∙ u) q)) ∙ new)
 
 -- ---- the calls
 

@@ -21,7 +21,7 @@ use Rattle.rules.proofs.05-Descent as Descent
 use Rattle.rules.proofs.05-Descent.{object-used}
 use Rattle.rules.proofs.11-Asks.{whole-list}
 use Rattle.history.proofs.KindLaws.{attribute-used, link-used, either-used}
-use Rattle.history.proofs.Parts.{presence-of}
+use Rattle.rules.proofs.Parts.{presence-of}
 use Rattle.history.proofs.EndChanges.{has-in}
 
 -- nothing that is stored points at a thing that is not there

@@ -16,6 +16,7 @@ use Rattle.rules.specs.04-Schema.{Schema, parents, is-parent}
 use Rattle.rules.specs.05-Descent.{Parent, Descends, descends, members}
 use Rattle.rules.specs.05-Descent.Descends.{by-parent, by-step}
 use Rattle.rules.specs.06-Good.{Good}
+use Rattle.rules.specs.Read.{count-offset, parents-offset}
 use Rattle.rules.proofs.Bools.{same-test, or-cases, or-left, or-right}
 use Rattle.rules.proofs.01-Lists.{any-at, any-where, numbers-none}
 use Rattle.rules.proofs.05-Descent.{members-in, members-of, child-object, past, descends-sound, descends-full}
@@ -25,12 +26,11 @@ use Rattle.type_set.specs.declared.TypeSet.{TypeSet}
 use Rattle.type_set.specs.Set.{has}
 use Rattle.type_set.specs.Round.{grow-to}
 use Rattle.type_set.proofs.Set.{has-past}
-use Rattle.type_set.proofs.Members.{members-same}
+use Rattle.type_set.proofs.Members.{members-same, types-taken, types-passed}
 use Rattle.type_set.proofs.Round.{grow-cases, grow-taken}
-use Rattle.graph.specs.Graph.{Parental}
+use Rattle.lookup.specs.Parents.{Parental}
 use Rattle.kin.specs.Kin.{parents-of, children-of, ancestors-of, descendants-of, next-of, line-of}
-use Rattle.graph.proofs.Rows.{object-below, parent-below, parents-count, parents-place}
-use Rattle.graph.proofs.Laws.{types-taken, types-passed}
+use Rattle.lookup.proofs.Parents.{object-below, parent-below, parents-count, parents-place}
 
 -- ---- tests
 
@@ -87,26 +87,26 @@ module _ {b : List ℕ} (rows : Parental b) (t : ℕ) (h : t < 128) where
   abbrev ps : List ℕ
   ps = parents (schema-of b) t
 
-  left-first : (f : ℕ → Bool) (i : ℕ) → i < getD b (type-at t + 3) 0 → any f (drop i ps) ≡ f (getD b (type-at t + 4 + i) 0) || any f (drop (i + 1) ps)
+  left-first : (f : ℕ → Bool) (i : ℕ) → i < getD b (type-at t + count-offset) 0 → any f (drop i ps) ≡ f (getD b (type-at t + parents-offset + i) 0) || any f (drop (i + 1) ps)
   left-first f i l =
       any-left f ps i (omega (arith, parents-count rows t h))
       ∙ ap (λ (a : ℕ). f a || any f (drop (i + 1) ps)) (parents-place rows t h i l)
 
-  left-none : (f : ℕ → Bool) (i : ℕ) → i ≡ getD b (type-at t + 3) 0 → any f (drop i ps) ≡ false
+  left-none : (f : ℕ → Bool) (i : ℕ) → i ≡ getD b (type-at t + count-offset) 0 → any f (drop i ps) ≡ false
   unfolding any
   left-none f i l = rw (l, ← parents-count rows t h, drop-length ps)
 
   module _ {p q : ℕ → Bool} {i : ℕ} (so-far : Adds (schema-of b) t i p q) where
-    pub adds-more : (r : ℕ → Bool) → i < getD b (type-at t + 3) 0 → ((k : ℕ) → r k ≡ eqb k (getD b (type-at t + 4 + i) 0) || q k)
+    pub adds-more : (r : ℕ → Bool) → i < getD b (type-at t + count-offset) 0 → ((k : ℕ) → r k ≡ eqb k (getD b (type-at t + parents-offset + i) 0) || q k)
         → Adds (schema-of b) t (i + 1) p r
     adds-more r l made = record {
       left = λ k.
           ap (λ (x : Bool). any (eqb k) (drop (i + 1) ps) || x) (made k)
-          ∙ moved (eqb k (getD b (type-at t + 4 + i) 0)) (any (eqb k) (drop (i + 1) ps)) (q k)
+          ∙ moved (eqb k (getD b (type-at t + parents-offset + i) 0)) (any (eqb k) (drop (i + 1) ps)) (q k)
           ∙ ap (λ (x : Bool). x || q k) (sym (left-first (eqb k) i l)) ∙ so-far .left k;
     }
 
-    pub adds-all : i ≡ getD b (type-at t + 3) 0 → (k : ℕ) → q k ≡ is-parent (schema-of b) t k || p k
+    pub adds-all : i ≡ getD b (type-at t + count-offset) 0 → (k : ℕ) → q k ≡ is-parent (schema-of b) t k || p k
     adds-all l k = ap (λ (x : Bool). x || q k) (sym (left-none (eqb k) i l)) ∙ so-far .left k
 
   module _ (p : ℕ → Bool) where
@@ -122,16 +122,16 @@ module _ {b : List ℕ} (rows : Parental b) (t : ℕ) (h : t < 128) where
     }
 
     module _ {i : ℕ} (so-far : Finds (schema-of b) t i p) where
-      passed : i < getD b (type-at t + 3) 0 → (x : Bool) → p (getD b (type-at t + 4 + i) 0) ≡ x → x || any p (drop (i + 1) ps) ≡ children-of (schema-of b) p t
+      passed : i < getD b (type-at t + count-offset) 0 → (x : Bool) → p (getD b (type-at t + parents-offset + i) 0) ≡ x → x || any p (drop (i + 1) ps) ≡ children-of (schema-of b) p t
       passed l x e = sym (ap (λ (x : Bool). x || any p (drop (i + 1) ps)) e) ∙ sym (left-first p i l) ∙ so-far .left
 
-      pub finds-here : i < getD b (type-at t + 3) 0 → p (getD b (type-at t + 4 + i) 0) ≡ true → true ≡ children-of (schema-of b) p t
+      pub finds-here : i < getD b (type-at t + count-offset) 0 → p (getD b (type-at t + parents-offset + i) 0) ≡ true → true ≡ children-of (schema-of b) p t
       finds-here l e = passed l true e
 
-      pub finds-more : i < getD b (type-at t + 3) 0 → p (getD b (type-at t + 4 + i) 0) ≡ false → Finds (schema-of b) t (i + 1) p
+      pub finds-more : i < getD b (type-at t + count-offset) 0 → p (getD b (type-at t + parents-offset + i) 0) ≡ false → Finds (schema-of b) t (i + 1) p
       finds-more l e = record { left = passed l false e }
 
-      pub finds-all : i ≡ getD b (type-at t + 3) 0 → false ≡ children-of (schema-of b) p t
+      pub finds-all : i ≡ getD b (type-at t + count-offset) 0 → false ≡ children-of (schema-of b) p t
       finds-all l = sym (left-none p i l) ∙ so-far .left
 
 -- ---- the parents of a set, type by type

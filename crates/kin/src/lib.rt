@@ -4,17 +4,18 @@ use type_set::TypeSet;
 ghost use mathlib.Core.Path.{_≡_};
 ghost use mathlib.Core.Bool.{true, _||_};
 ghost use Prim.Native.Nat.{ℕ, _<_};
+ghost use Rattle.rules.specs.02-Limits.{limits};
 ghost use Rattle.rules.specs.04-Schema.{is-object, is-parent, kind-of};
 ghost use Rattle.rules.specs.05-Descent.{depth};
 ghost use Rattle.rules.specs.07-Picture.{Sound};
 ghost use Rattle.base.specs.Back.{schema-of};
 ghost use Rattle.type_set.specs.Set.{has};
-ghost use Rattle.graph.specs.Graph.{Parental};
+ghost use Rattle.lookup.specs.Parents.{Parental};
 ghost use Rattle.kin.specs.Kin.{parents-of, children-of, ancestors-of, descendants-of, next-of, line-of};
 
 // `s` with the parents of `t`.
 fn add_parents(base: &[u8], t: usize, s: TypeSet) -> TypeSet
-    requires { ⌜ Parental (now base) × (t < 128) ⌝ }
+    requires { ⌜ Parental (now base) × (t < limits .types) ⌝ }
     ensures { λ r. ⌜ ((k : ℕ) → has r k ≡ is-parent (schema-of (now (base .entry))) t k || has s k) ⌝ }
 {
     let n = base::parent_count(base, t);
@@ -45,7 +46,7 @@ pub fn parents_of(base: &[u8], s: TypeSet) -> TypeSet
 
 // Whether some parent of `t` is in `s`.
 fn has_parent_in(base: &[u8], t: usize, s: TypeSet) -> bool
-    requires { ⌜ Parental (now base) × (t < 128) ⌝ }
+    requires { ⌜ Parental (now base) × (t < limits .types) ⌝ }
     ensures { λ r. ⌜ r ≡ children-of (schema-of (now (base .entry))) (has s) t ⌝ }
 {
     let n = base::parent_count(base, t);

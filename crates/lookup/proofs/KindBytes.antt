@@ -3,20 +3,20 @@ use Prim.Native.Nat.{ℕ, _+_, _≤_, _<_}
 use native.Mathlib.Omega.{arith}
 use mathlib.Core.Path.{_≡_, refl, sym, ap, _∙_, subst}
 use mathlib.Core.List.{List, [], _∷_}
-use mathlib.Core.Bool.{Bool, true, false, not}
+use mathlib.Core.Bool.{Bool, true, false, not, true≢false}
 use lib.Dec.{ltb, eqb}
 use lib.ListN.{length, getD, take, drop, length-take, length-drop}
 use lib.Seq.{drop-drop, getD-drop}
 use borrow.Author.Tests.{ltb-true, ltb-false, eqb-true, eqb-false, ne-eqb}
 use Rattle.rules.specs.04-Schema.{Kind, kind-of, is-used, is-object, is-attribute, is-link}
 use Rattle.rules.specs.04-Schema.Kind.{unused, object, attribute, designation, paired}
-use Rattle.rules.specs.07-Picture.{Sound, pad, type-row, base-length}
-use Rattle.rules.specs.Read.{read-kind}
+use Rattle.rules.specs.07-Picture.{Sound, pad, type-row, base-length, type-width}
+use Rattle.rules.specs.Read.{read-kind, count-offset, parents-offset, reverse-offset, value-offset}
 use Rattle.rows.specs.Rows.{part}
 use Rattle.rows.proofs.Rows.{part-byte}
 use Rattle.base.specs.Rows.{type-at}
 use Rattle.base.specs.Back.{schema-of, kind-shown}
-use Rattle.lookup.specs.Kinds.{kind-code}
+use Rattle.rules.specs.04-Schema.{kind-code}
 use Rattle.base.proofs.Back.{sound-canonical}
 use Rattle.base.proofs.Shown.{kind-is, kind-none, shows-attribute, shows-designation, shows-paired, shows-unused}
 
@@ -25,20 +25,20 @@ kind-byte b t = getD b (type-at t) 0
 
 -- an attribute type's value kind, or a link type's category
 abbrev pub value-byte : List ℕ → ℕ → ℕ
-value-byte b t = getD b (type-at t + 1) 0
+value-byte b t = getD b (type-at t + value-offset) 0
 
 abbrev pub reverse-byte : List ℕ → ℕ → ℕ
-reverse-byte b t = getD b (type-at t + 2) 0
+reverse-byte b t = getD b (type-at t + reverse-offset) 0
 
 abbrev pub count-byte : List ℕ → ℕ → ℕ
-count-byte b t = getD b (type-at t + 3) 0
+count-byte b t = getD b (type-at t + count-offset) 0
 
 -- the parent in place i of 4
 abbrev pub parent-byte : List ℕ → ℕ → ℕ → ℕ
-parent-byte b t i = getD b (type-at t + 4 + i) 0
+parent-byte b t i = getD b (type-at t + parents-offset + i) 0
 
 abbrev pub parent-places : List ℕ → ℕ → List ℕ
-parent-places b t = part b (type-at t + 4) 4
+parent-places b t = part b (type-at t + parents-offset) 4
 
 -- as many of them as the row counts
 abbrev pub listed-parents : List ℕ → ℕ → List ℕ
@@ -70,8 +70,8 @@ module _ (b : List ℕ) (t : ℕ) where
   pub object-shown : kind-byte b t ≡ 1 → kind-shown b t ≡ object (listed-parents b t)
   unfolding read-kind
   object-shown e =
-      let first : getD (part b (type-at t) 8) 0 0 ≡ 1 = part-byte b (type-at t) 8 0 (omega arith) ∙ ap (λ (n : ℕ). getD b n 0) (omega arith) ∙ e in
-      let places : drop 4 (part b (type-at t) 8) ≡ parent-places b t = last-four (drop (type-at t) b) ∙ ap (take 4) (drop-drop 4 (type-at t) b) in
+      let first : getD (part b (type-at t) type-width) 0 0 ≡ 1 = part-byte b (type-at t) 8 0 (omega arith) ∙ ap (λ (n : ℕ). getD b n 0) (omega arith) ∙ e in
+      let places : drop 4 (part b (type-at t) type-width) ≡ parent-places b t = last-four (drop (type-at t) b) ∙ ap (take 4) (drop-drop 4 (type-at t) b) in
       rw (first, part-byte b (type-at t) 8 3 (omega arith), places)
 
   shown-seen : t < 128 → Seen b t (kind-shown b t)
@@ -115,13 +115,13 @@ module _ (b : List ℕ) (t : ℕ) where
       go (seen-paired h k v) = (h, k, v, refl, refl)
 
   pub place-byte : (i : ℕ) → i < 4 → getD (parent-places b t) i 0 ≡ parent-byte b t i
-  place-byte i h = part-byte b (type-at t + 4) 4 i h
+  place-byte i h = part-byte b (type-at t + parents-offset) 4 i h
 
   module _ (long : length b ≡ base-length) (h : t < 128) where
     pub places-long : length (parent-places b t) ≡ 4
-    places-long = length-take 4 (drop (type-at t + 4) b) ∙ omega (arith, length-drop (type-at t + 4) b)
+    places-long = length-take 4 (drop (type-at t + parents-offset) b) ∙ omega (arith, length-drop (type-at t + parents-offset) b)
 
-    pub row-bytes : part b (type-at t) 8 ≡ kind-byte b t ∷ value-byte b t ∷ reverse-byte b t ∷ count-byte b t ∷ parent-places b t
+    pub row-bytes : part b (type-at t) type-width ≡ kind-byte b t ∷ value-byte b t ∷ reverse-byte b t ∷ count-byte b t ∷ parent-places b t
     row-bytes =
         let byte : (f : ℕ) → getD (drop (type-at t) b) f 0 ≡ getD b (type-at t + f) 0 = λ f. getD-drop (type-at t) b f 0 in
         let first : getD (drop (type-at t) b) 0 0 ≡ kind-byte b t = byte 0 ∙ ap (λ (n : ℕ). getD b n 0) (omega arith) in
@@ -225,3 +225,33 @@ sound-code {b} s t h =
     ap (λ (n : ℕ). getD b n 0) (omega arith) ∙ sym (part-byte b (type-at t) 8 0 (omega arith))
     ∙ ap (λ (r : List ℕ). getD r 0 0) (sym (sound-canonical s .type-rows t h)) ∙ written-code (kind-shown b t)
     ∙ ap kind-code (sym (kind-is b t h))
+
+pub used-byte : {b : List ℕ} → Sound b → (t x : ℕ) → t < 128 → x ≡ getD b (type-at t) 0 → not (eqb x 0) ≡ is-used (kind-of (schema-of b) t)
+used-byte {b} s t x h e = ap (λ (n : ℕ). not (eqb n 0)) (e ∙ sound-code s t h) ∙ used-code (kind-of (schema-of b) t)
+
+-- the bytes of a link type that has a reverse, and of one that has none
+module _ (b : List ℕ) (t : ℕ) (h : t < 128) where
+  pub paired-reverse : (c r : ℕ) → kind-of (schema-of b) t ≡ paired c r → (getD b (type-at t + value-offset) 0 ≡ 4 → ⊥) × (r ≡ getD b (type-at t + reverse-offset) 0)
+  paired-reverse c r e =
+      let three : getD b (type-at t) 0 ≡ 3 = eqb-true (getD b (type-at t) 0) 3 (link-byte b t (getD b (type-at t) 0) h refl ∙ ap is-link e) in
+      let other : getD b (type-at t + value-offset) 0 ≡ 4 → ⊥ = λ f. apart (sym (shows-designation b t three f) ∙ sym (kind-is b t h) ∙ e) in
+      (other, reverse-same (sym e ∙ kind-is b t h ∙ shows-paired b t three other))
+    where
+      apart : designation ≡ paired c r → ⊥
+      apart q = let z : _≡_ {A = ℕ} 0 1 = cc in omega arith
+
+      reverse-same : paired c r ≡ paired (getD b (type-at t + value-offset) 0) (getD b (type-at t + reverse-offset) 0) → r ≡ getD b (type-at t + reverse-offset) 0
+      reverse-same q = cc
+
+  pub link-paired : is-link (kind-of (schema-of b) t) ≡ true → (getD b (type-at t + value-offset) 0 ≡ 4 → ⊥) → kind-of (schema-of b) t ≡ paired (getD b
+      (type-at t + value-offset) 0) (getD b (type-at t + reverse-offset) 0)
+  link-paired e n =
+      kind-is b t h ∙ shows-paired b t (eqb-true (getD b (type-at t) 0) 3 (link-byte b t (getD b (type-at t) 0) h refl ∙ e)) n
+
+-- a link type is below 128
+pub link-below : (b : List ℕ) (t : ℕ) → is-link (kind-of (schema-of b) t) ≡ true → t < 128
+link-below b t e = go (ltb t 128) refl
+  where
+    go : (x : Bool) → ltb t 128 ≡ x → t < 128
+    go true q = ltb-true t 128 q
+    go false q = absurd (true≢false (sym e ∙ ap is-link (kind-none b t (ltb-false t 128 q))))

@@ -1,4 +1,9 @@
 pub mod Walked
-pub mod FindLaws
 pub mod KindBytes
+pub mod Parents
+pub mod FreeLaws
 pub mod SdsShown
+pub mod NamedLaws
+pub mod RowBytes
+pub mod EndLaws
+pub mod EndRows

@@ -8,13 +8,15 @@ use lib.Dec.{leb, ltb, eqb, eqb·suc-zero}
 use lib.ListN.{length, getD}
 use borrow.Author.Tests.{ltb-true, ltb-false, le-ltb, eq-eqb, ne-eqb, lt-leb}
 use Rattle.rules.specs.01-Lists.{numbers}
+use Rattle.rules.specs.02-Limits.{limits}
 use Rattle.rules.specs.03-Names.{Name, well-formed, blank, same-name}
 use Rattle.rules.specs.04-Schema.{Presence, sds-name, used-sds}
+use Rattle.rules.specs.07-Picture.{base-length}
 use Rattle.rules.specs.09-Refusals.{unknown-sds, sds-name-taken, holds-presence, free-sdss, no-free-sds}
 use Rattle.rules.specs.10-Changes.{new-sds-number}
 use Rattle.rules.proofs.Bools.{and-of, or-right}
 use Rattle.rules.proofs.01-Lists.{any-at, any-none, at-place, place-in, numbers-first, numbers-none}
-use Rattle.rules.proofs.03-Names.{same-name-is}
+use Rattle.rules.proofs.03-Names.{formed-long, same-long}
 use Rattle.rules.specs.Read.{strip}
 use Rattle.rows.specs.Rows.{part}
 use Rattle.rows.proofs.Scan.{length-part}
@@ -25,11 +27,11 @@ use Rattle.base.proofs.Shown.{sdss-long, sds-is, sds-none, presence-there, pres
 
 -- ---- SDSs
 
-module _ (b : List ℕ) (long : length b ≡ 13312) where
+module _ (b : List ℕ) (long : length b ≡ base-length) where
   -- an SDS is used exactly where the first byte of its field is not 0
-  pub used-first : (d : ℕ) → d < 16 → (f : List ℕ) → f ≡ part b (sds-at d) 16 → not (eqb (getD f 0 0) 0) ≡ used-sds (schema-of b) d
+  pub used-first : (d : ℕ) → d < 16 → (f : List ℕ) → f ≡ part b (sds-at d) (limits .name) → not (eqb (getD f 0 0) 0) ≡ used-sds (schema-of b) d
   unfolding used-sds strip
-  used-first d h f e = rw (sds-is b d h, ← e) (go f (ap length e ∙ length-part b (sds-at d) 16 (omega arith)))
+  used-first d h f e = rw (sds-is b d h, ← e) (go f (ap length e ∙ length-part b (sds-at d) (limits .name) (omega arith)))
     where
       go : (f : List ℕ) → length f ≡ 16 → not (eqb (getD f 0 0) 0) ≡ not (eqb (length (strip f)) 0)
       go [] l = absurd (omega arith)
@@ -57,10 +59,6 @@ module _ (b : List ℕ) (long : length b ≡ 13312) where
 
 -- ---- the name of an SDS is taken
 
-formed-filled : (n : Name) → well-formed n ≡ true → n ≡ [] → ⊥
-unfolding well-formed
-formed-filled n w e = false≢true (rw e at w)
-
 -- some SDS has the name
 pub taken-at : (b : List ℕ) (d : ℕ) (n m : Name) → d < 16 → m ≡ sds-name (schema-of b) d → well-formed n ≡ true → same-name m n ≡ true
     → true ≡ sds-name-taken (schema-of b) n
@@ -68,12 +66,8 @@ unfolding sds-name-taken
 taken-at b d n m h e w q =
     sym (any-at (λ x. not (blank x) && same-name x n) (place-in [] ((schema-of b) .sdss) d (omega (arith, sdss-long b)))
     (and-of (not (blank (sds-name (schema-of b) d))) (same-name (sds-name (schema-of b) d) n)
-    (filled (sds-name (schema-of b) d) (λ z. formed-filled n w (sym (same-name-is m n q) ∙ e ∙ z)))
+    (ap not (ne-eqb (length (sds-name (schema-of b) d)) 0 (λ z. omega (arith, formed-long n w .0, same-long m n q, ap length e))))
     (ap (λ (x : Name). same-name x n) (sym e) ∙ q)))
-  where
-    filled : (x : Name) → (x ≡ [] → ⊥) → not (blank x) ≡ true
-    filled [] z = absurd (z refl)
-    filled (c ∷ x) z = ap not (eqb·suc-zero (length x))
 
 -- no SDS has
 pub taken-nowhere : (b : List ℕ) (n : Name) → ((d : ℕ) → d < 16 → same-name (sds-name (schema-of b) d) n ≡ false) → false ≡ sds-name-taken (schema-of b) n

@@ -8,11 +8,12 @@ use lib.Dec.{ltb, eqb}
 use lib.ListN.{getD}
 use borrow.Author.Tests.{ltb-true, ltb-false, eqb-true, eq-eqb}
 use Rattle.rules.specs.01-Lists.{_∈_, any}
+use Rattle.rules.specs.02-Limits.{limits}
 use Rattle.rules.specs.04-Schema.{Presence, Application, End, system-presence, holds-type, present, local-name}
 use Rattle.rules.specs.11-Asks.{place}
 use Rattle.rules.proofs.Bools.{and-both, and-of}
 use Rattle.rules.proofs.01-Lists.{any-at, any-none}
-use Rattle.rules.specs.Read.{strip}
+use Rattle.rules.specs.Read.{strip, name-offset, type-offset}
 use Rattle.rules.proofs.11-Asks.{place-is, local-at}
 use Rattle.rows.specs.Rows.{part}
 use Rattle.base.specs.Rows.{presence-at}
@@ -79,11 +80,11 @@ module _ (b : List ℕ) where
 
   module _ (d t : ℕ) where
     row-holds : (i : ℕ) → Row-of b i d t → holds-type d t (presence-shown b i) ≡ true
-    row-holds i w = and-of (eqb (getD b (presence-at i) 0) d) (eqb (getD b (presence-at i + 17) 0) t) (eq-eqb _ d (w .0)) (eq-eqb _ t (w .1))
+    row-holds i w = and-of (eqb (getD b (presence-at i) 0) d) (eqb (getD b (presence-at i + type-offset) 0) t) (eq-eqb _ d (w .0)) (eq-eqb _ t (w .1))
 
     holds-row : (i : ℕ) → holds-type d t (presence-shown b i) ≡ true → Row-of b i d t
     holds-row i e =
-        let (x, y) = and-both (eqb (getD b (presence-at i) 0) d) (eqb (getD b (presence-at i + 17) 0) t) e in
+        let (x, y) = and-both (eqb (getD b (presence-at i) 0) d) (eqb (getD b (presence-at i + type-offset) 0) t) e in
         (eqb-true _ d x, eqb-true _ t y)
 
     not-row : (i : ℕ) → (Row-of b i d t → ⊥) → holds-type d t (presence-shown b i) ≡ false
@@ -103,7 +104,7 @@ module _ (b : List ℕ) where
       row-below e = ltb-true r (presence-count b) (first-presence (holds-type d t) (presence-first p) ∙ e)
 
       -- with its local name
-      pub row-name : present (schema-of b) d t ≡ true → strip (part b (presence-at r + 1) 16) ≡ local-name (schema-of b) d t
+      pub row-name : present (schema-of b) d t ≡ true → strip (part b (presence-at r + name-offset) (limits .name)) ≡ local-name (schema-of b) d t
       row-name e =
           let h = row-below e in
           let f = presence-first p in

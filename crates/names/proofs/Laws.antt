@@ -9,10 +9,10 @@ use lib.Dec.{ltb, eqb}
 use lib.ListN.{length, getD, take, drop, drop-of-length-le}
 use lib.Seq.{drop-cons, drop-drop}
 use borrow.Author.Count.{below-more}
-use borrow.Author.Tests.{lt-ltb, le-ltb, lt-leb, le-leb, eq-eqb, ne-eqb, ltb-true, ltb-false}
-use Rattle.rules.specs.01-Lists.{same-bytes, bytes-before, all}
+use borrow.Author.Tests.{lt-ltb, le-ltb, lt-leb, le-leb, eq-eqb, ne-eqb}
+use Rattle.rules.specs.01-Lists.{same-bytes, all}
 use Rattle.rules.specs.02-Limits.{limits}
-use Rattle.rules.specs.03-Names.{Name, letter, letter-or-digit, well-formed, name-before, parted, names-in}
+use Rattle.rules.specs.03-Names.{Name, letter, letter-or-digit, well-formed, parted, names-in}
 use Rattle.rules.proofs.Bools.{and-both}
 use Rattle.names.specs.declared.Run.{Run}
 use Rattle.names.specs.Bytes.{bit, marked}
@@ -116,48 +116,11 @@ module _ (a b : Name) (i : ℕ) (h : i < length a) (k : i < length b) where
   unfolding same-bytes
   same-go-on e = rw (add-one, drop-cons a i 0 h, drop-cons b i 0 k, eq-eqb (getD a i 0) (getD b i 0) e)
 
-  pub before-less : getD a i 0 < getD b i 0 → name-before (drop i a) (drop i b) ≡ true
-  unfolding name-before bytes-before
-  before-less l = rw (drop-cons a i 0 h, drop-cons b i 0 k, lt-ltb (getD a i 0) (getD b i 0) l)
-
-  pub before-more : getD b i 0 < getD a i 0 → name-before (drop i a) (drop i b) ≡ false
-  unfolding name-before bytes-before
-  before-more l =
-      rw (
-        drop-cons a i 0 h,
-        drop-cons b i 0 k,
-        le-ltb (getD a i 0) (getD b i 0) (omega arith),
-        ne-eqb (getD a i 0) (getD b i 0) (λ e. omega arith),
-      )
-
-  pub before-go-on : getD a i 0 ≡ getD b i 0 → name-before (drop i a) (drop i b) ≡ name-before (drop (i + 1) a) (drop (i + 1) b)
-  unfolding name-before bytes-before
-  before-go-on e =
-      rw (
-        add-one,
-        drop-cons a i 0 h,
-        drop-cons b i 0 k,
-        le-ltb (getD a i 0) (getD b i 0) (omega arith),
-        eq-eqb (getD a i 0) (getD b i 0) e,
-      )
-
--- one of the two has come to its end
+-- both have come to their end
 module _ (a b : Name) (i : ℕ) where
   pub same-end : length a ≤ i → length b ≤ i → same-bytes (drop i a) (drop i b) ≡ true
   unfolding same-bytes
   same-end h k = rw (drop-of-length-le a h, drop-of-length-le b k)
-
-  pub before-second-ends : i < length a → length b ≤ i → name-before (drop i a) (drop i b) ≡ false
-  unfolding name-before bytes-before
-  before-second-ends h k = rw (drop-cons a i 0 h, drop-of-length-le b k)
-
-  pub before-first-ends : length a ≤ i → name-before (drop i a) (drop i b) ≡ ltb i (length b)
-  unfolding name-before bytes-before
-  before-first-ends h = go (ltb i (length b)) refl
-    where
-      go : (t : Bool) → ltb i (length b) ≡ t → bytes-before (drop i a) (drop i b) ≡ t
-      go true e = rw (drop-of-length-le a h, drop-cons b i 0 (ltb-true i (length b) e))
-      go false e = rw (drop-of-length-le a h, drop-of-length-le b (ltb-false i (length b) e))
 
 -- ---- a run of names
 

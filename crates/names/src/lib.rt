@@ -1,9 +1,9 @@
-// Names, and the runs of bytes that they stand in. What is well formed, what is the same and what stands first is `rules`'.
+// Names, and the runs of bytes that they stand in. What is well formed and what is the same is `rules`'.
 ghost use mathlib.Core.Path.{_≡_};
 ghost use Prim.Native.Nat.{_≤_};
 ghost use lib.ListN.{length};
 ghost use Rattle.rules.specs.01-Lists.{same-bytes};
-ghost use Rattle.rules.specs.03-Names.{letter, letter-or-digit, well-formed, same-name, name-before};
+ghost use Rattle.rules.specs.03-Names.{letter, letter-or-digit, well-formed, same-name};
 ghost use Rattle.names.specs.Bytes.{marked};
 ghost use Rattle.names.specs.Run.{Ended, Started, Standing, Parted};
 use rules::Limits;
@@ -85,27 +85,6 @@ pub fn is_same(a: &[u8], b: &[u8]) -> bool
     ensures { λ r. ⌜ r ≡ same-name (now (a .entry)) (now (b .entry)) ⌝ }
 {
     is_equal(a, b)
-}
-
-pub fn is_before(a: &[u8], b: &[u8]) -> bool
-    ensures { λ r. ⌜ r ≡ name-before (now (a .entry)) (now (b .entry)) ⌝ }
-{
-    let mut i = 0;
-    while i < a.len() {
-        if b.len() <= i {
-            return false;
-        }
-        let x = a[i];
-        let y = b[i];
-        if x < y {
-            return true;
-        }
-        if y < x {
-            return false;
-        }
-        i += 1;
-    }
-    i < b.len()
 }
 
 // A place in a run of names parted by single spaces, by value; where there is no more, none is left.

@@ -1,19 +1,17 @@
 -- Laws of rows, over any width. Assumes nothing.
 use Prim.Native.Nat.{ℕ, zero, suc, _+_, _*_, _-_, _≤_, _<_}
-use native.Mathlib.Nat.{suc-mul, zero-mul, zero-add}
+use native.Mathlib.Nat.{suc-mul, zero-mul}
 use native.Mathlib.Omega.{arith}
 use mathlib.Core.Path.{_≡_, refl, sym, ap, _∙_}
-use mathlib.Core.List.{List, [], _∷_, _++_, append-assoc}
+use mathlib.Core.Logic.{⊎-elim}
+use mathlib.Core.List.{List, [], _∷_, _++_, append-assoc, List·Memᴰ·cases-cons, List·Memᴰ·not-nil}
 use mathlib.Core.List.List·Memᴰ.{List·Memᴰ·head, List·Memᴰ·tail}
 use mathlib.Core.Bool.{Bool, true, false, cond}
-use lib.Dec.{eqb}
-use lib.ListN.{length, getD, take, drop, replicate, getD-replicate, replicate-append-replicate, length-drop, take-append-drop}
-use lib.ListN.{List·getD-append}
+use lib.ListN.{length, getD, take, drop, replicate, replicate-append-replicate, length-drop, take-append-drop}
 use lib.Seq.{take-at, drop-at, drop-drop, getD-drop, getD-take, take-append-le, drop-append-le, take-take, take-nil}
-use borrow.Author.Tests.{eqb-false, eq-eqb, ne-eqb}
-use Rattle.rules.specs.01-Lists.{_∈_}
+use Rattle.rules.specs.01-Lists.{_∈_, same-bytes}
 use Rattle.rules.specs.07-Picture.{table}
-use Rattle.rules.proofs.01-Lists.{at-place}
+use Rattle.rules.proofs.01-Lists.{same-bytes-is, same-bytes-refl}
 use Rattle.rules.proofs.07-Picture.{zeros-long}
 use Rattle.rows.specs.Rows.{part, rows, filled}
 
@@ -36,28 +34,39 @@ pub part-part : (b : List ℕ) (at n j v : ℕ) → j + v ≤ n → part (part b
 part-part b at n j v h =
     ap (take v) (drop-take j n (drop at b)) ∙ take-take v (n - j) (drop j (drop at b)) (omega arith) ∙ ap (take v) (drop-drop j at b)
 
+-- what stands from the next row on
+row-suc : (w : ℕ) (l : List ℕ) (k : ℕ) → drop (suc k * w) l ≡ drop (k * w) (drop w l)
+row-suc w l k = let e : suc k * w ≡ w + k * w = suc-mul k w ∙ omega arith in rw e (sym (drop-drop (k * w) w l))
+
 module _ {A : Type 0} (w : ℕ) (read : List ℕ → A) where
   pub length-rows : (n : ℕ) (l : List ℕ) → length (rows w read n l) ≡ n
   unfolding rows
   length-rows zero l = refl
   length-rows (suc n) l = ap suc (length-rows n (drop w l))
 
-  row-suc : (l : List ℕ) (k : ℕ) → drop (suc k * w) l ≡ drop (k * w) (drop w l)
-  row-suc l k = let e : suc k * w ≡ w + k * w = suc-mul k w ∙ omega arith in rw e (sym (drop-drop (k * w) w l))
-
   -- the row k
   pub rows-at : (n : ℕ) (l : List ℕ) (k : ℕ) (d : A) → k < n → getD (rows w read n l) k d ≡ read (part l (k * w) w)
   unfolding rows
   rows-at zero l k d h = absurd (omega arith)
   rows-at (suc n) l zero d h = rw (zero-mul w)
-  rows-at (suc n) l (suc k) d h = rows-at n (drop w l) k d (omega arith) ∙ ap (λ (x : List ℕ). read (take w x)) (sym (row-suc l k))
+  rows-at (suc n) l (suc k) d h = rows-at n (drop w l) k d (omega arith) ∙ ap (λ (x : List ℕ). read (take w x)) (sym (row-suc w l k))
 
-  -- a member is some row
-  pub rows-in : (n : ℕ) (l : List ℕ) (d x : A) → x ∈ rows w read n l → (k : ℕ) × (k < n) × (x ≡ read (part l (k * w) w))
-  rows-in n l d x i =
-      let (k, h, e) = at-place d i in
-      let h′ : k < n = omega (arith, length-rows n l) in
-      (k, h′, sym e ∙ rows-at n l k d h′)
+  -- each row is a member, and a member is some row
+  pub rows-there : (n : ℕ) (l : List ℕ) (k : ℕ) → k < n → read (part l (k * w) w) ∈ rows w read n l
+  unfolding rows
+  rows-there zero l k h = absurd (omega arith)
+  rows-there (suc n) l zero h = List·Memᴰ·head (ap (λ (j : ℕ). read (part l j w)) (zero-mul w))
+  rows-there (suc n) l (suc k) h =
+      let there : read (part l (suc k * w) w) ∈ rows w read n (drop w l) = rw (row-suc w l k) (rows-there n (drop w l) k (omega arith)) in
+      List·Memᴰ·tail there
+
+  pub rows-in : (n : ℕ) (l : List ℕ) (x : A) → x ∈ rows w read n l → (k : ℕ) × (k < n) × (x ≡ read (part l (k * w) w))
+  unfolding rows
+  rows-in zero l x i = absurd (List·Memᴰ·not-nil i)
+  rows-in (suc n) l x i =
+      ⊎-elim (λ e. (0, omega arith, e ∙ ap (λ (j : ℕ). read (part l j w)) (sym (zero-mul w))))
+      (λ m. let (k, h, e) = rows-in n (drop w l) x m in (suc k, omega arith, e ∙ ap (λ (r : List ℕ). read (take w r)) (sym (row-suc w l k))))
+      (List·Memᴰ·cases-cons i)
 
   module _ (row : A → List ℕ) (wide : (a : A) → length (row a) ≡ w) where
     -- a table's rows are read back
@@ -89,8 +98,8 @@ module _ {A : Type 0} (w : ℕ) (read : List ℕ → A) where
     table-rows zero (suc m) l h e f z = absurd (omega arith)
     table-rows (suc n) (suc m) l h e f z = one-more (table-rows n m (drop w l) (omega arith)
         (length-drop w l ∙ omega (arith, suc-mul n w))
-        (λ k q. rw (row-suc l k) at (f (suc k) (omega arith)))
-        (sym (row-suc l m) ∙ z ∙ ap (λ (k : ℕ). replicate {A = ℕ} (k * w) 0) same))
+        (λ k q. rw (row-suc w l k) at (f (suc k) (omega arith)))
+        (sym (row-suc w l m) ∙ z ∙ ap (λ (k : ℕ). replicate {A = ℕ} (k * w) 0) same))
       where
         same : suc n - suc m ≡ n - m
         same = omega arith
@@ -110,7 +119,7 @@ module _ {A : Type 0} (w : ℕ) (read : List ℕ → A) where
     table-part (suc n) (x ∷ rs) r zero d h l =
         rw (zero-mul w, append-assoc (row x) (table w row n rs) r) (take-at (row x) (table w row n rs ++ r) w (wide x))
     table-part (suc n) (x ∷ rs) r (suc k) d h l =
-        ap (take w) (row-suc ((row x ++ table w row n rs) ++ r) k
+        ap (take w) (row-suc w ((row x ++ table w row n rs) ++ r) k
         ∙ ap (drop (k * w)) (ap (drop w) (append-assoc (row x) (table w row n rs) r) ∙ drop-at (row x) (table w row n rs ++ r) w (wide x)))
         ∙ table-part n rs r k d (omega arith) (omega arith)
 
@@ -120,7 +129,8 @@ module _ {A : Type 0} (w : ℕ) (read : List ℕ → A) where
     table-rest zero (x ∷ rs) l = absurd (omega arith)
     table-rest (suc n) (x ∷ rs) l =
         let same : suc n - suc (length rs) ≡ n - length rs = omega arith in
-        rw same (row-suc (row x ++ table w row n rs) (length rs) ∙ ap (drop (length rs * w)) (drop-at (row x) (table w row n rs) w (wide x)) ∙ table-rest n rs (omega arith))
+        rw same (row-suc w (row x ++ table w row n rs) (length rs) ∙ ap (drop (length rs * w)) (drop-at (row x) (table w row n rs) w (wide x))
+            ∙ table-rest n rs (omega arith))
 
   -- the first rows look no further than their bytes
   pub rows-append : (m : ℕ) (l r : List ℕ) → m * w ≤ length l → rows w read m (l ++ r) ≡ rows w read m l
@@ -130,66 +140,60 @@ module _ {A : Type 0} (w : ℕ) (read : List ℕ → A) where
       let fits : w ≤ length l = omega (arith, suc-mul m w) in
       let more : m * w ≤ length (drop w l) = rw (length-drop w l) (omega (arith, suc-mul m w)) in
       let here : read (take w (l ++ r)) ≡ read (take w l) = ap read (take-append-le w l r fits) in
-      let rest : rows w read m (drop w (l ++ r)) ≡ rows w read m (drop w l) = ap (rows w read m) (drop-append-le w l r fits) ∙ rows-append m (drop w l) r more in
+      let rest : rows w read m (drop w (l ++ r)) ≡ rows w read m (drop w l) = ap (rows w read m) (drop-append-le w l r fits)
+          ∙ rows-append m (drop w l) r more in
       λ i. here i ∷ rest i
 
 -- ---- how many rows are used
 
-module _ (w f : ℕ) where
-  pub filled-most : (n : ℕ) (l : List ℕ) → filled w f n l ≤ n
+module _ (w : ℕ) where
+  -- row k is all 0
+  abbrev Blank : List ℕ → ℕ → Type 0
+  Blank l k = part l (k * w) w ≡ replicate w 0
+
+  blank-yes : (l : List ℕ) → Blank l 0 → same-bytes (replicate w 0) (take w l) ≡ true
+  blank-yes l e = ap (same-bytes (replicate w 0)) (rw (zero-mul w) at e) ∙ same-bytes-refl (replicate w 0)
+
+  blank-not : (l : List ℕ) → (Blank l 0 → ⊥) → same-bytes (replicate w 0) (take w l) ≡ false
+  blank-not l n = go (same-bytes (replicate w 0) (take w l)) refl
+    where
+      go : (x : Bool) → same-bytes (replicate w 0) (take w l) ≡ x → x ≡ false
+      go true q = absurd (n (rw (zero-mul w) (sym (same-bytes-is (replicate w 0) (take w l) q))))
+      go false q = refl
+
+  blank-suc : (l : List ℕ) (k : ℕ) → part l (suc k * w) w ≡ part (drop w l) (k * w) w
+  blank-suc l k = ap (take w) (row-suc w l k)
+
+  pub filled-most : (n : ℕ) (l : List ℕ) → filled w n l ≤ n
   unfolding filled
   filled-most zero l = omega arith
-  filled-most (suc n) l = go (eqb (getD l f 0) 0) (filled-most n (drop w l))
+  filled-most (suc n) l = go (same-bytes (replicate w 0) (take w l)) (filled-most n (drop w l))
     where
-      go : (b : Bool) → filled w f n (drop w l) ≤ n → cond b 0 (suc (filled w f n (drop w l))) ≤ suc n
+      go : (b : Bool) → filled w n (drop w l) ≤ n → cond b 0 (suc (filled w n (drop w l))) ≤ suc n
       go true h = omega arith
       go false h = omega arith
 
-  byte-suc : (l : List ℕ) (k : ℕ) → getD l (suc k * w + f) 0 ≡ getD (drop w l) (k * w + f) 0
-  byte-suc l k = let e : suc k * w + f ≡ w + (k * w + f) = omega (arith, suc-mul k w) in rw e (sym (getD-drop w l (k * w + f) 0))
-
   -- r is the count, if each row before it is used and the row at it is not
-  pub filled-is : (n : ℕ) (l : List ℕ) (r : ℕ) → r ≤ n → ((k : ℕ) → k < r → getD l (k * w + f) 0 ≡ 0 → ⊥) → (r < n → getD l (r * w + f) 0 ≡ 0) → r ≡ filled w f n l
+  pub filled-is : (n : ℕ) (l : List ℕ) (r : ℕ) → r ≤ n → ((k : ℕ) → k < r → Blank l k → ⊥) → (r < n → Blank l r) → r ≡ filled w n l
   unfolding filled
   filled-is zero l r h u z = omega arith
-  filled-is (suc n) l zero h u z =
-      let e : getD l f 0 ≡ 0 = rw (zero-mul w, zero-add f) at (z (omega arith)) in
-      rw (eq-eqb (getD l f 0) 0 e)
+  filled-is (suc n) l zero h u z = rw (blank-yes l (z (omega arith)))
   filled-is (suc n) l (suc r) h u z =
-      let ne : getD l f 0 ≡ 0 → ⊥ = rw (zero-mul w, zero-add f) at (u 0 (omega arith)) in
-      let ih = filled-is n (drop w l) r (omega arith) (λ k q. rw (byte-suc l k) at (u (suc k) (omega arith))) (λ q. sym (byte-suc l r) ∙ z (omega arith)) in
-      rw (ne-eqb (getD l f 0) 0 ne) (ap suc ih)
+      rw (blank-not l (u 0 (omega arith)))
+      (ap suc (filled-is n (drop w l) r (omega arith) (λ k q e. u (suc k) (omega arith) (blank-suc l k ∙ e)) (λ q. sym (blank-suc l r) ∙ z (omega arith))))
 
-  pub filled-used : (n : ℕ) (l : List ℕ) (k : ℕ) → k < filled w f n l → getD l (k * w + f) 0 ≡ 0 → ⊥
-  unfolding filled
-  filled-used zero l k h e = omega arith
-  filled-used (suc n) l k h e = go (eqb (getD l f 0) 0) refl h (filled-used n (drop w l))
-    where
-      at : (k : ℕ) → k < suc (filled w f n (drop w l)) → getD l (k * w + f) 0 ≡ 0 → (getD l f 0 ≡ 0 → ⊥)
-          → ((k : ℕ) → k < filled w f n (drop w l) → getD (drop w l) (k * w + f) 0 ≡ 0 → ⊥) → ⊥
-      at zero q d ne ih = ne (rw (zero-mul w, zero-add f) at d)
-      at (suc k) q d ne ih = ih k (omega arith) (sym (byte-suc l k) ∙ d)
-
-      go : (b : Bool) → eqb (getD l f 0) 0 ≡ b → k < cond b 0 (suc (filled w f n (drop w l)))
-          → ((k : ℕ) → k < filled w f n (drop w l) → getD (drop w l) (k * w + f) 0 ≡ 0 → ⊥) → ⊥
-      go true q h ih = omega arith
-      go false q h ih = at k h e (eqb-false (getD l f 0) 0 q) ih
-
-  -- a table of rows whose byte f is never 0 has as many used rows
-  pub filled-table : {A : Type 0} (row : A → List ℕ) (wide : (a : A) → length (row a) ≡ w) → f < w → (n : ℕ) (rs : List A) (r : List ℕ)
-      → length rs ≤ n → ((a : A) → a ∈ rs → getD (row a) f 0 ≡ 0 → ⊥) → filled w f n (table w row n rs ++ r) ≡ length rs
+  -- a table of rows that are never all 0 has as many used rows
+  pub filled-table : {A : Type 0} (row : A → List ℕ) (wide : (a : A) → length (row a) ≡ w) (n : ℕ) (rs : List A) (r : List ℕ)
+      → length rs ≤ n → ((a : A) → a ∈ rs → row a ≡ replicate w 0 → ⊥) → filled w n (table w row n rs ++ r) ≡ length rs
   unfolding filled table
-  filled-table row wide fw zero [] r l u = refl
-  filled-table row wide fw zero (x ∷ rs) r l u = absurd (omega arith)
-  filled-table row wide fw (suc n) [] r l u =
-      let e : getD ((replicate w 0 ++ table w row n []) ++ r) f 0 ≡ 0
-      = ap (λ (x : List ℕ). getD x f 0) (append-assoc (replicate w 0) (table w row n []) r)
-      ∙ List·getD-append (replicate w 0) (table w row n [] ++ r) 0 f (omega (arith, zeros-long w)) ∙ getD-replicate w f 0 0 fw in
-      rw (eq-eqb (getD ((replicate w 0 ++ table w row n []) ++ r) f 0) 0 e)
-  filled-table row wide fw (suc n) (x ∷ rs) r l u =
-      let e : getD ((row x ++ table w row n rs) ++ r) f 0 ≡ getD (row x) f 0
-      = ap (λ (y : List ℕ). getD y f 0) (append-assoc (row x) (table w row n rs) r) ∙ List·getD-append (row x) (table w row n rs ++ r) 0 f (omega (arith, wide x)) in
-      let d : drop w ((row x ++ table w row n rs) ++ r) ≡ table w row n rs ++ r
-      = ap (drop w) (append-assoc (row x) (table w row n rs) r) ∙ drop-at (row x) (table w row n rs ++ r) w (wide x) in
-      rw (ne-eqb (getD ((row x ++ table w row n rs) ++ r) f 0) 0 (λ q. u x (List·Memᴰ·head refl) (sym e ∙ q)), d)
-      (ap suc (filled-table row wide fw n rs r (omega arith) (λ a i. u a (List·Memᴰ·tail i))))
+  filled-table row wide zero [] r l u = refl
+  filled-table row wide zero (x ∷ rs) r l u = absurd (omega arith)
+  filled-table row wide (suc n) [] r l u =
+      let e : take w ((replicate w 0 ++ table w row n []) ++ r) ≡ replicate w 0
+      = ap (take w) (append-assoc (replicate w 0) (table w row n []) r) ∙ take-at (replicate w 0) (table w row n [] ++ r) w (zeros-long w) in
+      rw (e, same-bytes-refl (replicate w 0))
+  filled-table row wide (suc n) (x ∷ rs) r l u =
+      let e : (row x ++ table w row n rs) ++ r ≡ row x ++ (table w row n rs ++ r) = append-assoc (row x) (table w row n rs) r in
+      let first : part (row x ++ (table w row n rs ++ r)) (0 * w) w ≡ row x = rw (zero-mul w) (take-at (row x) (table w row n rs ++ r) w (wide x)) in
+      rw (e, blank-not (row x ++ (table w row n rs ++ r)) (λ q. u x (List·Memᴰ·head refl) (sym first ∙ q)), drop-at (row x) (table w row n rs ++ r) w (wide x))
+      (ap suc (filled-table row wide n rs r (omega arith) (λ a i. u a (List·Memᴰ·tail i))))

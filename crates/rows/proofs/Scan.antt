@@ -7,15 +7,15 @@ use mathlib.Core.Path.{_≡_, refl, sym, ap, _∙_, subst}
 use mathlib.Core.List.{List, _∷_}
 use mathlib.Core.Bool.{Bool, true, false, _&&_, _||_, true≢false}
 use lib.Dec.{ltb, eqb}
-use lib.ListN.{length, getD, drop, replicate, length-take, length-drop}
-use lib.Seq.{drop-cons, getD-drop}
+use lib.ListN.{length, getD, take, drop, replicate, getD-replicate, length-take, length-drop}
+use lib.Seq.{drop-cons, drop-drop}
 use borrow.Author.Tests.{ltb-true, ltb-false, lt-ltb, le-ltb, eq-eqb, ne-eqb}
 use Rattle.rules.specs.01-Lists.{same-bytes, bytes-before}
 use Rattle.rules.proofs.01-Lists.{same-bytes-is, same-bytes-refl, before-transitive, before-first}
 use Rattle.name_fields.specs.Field.{blank-field}
 use Rattle.rows.specs.Rows.{part, Rising, Filled, Counted, Level, Split, filled}
 use Rattle.rows.specs.Decides.{Decides}
-use Rattle.rows.proofs.Rows.{filled-is}
+use Rattle.rows.proofs.Rows.{part-byte, filled-is}
 use Rattle.rows.proofs.Decides.{decides-iff, decides-test}
 
 pub part-cons : (b : List ℕ) (at n m : ℕ) → at < length b → n ≡ suc m → part b at n ≡ getD b at 0 ∷ part b (at + 1) m
@@ -91,25 +91,29 @@ module _ (b : List ℕ) (start stride w : ℕ) where
           rw (← here, ← next) n
 
   -- two rows that do not rise
-  pub rising-not : (i at n : ℕ) → at ≡ start + i * stride → suc i < n → bytes-before (part b at w) (part b (at + stride) w) ≡ false → Rising b start stride w n → ⊥
+  pub rising-not : (i at n : ℕ) → at ≡ start + i * stride → suc i < n → bytes-before (part b at w) (part b (at + stride) w) ≡ false
+      → Rising b start stride w n → ⊥
   rising-not i at n e h f r =
       let next : at + stride ≡ start + suc i * stride = ap (λ (k : ℕ). k + stride) e ∙ omega (arith, suc-mul i stride) in
       true≢false (sym (rw (← e, ← next) at (r i h)) ∙ f)
 
 -- ---- counts and the room behind rows
 
-pub counted : (b : List ℕ) (first at f w n r : ℕ) → first ≡ at + f → Filled b first w n r → Counted (filled w f n (drop at b)) n r
-counted b first at f w n r e h = record {
-  is = filled-is w f n (drop at b) r (h .fits) (λ k u z. h .used k u (there k ∙ z)) (λ u. sym (there r) ∙ h .free u);
+-- a row whose first byte is not 0
+pub first-used : (b : List ℕ) (at w : ℕ) → 0 < w → (getD b at 0 ≡ 0 → ⊥) → part b at w ≡ replicate w 0 → ⊥
+first-used b at w h n e = n (rw (add-zero at) at (sym (part-byte b at w 0 h) ∙ ap (λ (l : List ℕ). getD l 0 0) e ∙ getD-replicate w 0 0 0 h))
+
+pub counted : (b : List ℕ) (start w n r : ℕ) → Filled b start w n r → Counted (filled w n (drop start b)) n r
+counted b start w n r h = record {
+  is = filled-is w n (drop start b) r (h .fits) (λ k u z. h .used k u (there k ∙ z)) (λ u. sym (there r) ∙ h .free u);
   fits = h .fits;
 }
   where
-    there : (k : ℕ) → getD b (first + k * w) 0 ≡ getD (drop at b) (k * w + f) 0
-    there k =
-        let same : first + k * w ≡ at + (k * w + f) = omega arith in
-        ap (λ (i : ℕ). getD b i 0) same ∙ sym (getD-drop at b (k * w + f) 0)
+    there : (k : ℕ) → part b (start + k * w) w ≡ part (drop start b) (k * w) w
+    there k = ap (take w) (sym (drop-drop (k * w) start b))
 
-pub room-zero : (b : List ℕ) (from to k : ℕ) (r : Bool) → to - from ≡ k → Decides (part b from (to - from) ≡ replicate (to - from) 0) r → Decides (part b from k ≡ replicate k 0) r
+pub room-zero : (b : List ℕ) (from to k : ℕ) (r : Bool) → to - from ≡ k → Decides (part b from (to - from) ≡ replicate (to - from) 0) r
+    → Decides (part b from k ≡ replicate k 0) r
 room-zero b from to k r e d = subst (λ (m : ℕ). Decides (part b from m ≡ replicate m 0) r) e d
 
 -- rows that rise one by one rise over any distance
@@ -127,7 +131,8 @@ rising-far b start stride w n r i (suc j) h l = go (ltb i j) refl (λ q. rising-
 
 -- ---- where the rows of one SDS end
 
-pub rising-level : (b : List ℕ) (start stride w n : ℕ) → ((i : ℕ) → i < n → start + i * stride < length b) → Rising b start stride (suc w) n → Level b start stride n
+pub rising-level : (b : List ℕ) (start stride w n : ℕ) → ((i : ℕ) → i < n → start + i * stride < length b) → Rising b start stride (suc w) n
+    → Level b start stride n
 rising-level b start stride w n l r i j h k =
     let x = start + i * stride in
     let y = start + j * stride in

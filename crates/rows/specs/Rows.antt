@@ -3,34 +3,37 @@ use Prim.Native.Nat.{ℕ, zero, suc, _+_, _*_, _≤_, _<_}
 use mathlib.Core.Path.{_≡_}
 use mathlib.Core.List.{List, [], _∷_}
 use mathlib.Core.Bool.{true, cond}
-use lib.Dec.{eqb}
-use lib.ListN.{getD, take, drop}
-use Rattle.rules.specs.01-Lists.{bytes-before}
+use lib.ListN.{getD, take, drop, replicate}
+use Rattle.rules.specs.01-Lists.{same-bytes, bytes-before}
 
 -- w bytes from `at` on
 abbrev pub part : List ℕ → ℕ → ℕ → List ℕ
 part b at w = take w (drop at b)
+
+-- row i of the rows of width w that start at `start`
+abbrev pub row-at : List ℕ → ℕ → ℕ → ℕ → List ℕ
+row-at b start w i = part b (start + i * w) w
 
 -- what the first n rows of width w show
 unfoldable pub rows : {A : Type 0} → ℕ → (List ℕ → A) → ℕ → List ℕ → List A
 rows w read zero l = []
 rows w read (suc n) l = read (take w l) ∷ rows w read n (drop w l)
 
--- how many of the first n rows of width w stand before the first whose byte f is 0
-unfoldable pub filled : ℕ → ℕ → ℕ → List ℕ → ℕ
-filled w f zero l = 0
-filled w f (suc n) l = cond (eqb (getD l f 0) 0) 0 (suc (filled w f n (drop w l)))
+-- a row is unused exactly when it is all 0: how many of the first n rows of width w stand before the first unused one
+unfoldable pub filled : ℕ → ℕ → List ℕ → ℕ
+filled w zero l = 0
+filled w (suc n) l = cond (same-bytes (replicate w 0) (take w l)) 0 (suc (filled w n (drop w l)))
 
 -- r is the byte that stands at `at`
 pub record Reads (b : List ℕ) (at r : ℕ) : Type 0 where
   pub is : r ≡ getD b at 0
   pub small : r < 256
 
--- r of n rows stand before the first whose byte asked about is 0; that of row 0 stands at `first`
-pub record Filled (b : List ℕ) (first width n r : ℕ) : Type 0 where
+-- r of n rows of width w stand before the first unused one
+pub record Filled (b : List ℕ) (start w n r : ℕ) : Type 0 where
   pub fits : r ≤ n
-  pub used : (k : ℕ) → k < r → getD b (first + k * width) 0 ≡ 0 → ⊥
-  pub free : r < n → getD b (first + r * width) 0 ≡ 0
+  pub used : (k : ℕ) → k < r → row-at b start w k ≡ replicate w 0 → ⊥
+  pub free : r < n → row-at b start w r ≡ replicate w 0
 
 -- r is a count, and at most what there is room for
 pub record Counted (count most r : ℕ) : Type 0 where

@@ -16,7 +16,8 @@ pub fn byte(base: &[u8], at: usize) -> usize
     wide(base[at])
 }
 
-fn wide(x: u8) -> usize
+// A byte as a number.
+pub fn wide(x: u8) -> usize
     ensures { λ r. ⌜ (r ≡ x) × (r < 256) ⌝ }
 {
     x as usize

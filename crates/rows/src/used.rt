@@ -5,22 +5,33 @@ ghost use lib.ListN.{length, replicate};
 ghost use Rattle.rows.specs.Rows.{part, Filled};
 ghost use Rattle.rows.specs.Decides.{Decides};
 
-// How many of n rows stand before the first whose byte asked about is 0.
-pub fn filled(base: &[u8], first: usize, width: usize, n: usize) -> usize
-    requires { ⌜ ((k : ℕ) → k < n → first + k * width < length (now base)) ⌝ }
-    requires { ⌜ (first + n * width < 65536) × (width < 65536) ⌝ }
-    ensures { λ r. ⌜ Filled (now (base .entry)) first width n r ⌝ }
+// How many of n rows stand before the first unused one.
+pub fn filled(base: &[u8], start: usize, width: usize, n: usize) -> usize
+    requires { ⌜ ((k : ℕ) → k < n → start + k * width + width ≤ length (now base)) ⌝ }
+    requires { ⌜ (0 < width) × (start + n * width < 65536) ⌝ }
+    ensures { λ r. ⌜ Filled (now (base .entry)) start width n r ⌝ }
 {
-    let mut at = first;
+    let mut at = start;
     let mut k = 0;
     while k < n {
-        if base[at] == 0 {
+        if is_unused(base, at, width) {
             return k;
         }
         at += width;
         k += 1;
     }
     k
+}
+
+// Whether the row at `at` is all 0. Its first byte is looked at first: of all rows that are used one begins with 0, that of SDS 0.
+fn is_unused(base: &[u8], at: usize, width: usize) -> bool
+    requires { ⌜ (0 < width) × (at + width ≤ length (now base)) ⌝ }
+    ensures { λ r. ⌜ Decides (part (now (base .entry)) at width ≡ replicate width 0) r ⌝ }
+{
+    if base[at] != 0 {
+        return false;
+    }
+    is_zero(base, at, at + width)
 }
 
 pub fn is_zero(base: &[u8], from: usize, to: usize) -> bool

@@ -51,6 +51,14 @@ module _ {A : Type 0} where
   pub none-at : (p : A → Bool) {x : A} {l : List A} → any p l ≡ false → x ∈ l → p x ≡ false
   none-at p {x} e i = fails (p x) (λ h. true≢false (sym (any-at p i h) ∙ e))
 
+-- a test of each number, place by place
+module _ (p : ℕ → Bool) (l : List ℕ) where
+  pub any-there : (i : ℕ) → i < length l → p (getD l i 0) ≡ true → any p l ≡ true
+  any-there i h e = any-at p (place-in 0 l i h) e
+
+  pub any-nowhere : ((i : ℕ) → i < length l → p (getD l i 0) ≡ false) → any p l ≡ false
+  any-nowhere none = any-none p l (λ x m. let (i, h, e) = at-place 0 m in ap p (sym e) ∙ none i h)
+
 pub map-in : {A B : Type 0} (f : A → B) (l : List A) {y : B} → y ∈ map f l → (x : A) × (x ∈ l) × (y ≡ f x)
 map-in f [] i = absurd (List·Memᴰ·not-nil i)
 map-in f (x ∷ l) i =

@@ -1,19 +1,23 @@
--- A fresh schema is good. Assumes nothing.
+-- A fresh schema is good, and in SDS 0 there is nothing but its one presence. Assumes nothing.
 use Prim.Native.Nat.{ℕ, zero, suc, _≤_}
 use native.Mathlib.Omega.{arith}
 use mathlib.Core.Path.{_≡_, refl, sym, ap, _∙_}
 use mathlib.Core.List.{List, [], List·Memᴰ·not-nil, List·Memᴰ·eq-of-singleton}
 use mathlib.Core.List.List·Memᴰ.{List·Memᴰ·head}
-use mathlib.Core.Bool.{true, false, false≢true}
-use lib.Dec.{ltb, lit≤}
+use mathlib.Core.Bool.{Bool, true, false, false≢true}
+use lib.Dec.{ltb, eqb, lit≤}
 use lib.ListN.{length, getD, replicate}
 use Rattle.rules.specs.01-Lists.{_∈_, any, all, rising}
 use Rattle.rules.specs.03-Names.{Name, letter, letter-or-digit, well-formed}
-use Rattle.rules.specs.04-Schema.{Kind, Presence, fresh, system-presence, used-sds, kind-of, is-used, parents, present}
+use borrow.Author.Tests.{eqb-true}
+use Rattle.rules.specs.04-Schema.{Schema, Kind, Presence, fresh, system-presence, used-sds, kind-of, is-used, parents}
+use Rattle.rules.specs.04-Schema.{holds-type, present}
 use Rattle.rules.specs.04-Schema.Kind.{unused, object, attribute, paired}
 use Rattle.rules.specs.05-Descent.{Parent, Descends}
 use Rattle.rules.specs.05-Descent.Descends.{by-parent, by-step}
 use Rattle.rules.specs.06-Good.{Good}
+use Rattle.rules.proofs.Bools.{and-both}
+use Rattle.rules.proofs.01-Lists.{any-where}
 
 rest-alike : {A : Type 0} (a : A) (n i : ℕ) → getD (replicate n a) i a ≡ a
 rest-alike a zero i = refl
@@ -119,3 +123,16 @@ fresh-good = record {
 
     up : (t : ℕ) (ps : List ℕ) → kind-of fresh t ≡ object ps → rising ltb ps ≡ true
     up t ps e = rw (none t ps e) refl
+
+-- ---- SDS 0
+
+-- SDS 0 holds type 0 alone: no type of a kind that type 0 is not is present there, so it has no application and no end
+pub system-lacks : (s : Schema) → kind-of s 0 ≡ object [] → ((p : Presence) → p ∈ s .presences → p .sds ≡ 0 → p ≡ system-presence)
+    → (test : Kind → Bool) → test (object []) ≡ false → (d t : ℕ) → test (kind-of s t) ≡ true → present s d t ≡ true → d ≡ 0 → ⊥
+unfolding present
+system-lacks s root alone test fails d t e held z =
+    let (p, i, it) = any-where (holds-type d t) (s .presences) held in
+    let (in-d, of-t) = and-both (eqb (p .sds) d) (eqb (p .type) t) it in
+    let system : p ≡ system-presence = alone p i (eqb-true (p .sds) d in-d ∙ z) in
+    let first : t ≡ 0 = sym (eqb-true (p .type) t of-t) ∙ ap (λ (q : Presence). q .type) system in
+    false≢true (sym fails ∙ sym (ap test (ap (kind-of s) first ∙ root)) ∙ e)

@@ -19,7 +19,7 @@ use Rattle.rules.specs.04-Schema.Side.{origin, destination}
 use Rattle.rules.specs.06-Good.{Good}
 use Rattle.rules.specs.07-Picture.{pad, sds-width, sds-row, type-width, type-row, presence-width, presence-row, application-width}
 use Rattle.rules.specs.07-Picture.{application-row, end-width, end-row, table, sds-table, type-table, presence-table}
-use Rattle.rules.specs.Read.{strip, read-kind, read-presence, read-application, read-side, read-end}
+use Rattle.rules.specs.Read.{name-offset, strip, read-kind, read-presence, read-application, read-side, read-end}
 use Rattle.rules.specs.07-Picture.{application-table, end-table, picture, base-length, name-start}
 use Rattle.rules.proofs.01-Lists.{at-place, place-in}
 use Rattle.rules.proofs.03-Names.{formed-long, formed-no-zero}
@@ -223,20 +223,21 @@ module _ {s : Schema} (good : Good s) where
   fitting designation i = fits-designation
   fitting (paired c r) i = let (t, h, e) = at-place unused i in fits-paired (good .categories t c r e)
 
-  presence-shown : (p : Presence) → p ∈ s .presences → presence-row p ≡ replicate presence-width 0 → ⊥
-  unfolding read-presence strip well-formed
-  presence-shown p i e =
-      let named = good .presence-named p i in
-      let none : p .name ≡ [] = sym (ap (λ (q : Presence). q .name) (presence-back p named)) ∙ ap (λ (r : List ℕ). (read-presence r) .name) e in
-      false≢true (rw none at named)
+  -- no row is all zero: what is in SDS 0 is its one presence, which has a name
+  pub presence-used : (p : Presence) → p ∈ s .presences → presence-row p ≡ replicate presence-width 0 → ⊥
+  unfolding presence-row pad
+  presence-used p i e =
+      let system : p ≡ system-presence = good .system-alone p i (ap (λ (r : List ℕ). getD r 0 0) e) in
+      let first : _≡_ {A = ℕ} 111 0 = ap (λ (r : List ℕ). getD r name-offset 0) (sym (ap presence-row system) ∙ e) in
+      omega arith
 
-  application-shown : (x : Application) → x ∈ s .applications → application-row x ≡ replicate application-width 0 → ⊥
+  pub application-used : (x : Application) → x ∈ s .applications → application-row x ≡ replicate application-width 0 → ⊥
   unfolding application-row
-  application-shown x i e = good .system-no-application x i (ap (λ (r : List ℕ). getD r 0 0) e)
+  application-used x i e = good .system-no-application x i (ap (λ (r : List ℕ). getD r 0 0) e)
 
-  end-shown : (x : End) → x ∈ s .ends → end-row x ≡ replicate end-width 0 → ⊥
+  pub end-used : (x : End) → x ∈ s .ends → end-row x ≡ replicate end-width 0 → ⊥
   unfolding end-row
-  end-shown x i e = good .system-no-end x i (ap (λ (r : List ℕ). getD r 0 0) e)
+  end-used x i e = good .system-no-end x i (ap (λ (r : List ℕ). getD r 0 0) e)
 
 module _ {s s′ : Schema} (good : Good s) (good′ : Good s′) (e : picture s ≡ picture s′) where
   -- the five tables
@@ -265,16 +266,16 @@ module _ {s s′ : Schema} (good : Good s) (good′ : Good s′) (e : picture s 
       let presences : s .presences ≡ s′ .presences
       = table-same presence-width presence-row wide-presence 512 (s .presences) (s′ .presences)
       (table-count presence-width presence-row wide-presence 512 (s .presences) (s′ .presences) (good .presence-room) (good′ .presence-room)
-      (presence-shown good) (presence-shown good′) ec) (good .presence-room)
+      (presence-used good) (presence-used good′) ec) (good .presence-room)
       (λ a b i j. apart presence-row read-presence (presence-back a (good .presence-named a i)) (presence-back b (good′ .presence-named b j))) ec in
       let applications : s .applications ≡ s′ .applications
       = table-same application-width application-row wide-application 256 (s .applications) (s′ .applications)
       (table-count application-width application-row wide-application 256 (s .applications) (s′ .applications) (good .application-room)
-      (good′ .application-room) (application-shown good) (application-shown good′) ed) (good .application-room)
+      (good′ .application-room) (application-used good) (application-used good′) ed) (good .application-room)
       (λ a b i j. apart application-row read-application (application-back a) (application-back b)) ed in
       let ends : s .ends ≡ s′ .ends
       = table-same end-width end-row wide-end 512 (s .ends) (s′ .ends)
-      (table-count end-width end-row wide-end 512 (s .ends) (s′ .ends) (good .end-room) (good′ .end-room) (end-shown good) (end-shown good′) ee)
+      (table-count end-width end-row wide-end 512 (s .ends) (s′ .ends) (good .end-room) (good′ .end-room) (end-used good) (end-used good′) ee)
       (good .end-room)
       (λ a b i j. apart end-row read-end (end-back a) (end-back b)) ee in
       λ i. record { sdss = sdss i; types = types i; presences = presences i; applications = applications i; ends = ends i }
@@ -291,7 +292,8 @@ module _ {s : Schema} (good : Good s) where
       let fits = formed-long (p .name) (good .presence-named p (place-in system-presence (s .presences) k h)) .1 in
       let rest = application-table s ++ end-table s in
       let T = table presence-width presence-row (512 - suc k) (drop (suc k) (s .presences)) in
-      let along : k * presence-width ≤ length (presence-table s) = omega (arith, length-table presence-width presence-row wide-presence 512 (s .presences), good .presence-room) in
+      let along : k * presence-width ≤ length (presence-table s) = omega
+          (arith, length-table presence-width presence-row wide-presence 512 (s .presences), good .presence-room) in
       let row : drop (k * presence-width) (presence-table s ++ rest) ≡ (presence-row p ++ T) ++ rest
       = lib.Seq.drop-append-le (k * presence-width) (presence-table s) rest along
       ∙ ap (λ (l : List ℕ). l ++ rest) (table-row presence-width presence-row wide-presence 512 (s .presences) k system-presence h (good .presence-room)) in

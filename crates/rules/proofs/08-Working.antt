@@ -1,12 +1,13 @@
 -- Under a working schema of a good schema a list has no hole: with a type all its ancestors are visible. Assumes nothing.
 use Prim.Native.Nat.{ℕ}
-use mathlib.Core.Path.{_≡_}
-use mathlib.Core.List.{List}
+use mathlib.Core.Path.{_≡_, refl, sym, _∙_}
+use mathlib.Core.List.{List, []}
 use mathlib.Core.Bool.{Bool, true, _&&_}
 use lib.Dec.{eqb}
-use borrow.Author.Tests.{eqb-true}
-use Rattle.rules.specs.01-Lists.{_∈_}
-use Rattle.rules.specs.04-Schema.{Schema, kind-of, is-used, holds-type, present}
+use borrow.Author.Tests.{eqb-true, eq-eqb}
+use Rattle.rules.specs.01-Lists.{_∈_, first}
+use Rattle.rules.specs.03-Names.{Name, same-name}
+use Rattle.rules.specs.04-Schema.{Schema, Presence, kind-of, is-used, holds-type, holds-name, present, bears, type-named}
 use Rattle.rules.specs.05-Descent.{Descends}
 use Rattle.rules.specs.05-Descent.Descends.{by-parent, by-step}
 use Rattle.rules.specs.06-Good.{Good}
@@ -14,6 +15,23 @@ use Rattle.rules.specs.08-Working.{listed-sdss, visible, shown}
 use Rattle.rules.proofs.Bools.{and-both, and-of}
 use Rattle.rules.proofs.01-Lists.{any-at, any-where}
 use Rattle.rules.proofs.05-Descent.{used-below, members-in, members-of}
+use Rattle.rules.proofs.Edits.{first-in}
+
+-- the type that bears a name is there under it
+pub bearer : (s : Schema) (d : ℕ) (n : Name) → bears s d n ≡ true
+    → (p : Presence) × (p ∈ s .presences) × (p .sds ≡ d) × (same-name (p .name) n ≡ true) × (p .type ≡ type-named s d n)
+unfolding bears type-named
+bearer s d n e =
+    let p = first (holds-name d n) (record { sds = 0; name = []; type = 0 }) (s .presences) in
+    let (i, h) = first-in (holds-name d n) (record { sds = 0; name = []; type = 0 }) (s .presences) e in
+    let (x, y) = and-both (eqb (p .sds) d) (same-name (p .name) n) h in
+    (p, i, eqb-true (p .sds) d x, y, refl)
+
+pub named-present : (s : Schema) (d : ℕ) {t : ℕ} (n : Name) → bears s d n ≡ true → t ≡ type-named s d n → present s d t ≡ true
+unfolding present
+named-present s d {t} n e q =
+    let (p, i, at, same, type) = bearer s d n e in
+    any-at (holds-type d t) i (and-of (eqb (p .sds) d) (eqb (p .type) t) (eq-eqb (p .sds) d at) (eq-eqb (p .type) t (type ∙ sym q)))
 
 module _ {s : Schema} (good : Good s) where
   -- what is present is a type

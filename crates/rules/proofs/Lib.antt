@@ -4,9 +4,11 @@ pub mod Edits
 pub mod 03-Names
 pub mod 05-Descent
 pub mod 06-Good
+pub mod Parts
 pub mod 07-Picture
 pub mod 08-Working
 pub mod 09-Refusals
+pub mod NameTests
 pub mod 11-Asks
 pub mod 12-Contracts
 pub mod 15-Cases

@@ -16,7 +16,24 @@
 --   14 Run        the run program
 --   15 Cases      the marked cases
 --
--- A comment in quotation marks is 01's own sentence. Nothing here is proved; the laws stand in proofs/, in files named alike.
+-- A comment in quotation marks is 01's own sentence. Nothing here is proved; the laws stand in proofs/, in files named alike. The
+-- files without a number, Read and Parts, are the code's and the proofs': no numbered file uses them.
+--
+-- How to read a definition, for a reader of Ada or C:
+--
+--   f : A → B → C       f is a function of an A and a B that gives a C; `f a b` is its call. The lines below it, tried from the top,
+--                       are its body: `f [] = ..` where the list is empty, `f (x ∷ xs) = ..` where x is its head and xs the rest
+--   ℕ  Bool  List A     numbers from 0 on; false and true; lists. `[]` is the empty list, `x ∷ xs` x in front of xs, `xs ++ ys` one
+--                       behind the other, `suc n` is n + 1, and `limits .types` a field of a record
+--   λ k. ..             a function without a name, of k
+--   cond c a b          a where c is true, else b. `eqb`, `ltb`, `leb` test x = y, x < y, x ≤ y; `&&`, `||`, `not` are as everywhere
+--   getD xs i d         the element at place i, from 0 on; d where there is none. `set xs i a` is xs with a there
+--   a ≡ b   A × B   ⊥   the statements that a is b, that A and B both hold, and the one that nothing proves: `A → ⊥` says that A fails.
+--                       `p .0` and `p .1` are the halves of a pair. `(n : ℕ) → ..` says it for every n, `(n : ℕ) × ..` for some n
+--   x ∈ xs              x stands in the list
+--   record, data        a record of named fields; a choice between the shapes that are listed
+--   abbrev, unfoldable, pub    how the checker treats a name; they say nothing about its meaning. A name in braces, `{A : Type 0}`,
+--                       is found by the checker and not written at a call
 use Prim.Native.Nat.{ℕ, zero, suc}
 use Prim.Native.Char.{code}
 use Prim.Native.String as Text

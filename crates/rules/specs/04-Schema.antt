@@ -82,33 +82,25 @@ used-sds s d = not (blank (sds-name s d))
 abbrev pub kind-of : Schema → ℕ → Kind
 kind-of s t = getD (s .types) t unused
 
+-- 0 unused, 1 object, 2 attribute, 3 link: a code for each kind, which a row of the base holds too
+abbrev pub kind-code : Kind → ℕ
+kind-code unused = 0
+kind-code (object ps) = 1
+kind-code (attribute v) = 2
+kind-code designation = 3
+kind-code (paired c r) = 3
+
 abbrev pub is-used : Kind → Bool
-is-used unused = false
-is-used (object ps) = true
-is-used (attribute v) = true
-is-used designation = true
-is-used (paired c r) = true
+is-used k = ltb 0 (kind-code k)
 
 abbrev pub is-object : Kind → Bool
-is-object unused = false
-is-object (object ps) = true
-is-object (attribute v) = false
-is-object designation = false
-is-object (paired c r) = false
+is-object k = eqb (kind-code k) 1
 
 abbrev pub is-attribute : Kind → Bool
-is-attribute unused = false
-is-attribute (object ps) = false
-is-attribute (attribute v) = true
-is-attribute designation = false
-is-attribute (paired c r) = false
+is-attribute k = eqb (kind-code k) 2
 
 abbrev pub is-link : Kind → Bool
-is-link unused = false
-is-link (object ps) = false
-is-link (attribute v) = false
-is-link designation = true
-is-link (paired c r) = true
+is-link k = eqb (kind-code k) 3
 
 abbrev pub parents-in : Kind → List ℕ
 parents-in unused = []

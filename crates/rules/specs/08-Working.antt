@@ -48,6 +48,19 @@ object-scans s w t =
     ∷ (λ k. any (λ a. end-in s w k destination a) (upward s t))
     ∷ []
 
+-- the codes that other calls name
+abbrev pub descendant : ℕ
+descendant = 1
+
+abbrev pub ancestor : ℕ
+ancestor = 3
+
+abbrev pub attribute-all : ℕ
+attribute-all = 5
+
+abbrev pub link-origin-all : ℕ
+link-origin-all = 7
+
 -- "codes 0 to 4: origin, origin-all, destination, destination-all, applied attributes. "All" adds descendants of the object types."
 abbrev pub link-scans : Schema → List ℕ → ℕ → List (ℕ → Bool)
 link-scans s w t =

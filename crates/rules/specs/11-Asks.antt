@@ -9,7 +9,7 @@ use Rattle.rules.specs.03-Names.{Name}
 use Rattle.rules.specs.04-Schema.{Schema, bears, holds-type, type-named, local-name}
 use Rattle.rules.specs.05-Descent.{descends, depth, members}
 use Rattle.rules.specs.07-Picture.{name-start}
-use Rattle.rules.specs.08-Working.{listed-sdss, visible, shown, object-scans, link-scans}
+use Rattle.rules.specs.08-Working.{listed-sdss, visible, shown, object-scans, link-scans, ancestor, attribute-all, link-origin-all}
 use Rattle.rules.specs.09-Refusals.{Outcome, Refusals, _when_, verdict, unknown-sds, malformed, unknown-object-scan, unknown-link-scan}
 use Rattle.rules.specs.09-Refusals.{no-name-listed, not-visible, not-present, no-object, no-link, short-output}
 use Rattle.rules.specs.09-Refusals.Outcome.{done}
@@ -56,13 +56,13 @@ scan-link w t code room s =
 -- ---- 11 "Profile of an object type: ancestors, then attribute-all, then link-origin-all, each list put down straight after the last"
 
 abbrev pub profile-ancestors : List ℕ → ℕ → Schema → List ℕ
-profile-ancestors w t s = object-scan-list w t 3 s
+profile-ancestors w t s = object-scan-list w t ancestor s
 
 abbrev pub profile-attributes : List ℕ → ℕ → Schema → List ℕ
-profile-attributes w t s = object-scan-list w t 5 s
+profile-attributes w t s = object-scan-list w t attribute-all s
 
 abbrev pub profile-links : List ℕ → ℕ → Schema → List ℕ
-profile-links w t s = object-scan-list w t 7 s
+profile-links w t s = object-scan-list w t link-origin-all s
 
 unfoldable pub profile-list : List ℕ → ℕ → Schema → List ℕ
 profile-list w t s = profile-ancestors w t s ++ (profile-attributes w t s ++ profile-links w t s)

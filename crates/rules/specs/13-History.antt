@@ -12,7 +12,7 @@ use Rattle.rules.specs.04-Schema.{Schema, fresh}
 use Rattle.rules.specs.05-Descent.{Descends}
 use Rattle.rules.specs.06-Good.{Good}
 use Rattle.rules.specs.07-Picture.{picture}
-use Rattle.rules.specs.08-Working.{visible}
+use Rattle.rules.specs.08-Working.{visible, descendant}
 use Rattle.rules.specs.09-Refusals.{Outcome}
 use Rattle.rules.specs.09-Refusals.Outcome.{refused, done}
 use Rattle.rules.specs.10-Changes as Changes
@@ -113,8 +113,8 @@ pub data Runs : List ℕ → List Call → List ℕ → Type 0 where
 
 -- "the list of descendants holds every visible descendant once": it has these and no others, and rises
 pub record Whole-list (s : Schema) (w : List ℕ) (t : ℕ) : Type 0 where
-  pub exact : (k : ℕ) → (k ∈ Asks.object-scan-list w t 1 s) ↔ ((visible s w k ≡ true) × Descends s k t)
-  pub once : rising ltb (Asks.object-scan-list w t 1 s) ≡ true
+  pub exact : (k : ℕ) → (k ∈ Asks.object-scan-list w t descendant s) ↔ ((visible s w k ≡ true) × Descends s k t)
+  pub once : rising ltb (Asks.object-scan-list w t descendant s) ≡ true
 
 -- "From a fresh base, any sequence of calls gives the base that the rules give, and that base is good"
 pub record Demand-3 : Type 0 where

@@ -9,6 +9,7 @@ use Rattle.rules.specs.01-Lists.{bytes, same-bytes, any, numbers}
 use Rattle.rules.specs.02-Limits.{limits}
 use Rattle.rules.specs.03-Names.{Name, blank, same-name, parted}
 use Rattle.rules.specs.04-Schema.{Schema, sds-name, used-sds}
+use Rattle.rules.specs.08-Working.{descendant}
 use Rattle.rules.specs.09-Refusals.{Outcome}
 use Rattle.rules.specs.09-Refusals.Outcome.{refused, done}
 use Rattle.rules.specs.10-Changes.{new-sds, import, new-object, remove-type}
@@ -95,7 +96,7 @@ about-type (done t two three list) question = question t
 unfoldable pub obey-desc : List Name → Schema → Reply
 obey-desc ws s =
     let listed : List ℕ = sds-word ws 1 s ∷ [] in
-    asked (λ one list. one ∷ list) s (about-type (find listed (word ws 2) s) (λ t. scan-object listed t 1 (limits .types) s))
+    asked (λ one list. one ∷ list) s (about-type (find listed (word ws 2) s) (λ t. scan-object listed t descendant (limits .types) s))
 
 -- "for `depth` the depth"
 unfoldable pub obey-depth : List Name → Schema → Reply

@@ -15,3 +15,4 @@ pub mod 13-History
 pub mod 14-Run
 pub mod 15-Cases
 pub mod Read
+pub mod Parts

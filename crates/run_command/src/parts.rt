@@ -4,10 +4,10 @@ ghost use mathlib.Core.Path.{_≡_};
 ghost use mathlib.Core.List.{[], _∷_};
 ghost use Prim.Native.Nat.{_≤_};
 ghost use lib.ListN.{length, drop};
+ghost use Rattle.rules.specs.02-Limits.{limits};
 ghost use Rattle.rules.specs.03-Names.{names-in};
 ghost use Rattle.rules.specs.07-Picture.{base-length};
 ghost use Rattle.rules.specs.14-Run.{sds-word, joined};
-ghost use Rattle.rules.specs.14-Run.{word as Run·word};
 ghost use Rattle.base.specs.Back.{schema-of};
 
 pub fn word(line: &[u8], i: usize) -> &[u8]
@@ -38,7 +38,7 @@ pub fn sds(base: &[u8], line: &[u8], i: usize) -> usize
 
 // The working schema of one SDS.
 pub fn alone(d: usize) -> [u8; 1]
-    requires { ⌜ d ≤ 16 ⌝ }
+    requires { ⌜ d ≤ limits .sdss ⌝ }
     ensures { λ r. ⌜ r ≡ d ∷ [] ⌝ }
 {
     let mut schema: [u8; 1] = [0; 1];

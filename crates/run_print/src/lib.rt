@@ -1,6 +1,5 @@
 // What the run program prints: numbers in decimal, one after the other.
 ghost use Prim.Native.Nat.{_+_, _*_, _≤_, _<_};
-ghost use mathlib.Core.Path.{_≡_};
 ghost use mathlib.Core.List.{[], _∷_};
 ghost use lib.ListN.{length};
 ghost use Rattle.rules.specs.01-Lists.{bytes};
@@ -27,12 +26,6 @@ pub fn next_number(out: &mut [u8], at: usize, n: usize) -> usize
     number(out, at + 1, n)
 }
 
-fn wide(x: u8) -> usize
-    ensures { λ r. ⌜ (r ≡ x) × (r < 256) ⌝ }
-{
-    x as usize
-}
-
 // The first `count` entries of a list, each of two bytes, low byte first.
 pub fn numbers(out: &mut [u8], at: usize, list: &[u8], count: usize) -> usize
     requires { ⌜ (at + count * 21 ≤ length (now out)) × (count * 2 ≤ length (now list)) ⌝ }
@@ -41,8 +34,8 @@ pub fn numbers(out: &mut [u8], at: usize, list: &[u8], count: usize) -> usize
     let mut end = at;
     let mut i = 0;
     while i < count {
-        let low = wide(list[i * 2]);
-        let high = wide(list[i * 2 + 1]);
+        let low = rows::wide(list[i * 2]);
+        let high = rows::wide(list[i * 2 + 1]);
         end = next_number(out, end, high * 256 + low);
         i += 1;
     }

@@ -35,7 +35,7 @@ said-of a = spoken (a .no) (a .one ∷ [])
 
 changed-line : (s : Schema) (o : Outcome Schema) → Beyond 0 o → said-of (answer-of o) ≡ (changed s o) .line
 unfolding spoken
-changed-line s (refused n value) p = spoken-refused n (0 ∷ []) (λ e. omega (arith, p, e))
+changed-line s (refused n value) p = spoken-refused n (value ∷ []) (λ e. omega (arith, p, e))
 changed-line s (done one two three next) p = refl
 
 changed-next : (s : Schema) (o : Outcome Schema) (b : List ℕ) → b ≡ picture s → base-after b o ≡ picture ((changed s o) .next)
@@ -113,7 +113,7 @@ module _ {b : List ℕ} {found : Answer} {find : Schema → Outcome (List ℕ)} 
 -- one value
 value-said : (s : Schema) (o : Outcome (List ℕ)) → Beyond 0 o → said-of (answer-of o) ≡ (asked (λ one list. one ∷ []) s o) .line
 unfolding spoken
-value-said s (refused n value) p = spoken-refused n (0 ∷ []) (λ e. omega (arith, p, e))
+value-said s (refused n value) p = spoken-refused n (value ∷ []) (λ e. omega (arith, p, e))
 value-said s (done one two three list) p = refl
 
 pub value-line : {a : Answer} (s : Schema) (o : Outcome (List ℕ)) → Beyond 0 o → a ≡ answer-of o → said-of a ≡ (asked (λ one list. one ∷ []) s o) .line
@@ -149,7 +149,7 @@ scan-few {b} {a = a} w t code room k = go (ltb 128 (a .one)) refl
 
 -- the count and the list
 refused-line : (s : Schema) (o : Outcome (List ℕ)) → ((answer-of o) .no ≡ 0 → ⊥) → said-of (answer-of o) ≡ (asked (λ one list. one ∷ list) s o) .line
-refused-line s (refused n value) h = spoken-refused n (0 ∷ []) h
+refused-line s (refused n value) h = spoken-refused n (value ∷ []) h
 refused-line s (done one two three list) h = absurd (h refl)
 
 list-line : (s : Schema) (o : Outcome (List ℕ)) (before : List ℕ) → Beyond 0 o → Counted o → (answer-of o) .no ≡ 0

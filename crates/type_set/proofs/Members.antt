@@ -1,7 +1,8 @@
 -- Laws of the list of members: tests that agree have one list, a part has no more members, and one with as many is the whole. The ones
 -- of a word of marks are as many as the numbers that it marks. Assumes nothing.
-use Prim.Native.Nat.{ℕ, zero, suc, _+_, _*_, _≤_, _<_}
+use Prim.Native.Nat.{ℕ, zero, suc, _+_, _-_, _*_, _≤_, _<_}
 use native.Mathlib.Nat.{add-suc, add-zero, suc-add, zero-add}
+use native.Mathlib.Numerals.{add-one}
 use native.Mathlib.Omega.{arith}
 use mathlib.Core.Path.{_≡_, refl, sym, ap, ap₂, _∙_}
 use mathlib.Core.Logic.{⊎-elim}
@@ -52,6 +53,20 @@ module _ (p q : ℕ → Bool) (part : (k : ℕ) → p k ≡ true → q k ≡ tru
           let new : k ∈ members p → ⊥ = λ i. false≢true (sym g ∙ members-in p k i .1) in
           let more = members-at-most q (k ∷ members p) (new, different) (λ x i. ⊎-elim (λ s. rw s (u, e)) (passes x) (List·Memᴰ·cases-cons i)) in
           absurd (omega arith)
+
+-- ---- the types from t on that pass: t and those behind it, or those alone
+
+module _ (p : ℕ → Bool) (t : ℕ) (h : t < 128) where
+  one : 128 - t ≡ suc (128 - (t + 1))
+  one = omega arith
+
+  pub types-taken : p t ≡ true → numbers t (128 - t) p ≡ t ∷ numbers (t + 1) (128 - (t + 1)) p
+  unfolding numbers
+  types-taken e = rw (one, e, add-one t)
+
+  pub types-passed : p t ≡ false → numbers t (128 - t) p ≡ numbers (t + 1) (128 - (t + 1)) p
+  unfolding numbers
+  types-passed e = rw (one, e, add-one t)
 
 -- ---- the count
 

@@ -4,7 +4,7 @@ use native.Mathlib.Omega.{arith}
 use mathlib.Core.Path.{_≡_, refl, sym, ap, ap₂, _∙_}
 use mathlib.Core.List.{[], _∷_}
 use mathlib.Core.Bool.{Bool, true, false, _&&_, _||_, or-comm}
-use lib.Bits.{bitAnd, bitOr, and-le-l}
+use lib.Bits.{bitAnd, bitOr}
 use lib.Count.{ones}
 use lib.Dec.{eqb, ltb}
 use lib.ListN.{length, getD, List·getD-eq-default}
@@ -12,7 +12,6 @@ use borrow.Author.Tests.{eqb-false, eqb-true, eq-eqb, ltb-false, ltb-true, ne-eq
 use Rattle.rules.specs.05-Descent.{members}
 use Rattle.rules.specs.11-Asks.{one-if, marks}
 use Rattle.rules.proofs.11-Asks.{marks-bit, marks-fit}
-use Rattle.rules.proofs.Bools.{and-both}
 use Rattle.type_set.specs.declared.TypeSet.{TypeSet}
 use Rattle.type_set.specs.Set.{bit, words, has}
 use Rattle.type_set.proofs.Bit.{bit-zero, bit-or, bit-and, bit-set, word-same}
@@ -133,33 +132,3 @@ pub count-members : (s : TypeSet) → s .low < 2 ^ 64 → s .high < 2 ^ 64 → o
 count-members s l h =
     let (low, high) = words-are s (has s) l h (λ k u. refl) in
     ap₂ _+_ (ap ones low) (ap ones high) ∙ ones-members (has s)
-
--- ---- two sets with the same words, and two with the same marks
-
-pub same-sound : (s t : TypeSet) → s .low ≡ t .low → s .high ≡ t .high → (k : ℕ) → has s k ≡ has t k
-same-sound s t l h k = ap (λ (x : TypeSet). has x k) (λ i. record { low = l i; high = h i })
-
-pub same-full : (s t : TypeSet) → s .low < 2 ^ 64 → s .high < 2 ^ 64 → t .low < 2 ^ 64 → t .high < 2 ^ 64
-    → ((k : ℕ) → k < 128 → has s k ≡ has t k) → (s .low ≡ t .low) × (s .high ≡ t .high)
-same-full s t sl sh tl th e =
-    let (a, b) = words-are s (has t) sl sh e in
-    let (c, d) = words-are t (has t) tl th (λ k u. refl) in
-    (a ∙ sym c, b ∙ sym d)
-
--- s is within t exactly where what both have is s
-module _ (s t : TypeSet) where
-  abbrev met : TypeSet
-  met = record { low = bitAnd (s .low) (t .low); high = bitAnd (s .high) (t .high) }
-
-  pub within-sound : bitAnd (s .low) (t .low) ≡ s .low → bitAnd (s .high) (t .high) ≡ s .high → (k : ℕ) → has s k ≡ true → has t k ≡ true
-  within-sound l h k e = and-both (has s k) (has t k) (sym (has-meet s t k) ∙ same-sound met s l h k ∙ e) .1
-
-  pub within-full : s .low < 2 ^ 64 → s .high < 2 ^ 64 → ((k : ℕ) → has s k ≡ true → has t k ≡ true)
-      → (bitAnd (s .low) (t .low) ≡ s .low) × (bitAnd (s .high) (t .high) ≡ s .high)
-  within-full l h part =
-      same-full met s (omega (arith, and-le-l (s .low) (t .low))) (omega (arith, and-le-l (s .high) (t .high))) l h
-      (λ k u. has-meet s t k ∙ only (has s k) (has t k) (part k))
-    where
-      only : (a b : Bool) → (a ≡ true → b ≡ true) → a && b ≡ a
-      only true b i = i refl
-      only false b i = refl

@@ -1,30 +1,20 @@
 -- A set that is gathered row by row, and the numbers that the rows of a sound base hold. Assumes nothing.
-use Prim.Native.Nat.{ℕ, _+_, _≤_, _<_}
+use Prim.Native.Nat.{ℕ, _+_, _<_}
 use native.Mathlib.Omega.{arith}
 use mathlib.Core.Path.{_≡_, refl, sym, ap, _∙_}
 use mathlib.Core.Logic.{⊎-elim}
 use mathlib.Core.List.{List}
 use mathlib.Core.Bool.{Bool, true, false, not, _&&_, _||_, true≢false, false≢true}
 use lib.Dec.{eqb}
-use lib.ListN.{getD, drop}
 use borrow.Author.Count.{below-more}
 use borrow.Author.Tests.{eqb-true, eq-eqb}
 use Rattle.rules.specs.01-Lists.{_∈_, any}
-use Rattle.rules.specs.04-Schema.{Presence, Application, End, holds-type, present, side-code}
-use Rattle.rules.specs.07-Picture.{Sound, end-row}
+use Rattle.rules.specs.04-Schema.{Presence, Application, End}
 use Rattle.rules.proofs.Bools.{same-test, or-cases, or-left, or-right, and-both, and-of}
 use Rattle.rules.proofs.01-Lists.{any-at, any-where}
-use Rattle.rules.proofs.05-Descent.{used-below}
-use Rattle.rules.specs.Read.{read-side, read-end}
-use Rattle.rules.proofs.08-Working.{present-used}
-use Rattle.rows.specs.Rows.{part}
-use Rattle.rows.proofs.Rows.{part-byte, filled-most}
-use Rattle.base.specs.Rows.{presence-at, application-at, end-at}
 use Rattle.base.specs.Back.{schema-of, presence-count, application-count, end-count, presence-shown, application-shown, end-shown}
-use Rattle.base.proofs.Back.{sound-canonical, sound-good}
-use Rattle.base.proofs.Kept.{sound-long}
 use Rattle.lookup.proofs.SdsShown as SdsShown
-use Rattle.base.proofs.Shown.{presence-there, presence-in, application-there, application-in, end-there, end-in, end-read}
+use Rattle.base.proofs.Shown.{presence-there, presence-in, application-there, application-in, end-there, end-in}
 use Rattle.visible.specs.Shown.{gathered}
 
 -- ---- a set gathered from the first n rows
@@ -109,47 +99,3 @@ passes-first {x} {y} {r} {z} e f g = go x y e f
     go true true e f = g
     go true false e f = absurd (true≢false e)
     go false y e f = absurd (true≢false f)
-
--- ---- the numbers in a row
-
-module _ (b : List ℕ) where
-  pub few-applications : application-count b ≤ 256
-  few-applications = filled-most 3 0 256 (drop 10496 b)
-
-  pub few-ends : end-count b ≤ 512
-  few-ends = filled-most 4 0 512 (drop 11264 b)
-
-module _ {b : List ℕ} (s : Sound b) where
-  -- what is present is a type, in an SDS
-  small : (d t : ℕ) → present (schema-of b) d t ≡ true → (d < 128) × (t < 128)
-  unfolding present
-  small d t e =
-      let (p, i, h) = any-where (holds-type d t) ((schema-of b) .presences) e in
-      let same : p .sds ≡ d = eqb-true (p .sds) d (and-both (eqb (p .sds) d) (eqb (p .type) t) h .0) in
-      (omega (arith, SdsShown.used-below b (sound-long s) (p .sds) (sound-good s .presence-sds p i)), used-below (sound-good s) t (present-used (sound-good s) d t e))
-
-  both : (d t u : ℕ) → present (schema-of b) d t && present (schema-of b) d u ≡ true → (d < 128) × ((t < 128) × (u < 128))
-  both d t u e =
-      let (x, y) = and-both (present (schema-of b) d t) (present (schema-of b) d u) e in
-      (small d t x .0, (small d t x .1, small d u y .1))
-
-  pub presence-small : (i : ℕ) → i < presence-count b → (getD b (presence-at i) 0 < 128) × (getD b (presence-at i + 17) 0 < 128)
-  presence-small i h =
-      let m = presence-there b i h in (
-        omega (arith, SdsShown.used-below b (sound-long s) (getD b (presence-at i) 0) (sound-good s .presence-sds _ m)),
-        used-below (sound-good s) (getD b (presence-at i + 17) 0) (sound-good s .presence-type _ m),
-      )
-
-  pub application-small : (i : ℕ) → i < application-count b
-      → (getD b (application-at i) 0 < 128) × ((getD b (application-at i + 1) 0 < 128) × (getD b (application-at i + 2) 0 < 128))
-  application-small i h = both _ _ _ (sound-good s .application-present (application-shown b i) (application-there b i h))
-
-  pub end-small : (i : ℕ) → i < end-count b → (getD b (end-at i) 0 < 128) × ((getD b (end-at i + 1) 0 < 128) × (getD b (end-at i + 3) 0 < 128))
-  end-small i h = both _ _ _ (sound-good s .end-present (end-shown b i) (end-there b i h))
-
-  -- the byte of a side is its code
-  pub side-byte : (i : ℕ) → i < end-count b → getD b (end-at i + 2) 0 ≡ side-code ((end-shown b i) .side)
-  unfolding end-row
-  side-byte i h =
-      sym (part-byte b (end-at i) 4 2 (omega arith)) ∙ ap (λ (r : List ℕ). getD r 2 0) (sym (sound-canonical s .end-rows i h))
-      ∙ ap (λ (e : End). side-code (e .side)) (end-read b i)

@@ -1,79 +1,22 @@
--- A type by its name: what the row that was found says of an SDS, and what the first such SDS says of the list. Assumes nothing.
-use Prim.Native.Nat.{ℕ, _+_, _≤_, _<_}
-use native.Mathlib.Omega.{arith}
+-- A type by its name: what the first SDS that has it says of the list. Assumes nothing.
+use Prim.Native.Nat.{ℕ, _<_}
 use mathlib.Core.Path.{_≡_, refl, sym, ap, _∙_}
 use mathlib.Core.List.{List, [], _∷_}
-use mathlib.Core.Bool.{Bool, true, false, not, cond, _&&_, _||_, true≢false}
+use mathlib.Core.Bool.{Bool, true, false, not, cond, _||_, true≢false}
 use lib.Dec.{eqb}
 use lib.ListN.{length, getD}
-use borrow.Author.Tests.{eqb-true, eq-eqb, ne-eqb, not-true}
+use borrow.Author.Tests.{eqb-true, not-true}
 use Rattle.rules.specs.01-Lists.{any, first, without}
 use Rattle.rules.specs.03-Names.{Name, same-name}
-use Rattle.rules.specs.04-Schema.{Schema, Presence, system-presence, holds-name, bears, type-named}
+use Rattle.rules.specs.04-Schema.{Schema, holds-name, bears, type-named}
 use Rattle.rules.specs.06-Good.{Good}
 use Rattle.rules.specs.08-Working.{listed-sdss}
 use Rattle.rules.specs.09-Refusals.{unknown-sds, no-name-listed}
-use Rattle.rules.specs.11-Asks.{place}
 use Rattle.rules.proofs.Bools.{and-both}
-use Rattle.rules.proofs.01-Lists.{any-at, any-none, any-where}
-use Rattle.rules.proofs.05-Descent.{used-below}
+use Rattle.rules.proofs.01-Lists.{any-where, any-there, any-nowhere}
 use Rattle.rules.proofs.11-Asks.{place-is, first-at}
-use Rattle.base.specs.Rows.{presence-at}
-use Rattle.base.specs.Back.{schema-of, presence-shown, presence-count}
-use Rattle.base.proofs.Shown.{presences-long, presence-is, presence-there, presence-in}
-use Rattle.working.specs.Listed.{drawn-from, Named-row, Named-in, Named-first}
-use Rattle.working.proofs.ListedLaws.{any-there, any-nowhere, unused-sds, listed-is}
-
--- ---- a row
-
-pub row-elsewhere : (p : Presence) (d : ℕ) (n : Name) → (p .sds ≡ d → ⊥) → false ≡ holds-name d n p
-row-elsewhere p d n h = sym (ap (λ (b : Bool). b && same-name (p .name) n) (ne-eqb (p .sds) d h))
-
-pub row-there : (p : Presence) (d : ℕ) (n : Name) → p .sds ≡ d → same-name (p .name) n ≡ holds-name d n p
-row-there p d n h = sym (ap (λ (b : Bool). b && same-name (p .name) n) (eq-eqb (p .sds) d h))
-
--- ---- an SDS
-
-module _ {b : List ℕ} {d : ℕ} {n : Name} {r : ℕ} (row : Named-row b (presence-count b) d n r) where
-  -- no row was found
-  pub bears-none : presence-count b ≤ r → bears (schema-of b) d n ≡ false
-  unfolding bears
-  bears-none h =
-      any-none (holds-name d n) ((schema-of b) .presences) (λ p i.
-      let (k, u, e) = presence-in b p i in
-      ap (holds-name d n) e ∙ row .others k (omega arith))
-
-  module _ (h : r < presence-count b) where
-    pub bears-it : bears (schema-of b) d n ≡ true
-    unfolding bears
-    bears-it = any-at (holds-name d n) (presence-there b r h) (row .found h)
-
-    -- the type of the row is the one that bears the name
-    pub type-is : getD b (presence-at r + 17) 0 ≡ type-named (schema-of b) d n
-    unfolding bears type-named
-    type-is =
-        let ps = (schema-of b) .presences in
-        let at : place (holds-name d n) ps ≡ r
-        = place-is (holds-name d n) system-presence ps r (omega (arith, presences-long b))
-        (λ i u. ap (holds-name d n) (presence-is b i system-presence (omega arith)) ∙ row .others i u)
-        (ap (holds-name d n) (presence-is b r system-presence h) ∙ row .found h) in
-        sym (ap (λ (p : Presence). p .type) (first-at (holds-name d n) _ system-presence ps bears-it .1
-        ∙ ap (λ (k : ℕ). getD ps k system-presence) at ∙ presence-is b r system-presence h))
-
--- a row's type is below 128
-pub type-below : (b : List ℕ) → Good (schema-of b) → (i : ℕ) → i < presence-count b → getD b (presence-at i + 17) 0 < 128
-type-below b good i h = used-below good _ (good .presence-type (presence-shown b i) (presence-there b i h))
-
--- what the search says of SDS d, whether it found a row or none
-module _ {b : List ℕ} {d : ℕ} {n : Name} {r : ℕ} (row : Named-row b (presence-count b) d n r) where
-  pub named-here : Good (schema-of b) → (h : r < presence-count b) (t : ℕ) → t ≡ getD b (presence-at r + 17) 0 → Named-in (schema-of b) d n t
-  named-here good h t e = record {
-    found = λ q. (omega (arith, type-below b good r h), e ∙ type-is row h);
-    none = λ q. absurd (true≢false (sym (bears-it row h) ∙ q));
-  }
-
-  pub named-not-here : presence-count b ≤ r → Named-in (schema-of b) d n 128
-  named-not-here h = record { found = λ q. absurd (true≢false (sym q ∙ bears-none row h)); none = λ q. refl }
+use Rattle.working.specs.Listed.{drawn-from, Named-first}
+use Rattle.working.proofs.ListedLaws.{unused-sds, listed-is}
 
 -- an SDS in which a name is borne is used
 bears-used : {s : Schema} → Good s → (d : ℕ) (n : Name) → bears s d n ≡ true → unused-sds s d ≡ false

@@ -15,17 +15,8 @@ use Rattle.rules.specs.04-Schema.{Schema, used-sds}
 use Rattle.rules.specs.08-Working.{listed-sdss}
 use Rattle.rules.specs.09-Refusals.{unknown-sds}
 use Rattle.rules.proofs.Bools.{or-neither}
-use Rattle.rules.proofs.01-Lists.{any-at, any-none, at-place, place-in}
+use Rattle.rules.proofs.01-Lists.{any-nowhere}
 use Rattle.working.specs.Listed.{drawn-from}
-
--- ---- a test of each number, place by place
-
-module _ (p : ℕ → Bool) (l : List ℕ) where
-  pub any-there : (i : ℕ) → i < length l → p (getD l i 0) ≡ true → any p l ≡ true
-  any-there i h e = any-at p (place-in 0 l i h) e
-
-  pub any-nowhere : ((i : ℕ) → i < length l → p (getD l i 0) ≡ false) → any p l ≡ false
-  any-nowhere none = any-none p l (λ x m. let (i, h, e) = at-place 0 m in ap p (sym e) ∙ none i h)
 
 -- what is left behind one place more, and behind the last
 drop-next : (l : List ℕ) (i : ℕ) → i < length l → drop i l ≡ getD l i 0 ∷ drop (i + 1) l

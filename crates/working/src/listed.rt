@@ -13,12 +13,6 @@ ghost use Rattle.base.specs.Back.{schema-of};
 ghost use Rattle.type_set.specs.Set.{has};
 ghost use Rattle.working.specs.Listed.{drawn-from};
 
-fn wide(x: u8) -> usize
-    ensures { λ r. ⌜ r ≡ x ⌝ }
-{
-    x as usize
-}
-
 // ---- what refuses a list
 
 // Whether some number of the list is no SDS's.
@@ -28,7 +22,7 @@ pub fn has_unknown(base: &[u8], schema: &[u8]) -> bool
 {
     let mut i = 0;
     while i < schema.len() {
-        if !lookup::is_sds(base, wide(schema[i])) {
+        if !lookup::sdss::is_sds(base, rows::wide(schema[i])) {
             return true;
         }
         i += 1;
@@ -44,7 +38,7 @@ pub fn has_repeated(schema: &[u8]) -> bool
     let mut met = TypeSet::empty();
     let mut at = 0;
     while at < schema.len() {
-        let d = wide(schema[at]);
+        let d = rows::wide(schema[at]);
         if met.test(d) {
             return true;
         }
@@ -74,7 +68,7 @@ pub fn sds_at(schema: &[u8], i: usize) -> usize
     if schema.len() == 0 {
         return i;
     }
-    wide(schema[i])
+    rows::wide(schema[i])
 }
 
 // The SDSs that are listed, every one where the list is empty.
@@ -88,7 +82,7 @@ pub fn listed(base: &[u8], schema: &[u8]) -> TypeSet
     let mut i = 0;
     while i < n {
         let d = sds_at(schema, i);
-        if lookup::is_sds(base, d) {
+        if lookup::sdss::is_sds(base, d) {
             s = s.add(d);
         }
         i += 1;

@@ -1,12 +1,16 @@
--- `base::sds_field` meets its contract: a slice from a start to 16 further on is a part of 16 bytes. Assumes nothing.
+-- `base::sds_field` meets its contract: a slice from a start to as many bytes further on is a part. Assumes nothing.
 use borrow.Author.Needs.{needs}
-use Prim.Native.Nat.{_*_}
+use Rattle.rules.specs.02-Limits.{limits}
 use Rattle.rows.proofs.Rows.{slice-part}
+use Rattle.base.specs.Rows.{sds-at}
 use Rattle.base.proofs.sds_field.Statement.{statement}
 use Rattle.base.proofs.sds_field.Tie as tie
 
 mul-at : tie.Need-mul-at
 mul-at c = search needs
+
+add-at : tie.Need-add-at
+add-at c = search needs
 
 add-end : tie.Need-add-end
 add-end c = search needs
@@ -21,8 +25,8 @@ part-result-end : tie.Need-part-result-end
 part-result-end c = search needs
 
 returns : tie.Need-returns
-returns c = slice-part (c .before .args .base .now) (c .before .args .d * 16) 16
+returns c = slice-part (c .before .args .base .now) (sds-at (c .before .args .d)) (limits .name)
 
 pub sds-field-spec : {M : Type 1} → statement M
 sds-field-spec =
-    tie.close (tie.spec mul-at add-end sub-result part-result-start part-result-end returns)
+    tie.close (tie.spec mul-at add-at add-end sub-result part-result-start part-result-end returns)

@@ -6,12 +6,13 @@ use mathlib.Core.Path.{_≡_, sym, _∙_}
 use mathlib.Core.Bool.{false}
 use Rattle.rules.specs.04-Schema.{has-end}
 use Rattle.rules.specs.Read.{read-side}
-use Rattle.rules.proofs.09-Refusals.{passes, stops, ends}
+use Rattle.rules.proofs.09-Refusals.{stops}
 use Rattle.base.specs.Back.{schema-of}
 use Rattle.base.proofs.Kept.{sound-long, kept-refused, kept-done}
 use Rattle.base.proofs.StoredLaws.{sound-stored, shows-stored}
 use Rattle.base.proofs.TestedLaws.{begun-stops}
-use Rattle.change_ends.proofs.EndLaws.{Through, goes-through, add-left, add-tests, full-is, room-first, room-second, second-free, added-one, added-both}
+use Rattle.change_ends.proofs.EndLaws.{Through, goes-through, add-left, add-tests, Addable, add-full, addable}
+use Rattle.change_ends.proofs.EndLaws.{room-first, room-second, second-free, added-one, added-both}
 use Rattle.change_ends.proofs.add_end.Statement.{statement}
 use Rattle.change_ends.proofs.add_end.Tie as tie
 
@@ -19,10 +20,16 @@ through-1 : (c : tie.Else1) → let x = c .before .before .before .before .befor
     let told = c .before .before .aimed-at .result in Through (x .base .now) (x .sds) (told .one) (told .two)
 through-1 c = goes-through (c .before .before .aimed-at .ensures) (c .if1 .left)
 
-free-2 : (c : tie.Else2) → let x = c .before .before .before .before .before .before .before .before .before .before .args in has-end
-    (schema-of (x .base .now)) (x .sds) (c .before .before .before .before .before .aimed-at .result .one) (read-side (x .side))
-    (c .before .before .before .before .before .aimed-at .result .two) ≡ false
+free-2 : (c : tie.Else2) → let x = c .before .before .before .before .before .before .before .before .before .before .args in let told = c .before .before .before .before .before .aimed-at .result in
+    has-end (schema-of (x .base .now)) (x .sds) (told .one) (read-side (x .side)) (told .two) ≡ false
 free-2 c = sym (c .before .is-end .ensures) ∙ c .if2 .left
+
+addable-3 : (c : tie.Else3) → let x = c .before .before .before .before .before .before .before .before .before .before .before .before .before .before .before .args in let told = c .before .before .before .before .before .before .before .before .before .before .aimed-at .result in
+    Addable (x .base .now) (x .sds) (x .link .now) (x .object .now) (told .one) (told .two) (c .before .before .before .reverse-of .result) (read-side (x .side))
+addable-3 c =
+    let first = c .before .before .before .before .before .before .before .before in
+    addable _ (first .before .before .aimed-at .ensures) (first .if1 .left) (free-2 (c .before .before .before .before .before)) (c .before .before .before .reverse-of .ensures)
+    (sym (c .before .is-full .ensures) ∙ c .if3 .left)
 
 aimed-at-requires : tie.Need-aimed-at-requires
 aimed-at-requires c κs = search needs
@@ -38,16 +45,9 @@ returns c = begun-stops _ (c .before .before .before .aimed-at .ensures .told) (
 
 is-end-requires : tie.Need-is-end-requires
 is-end-requires c κs =
-    let th = through-1 (c .before) in (
-      th .sound,
-      (
-        omega (arith, through-1 (c .before) .below),
-        (
-          omega (arith, th .link-below),
-          (c .before .before .before .before .before .before .before .before .pre, omega (arith, th .object-below)),
-        ),
-      ),
-    )
+    let first = c .before in
+    let th = through-1 first in
+    (th .sound, (omega (arith, th .below), (omega (arith, th .link-below), (first .before .before .before .before .before .before .before .pre, omega (arith, th .object-below)))))
 
 refused-requires-2 : tie.Need-refused-requires-2
 refused-requires-2 c κs = search needs
@@ -56,8 +56,9 @@ same-length-2 : tie.Need-same-length-2
 same-length-2 c = search needs
 
 returns-2 : tie.Need-returns-2
-returns-2 c = kept-refused (through-1 (c .before .before .before .before) .sound)
-    (stops (add-tests (c .before .before .before .before .before .before .aimed-at .ensures) (c .before .before .before .before .if1 .left) _)
+returns-2 c =
+    let first = c .before .before .before .before in
+    kept-refused (through-1 first .sound) (stops (add-tests (first .before .before .aimed-at .ensures) (first .if1 .left) _)
     (sym (c .before .before .is-end .ensures) ∙ c .before .if2 .taken)) (c .refused2 .ensures)
 
 reverse-of-requires : tie.Need-reverse-of-requires
@@ -74,34 +75,19 @@ same-length-3 c = search needs
 
 returns-3 : tie.Need-returns-3
 returns-3 c =
-    kept-refused (through-1 (c .before .before .before .before .before .before .before .before .before) .sound)
-    (stops (passes (add-tests (c .before .before .before .before .before .before .before .before .before .before .before .aimed-at .ensures)
-    (c .before .before .before .before .before .before .before .before .before .if1 .left) _)
-    (free-2 (c .before .before .before .before .before .before)))
-    (sym (full-is (c .before .before .before .before .reverse-of .ensures)) ∙ sym (c .before .before .is-full .ensures) ∙ c .before .if3 .taken)) (c .refused3 .ensures)
+    let first = c .before .before .before .before .before .before .before .before .before in
+    kept-refused (through-1 first .sound) (add-full _ (first .before .before .aimed-at .ensures) (first .if1 .left) (free-2 (c .before .before .before .before .before .before))
+    (c .before .before .before .before .reverse-of .ensures) (sym (c .before .before .is-full .ensures) ∙ c .before .if3 .taken)) (c .refused3 .ensures)
 
 put-end-requires : tie.Need-put-end-requires
 put-end-requires c κs =
-    let th = through-1 (c .before .before .before .before .before .before .before .before .before) in (
+    let past = c .before in
+    let x = addable-3 past in
+    let th = x .through in (
       sound-stored (th .sound),
       (
-        (
-          th .outside,
-          (
-            omega (arith, through-1 (c .before .before .before .before .before .before .before .before .before) .below),
-            (
-              omega (arith, th .link-below),
-              (
-                c .before .before .before .before .before .before .before .before .before .before .before .before .before .before .before .before .pre,
-                omega (arith, th .object-below),
-              ),
-            ),
-          ),
-        ),
-        (
-          room-first _ (c .before .before .before .before .reverse-of .ensures) (sym (c .before .before .is-full .ensures) ∙ c .before .if3 .left),
-          free-2 (c .before .before .before .before .before .before),
-        ),
+        (th .outside, (omega (arith, th .below), (omega (arith, th .link-below), (past .before .before .before .before .before .before .before .before .before .before .before .before .before .before .before .pre, omega (arith, th .object-below))))),
+        (room-first _ (x .reversed) (x .room), x .free),
       ),
     )
 
@@ -113,44 +99,26 @@ same-length-4 c = search needs
 
 returns-4 : tie.Need-returns-4
 returns-4 c =
-    let rev = c .before .before .before .before .before .before .before .before .before .reverse-of .ensures in
-    let room = sym (c .before .before .before .before .before .before .before .is-full .ensures) ∙ c .before .before .before .before .before .before .if3 .left in
-    kept-done (through-1 (c .before .before .before .before .before .before .before .before .before .before .before .before .before .before) .sound)
-    (ends (passes (passes
-    (add-tests (c .before .before .before .before .before .before .before .before .before .before .before .before .before .before .before .before
-    .aimed-at .ensures) (c .before .before .before .before .before .before .before .before .before .before .before .before .before .before
-    .if1 .left) _) (free-2 (c .before .before .before .before .before .before .before .before .before .before .before))) (sym (full-is rev) ∙
-    room)))
-    (c .done .ensures) (added-one _ rev room _ _ _ (c .before .before .before .before .put-end .ensures) (c .before .if4 .taken))
+    let x = addable-3 (c .before .before .before .before .before .before) in
+    kept-done (x .through .sound) (x .rule) (c .done .ensures)
+    (added-one _ (x .reversed) (x .room) _ _ _ (c .before .before .before .before .put-end .ensures) (c .before .if4 .taken))
 
 sub-put-end : tie.Need-sub-put-end
 sub-put-end c = search needs
 
 put-end-requires-2 : tie.Need-put-end-requires-2
 put-end-requires-2 c κs =
-    let th = through-1 (c .before .before .before .before .before .before .before .before .before .before .before .before .before .before) in
-    let rev = c .before .before .before .before .before .before .before .before .before .reverse-of .ensures in
-    let room = sym (c .before .before .before .before .before .before .before .is-full .ensures) ∙ c .before .before .before .before .before .before .if3 .left in
+    let past = c .before .before .before .before .before .before in
+    let x = addable-3 past in
+    let th = x .through in
     let out = c .before .before .before .before .put-end .ensures in
-    let below : c .before .before .before .before .before .before .before .before .before .reverse-of .result < 128 = omega (arith, rev .fits, c .before .if4 .left) in (
+    let below : past .before .before .before .reverse-of .result < 128 = omega (arith, x .reversed .fits, c .before .if4 .left) in (
       shows-stored out,
       (
+        (th .outside, (omega (arith, th .below), (omega (arith, x .reversed .fits), (omega arith, omega (arith, th .object-below))))),
         (
-          th .outside,
-          (
-            omega (
-              arith,
-              through-1 (c .before .before .before .before .before .before .before .before .before .before .before .before .before .before) .below,
-            ),
-            (omega (arith, below), (omega arith, omega (arith, th .object-below))),
-          ),
-        ),
-        (
-          room-second _ rev room _ _ _ out below,
-          second-free _ rev room _ _ _
-              (c .before .before .before .before .before .before .before .before .before .before .before .before .before .before .before .before
-              .before .before .before .before .before .pre) out below (th .sound) (free-2 (c .before .before .before .before .before .before
-              .before .before .before .before .before)),
+          room-second _ (x .reversed) (x .room) _ _ _ out below,
+          second-free _ (x .reversed) (x .room) _ _ _ (past .before .before .before .before .before .before .before .before .before .before .before .before .before .before .before .pre) out below (th .sound) (x .free),
         ),
       ),
     )
@@ -163,20 +131,11 @@ same-length-5 c = search needs
 
 returns-5 : tie.Need-returns-5
 returns-5 c =
-    let rev = c .before .before .before .before .before .before .before .before .before .before .before .before .before .reverse-of .ensures in
-    let room = sym (c .before .before .before .before .before .before .before .before .before .before .before .is-full .ensures) ∙
-    c .before .before .before .before .before .before .before .before .before .before .if3 .left in
-    kept-done (through-1 (c .before .before .before .before .before .before .before .before .before .before .before .before .before .before .before
-    .before .before .before) .sound) (ends (passes (passes (add-tests (c .before .before .before .before .before .before .before .before .before
-    .before .before .before .before .before .before .before .before .before .before .before .aimed-at .ensures) (c .before .before .before
-    .before .before .before .before .before .before .before .before .before .before .before .before .before .before .before .if1 .left) _)
-    (free-2 (c .before .before .before .before .before .before .before .before .before .before .before .before .before .before .before))) (sym
-    (full-is rev) ∙ room)))
-    (c .done2 .ensures) (added-both _ rev room _ _ _
-    (c .before .before .before .before .before .before .before .before .before .before .before .before .before .before .before .before .before
-    .before .before .before .before .before .before .before .before .pre) (c .before .before .before .before .before .before .before .before
-    .put-end .ensures) (omega (arith, rev .fits, c .before .before .before .before .before .if4 .left)) (c .before .before .before .put-end2
-    .ensures))
+    let past = c .before .before .before .before .before .before .before .before .before .before in
+    let x = addable-3 past in
+    kept-done (x .through .sound) (x .rule) (c .done2 .ensures)
+    (added-both _ (x .reversed) (x .room) _ _ _ (past .before .before .before .before .before .before .before .before .before .before .before .before .before .before .before .pre) (c .before .before .before .before .before .before .before .before .put-end .ensures)
+    (omega (arith, x .reversed .fits, c .before .before .before .before .before .if4 .left)) (c .before .before .before .put-end2 .ensures))
 
 pub add-end-spec : {M : Type 1} → statement M
 add-end-spec =

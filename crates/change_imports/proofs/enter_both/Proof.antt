@@ -8,7 +8,7 @@ use Rattle.base.specs.Back.{schema-of, presence-count}
 use Rattle.base.proofs.Kept.{sound-long, kept-refused, kept-done}
 use Rattle.base.proofs.Shown.{presences-long}
 use Rattle.base.proofs.StoredLaws.{sound-stored, shows-stored}
-use Rattle.conditions.proofs.NameLaws.{Two-names, two-names}
+use Rattle.rules.proofs.NameTests.{Two-names, two-names}
 use Rattle.change_imports.proofs.ImportLaws.{enter-left, no-room, some-room}
 use Rattle.change_imports.proofs.ImportLaws.{room-second, free-second, entered-both}
 use Rattle.change_imports.proofs.enter_both.Statement.{statement}
@@ -59,7 +59,7 @@ put-presence-requires c κs =
     let it = x .pre .1 .0 in (
       sound-stored (x .pre .0),
       (
-        (omega (arith, it .small), omega (arith, it .below)),
+        (it .outside, (omega (arith, it .small), omega (arith, it .below))),
         (it .formed, (omega (arith, fits-2 (c .before), presences-long (x .args .base .now)), names-1 first .free)),
       ),
     )
@@ -72,7 +72,7 @@ put-presence-requires-2 c κs =
     let out = c .before .before .before .put-presence .ensures in (
       shows-stored out,
       (
-        (omega (arith, it .small), omega (arith, it .below)),
+        (it .outside, (omega (arith, it .small), omega (arith, it .below))),
         (it .formed, (room-second _ _ _ _ out (fits-2 (c .before .before .before .before .before)), free-second _ _ _ _ out _ (names .apart) (names .other-free))),
       ),
     )

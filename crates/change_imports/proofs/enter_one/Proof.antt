@@ -10,7 +10,8 @@ use Rattle.rules.proofs.09-Refusals.{passes, stops, ends}
 use Rattle.base.proofs.Kept.{sound-long, kept-refused, kept-done}
 use Rattle.base.proofs.Shown.{presences-long}
 use Rattle.base.proofs.StoredLaws.{sound-stored}
-use Rattle.conditions.proofs.NameLaws.{borne, not-borne, one-taken, one-free}
+use Rattle.rules.proofs.NameTests.{one-taken, one-free}
+use Rattle.lookup.proofs.NamedLaws.{borne, not-borne}
 use Rattle.change_imports.proofs.ImportLaws.{enter-left, no-room, some-room, entered-one}
 use Rattle.change_imports.proofs.enter_one.Statement.{statement}
 use Rattle.change_imports.proofs.enter_one.Tie as tie
@@ -53,7 +54,7 @@ put-presence-requires c κs =
     let x = c .before .before .before .before .before .before .before .before .before in (
       sound-stored (x .pre .0),
       (
-        (omega (arith, x .pre .1 .small), omega (arith, x .pre .1 .below)),
+        (x .pre .1 .outside, (omega (arith, x .pre .1 .small), omega (arith, x .pre .1 .below))),
         (x .pre .1 .formed, (omega (arith, fits-2 (c .before), presences-long (x .args .base .now)), free-1 (c .before .before .before .before))),
       ),
     )

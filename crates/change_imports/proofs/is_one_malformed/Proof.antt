@@ -1,6 +1,6 @@
 -- `imports::is_one_malformed` meets its contract: one test after the other. Assumes nothing.
 use borrow.Author.Needs.{needs}
-use Rattle.conditions.proofs.ConditionLaws.{or-first, or-next}
+use Rattle.rules.proofs.Bools.{or-first, or-next}
 use Rattle.change_imports.proofs.ImportLaws.{malformed-is}
 use Rattle.change_imports.proofs.is_one_malformed.Statement.{statement}
 use Rattle.change_imports.proofs.is_one_malformed.Tie as tie

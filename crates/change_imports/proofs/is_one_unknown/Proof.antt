@@ -1,6 +1,6 @@
 -- `imports::is_one_unknown` meets its contract: each test is the contrary of what `is_sds` says. Assumes nothing.
 use borrow.Author.Needs.{needs}
-use Rattle.conditions.proofs.ConditionLaws.{or-first, or-next}
+use Rattle.rules.proofs.Bools.{or-first, or-next}
 use Rattle.change_imports.proofs.ImportLaws.{unknown-is}
 use Rattle.change_imports.proofs.is_one_unknown.Statement.{statement}
 use Rattle.change_imports.proofs.is_one_unknown.Tie as tie

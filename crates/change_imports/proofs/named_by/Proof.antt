@@ -9,7 +9,8 @@ use Rattle.rules.specs.04-Schema.{present, bears, type-named}
 use Rattle.rules.specs.09-Refusals.{missing-parent}
 use Rattle.base.specs.Back.{schema-of}
 use Rattle.base.proofs.Kept.{sound-long}
-use Rattle.conditions.proofs.NameLaws.{system-stops, system-passes, name-there, name-missing, borne, not-borne}
+use Rattle.rules.proofs.NameTests.{system-stops, system-passes, name-there, name-missing}
+use Rattle.lookup.proofs.NamedLaws.{borne, not-borne}
 use Rattle.base.proofs.TestedLaws.{come-spoiled, Past, come-first, come-next, come-through}
 use Rattle.change_imports.specs.Import.{first-refusals}
 use Rattle.change_imports.proofs.ImportLaws.{idle-is, of-named}

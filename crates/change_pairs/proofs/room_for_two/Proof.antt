@@ -4,7 +4,7 @@ use native.Mathlib.Omega.{arith}
 use Prim.Native.Nat.{_<_}
 use Rattle.base.proofs.Kept.{sound-long}
 use Rattle.base.proofs.Shown.{presences-long}
-use Rattle.conditions.proofs.ConditionLaws.{new-type-is, second-type-is, room-for-two, no-room-for, no-room-for-two}
+use Rattle.lookup.proofs.FreeLaws.{new-type-is, second-type-is, room-for-two, no-room-for, no-room-for-two}
 use Rattle.base.proofs.TestedLaws.{come-first, come-next, come-through}
 use Rattle.conditions.proofs.AimedLaws.{refused-here, passed-by}
 use Rattle.change_types.proofs.CreateLaws.{numbers-short, presences-short, both-fit}

@@ -15,7 +15,7 @@ use Rattle.rules.proofs.09-Refusals.{Left, passes, stops, ends}
 use Rattle.base.specs.Back.{schema-of}
 use Rattle.lookup.proofs.SdsShown.{free-some, free-none, free-number}
 use Rattle.base.proofs.Kept.{sound-long, kept-spoiled, kept-refused, kept-done, sds-changed}
-use Rattle.conditions.proofs.NameLaws.{formed-passes, malformed-stops}
+use Rattle.rules.proofs.NameTests.{formed-passes, malformed-stops}
 use Rattle.change_sdss.proofs.Laws.{named, new-sds-effect, new-sds-left}
 use Rattle.change_sdss.proofs.new_sds.Statement.{statement}
 use Rattle.change_sdss.proofs.new_sds.Tie as tie

@@ -8,8 +8,9 @@ use Rattle.rules.specs.04-Schema.{bears}
 use Rattle.base.specs.Back.{schema-of}
 use Rattle.base.proofs.Kept.{sound-long}
 use Rattle.base.proofs.Shown.{presences-long}
-use Rattle.conditions.proofs.NameLaws.{borne, not-borne, one-taken, one-free}
-use Rattle.conditions.proofs.ConditionLaws.{new-type-is, room-for-one, no-room-for}
+use Rattle.rules.proofs.NameTests.{one-taken, one-free}
+use Rattle.lookup.proofs.NamedLaws.{borne, not-borne}
+use Rattle.lookup.proofs.FreeLaws.{new-type-is, room-for-one, no-room-for}
 use Rattle.base.proofs.TestedLaws.{Past, come-first, come-next, come-through}
 use Rattle.conditions.proofs.AimedLaws.{refused-here, passed-by}
 use Rattle.change_types.specs.Create.{room-refusals}

@@ -1,12 +1,12 @@
--- `held::end_fine` meets its contract: the tests are the fields of `Ended`; the mirror is looked for where there is a reverse.
--- Assumes nothing.
+-- `check_sds::end_fine` meets its contract: the tests are the fields of `End-fits`; the mirror is looked for where there is a
+-- reverse. Assumes nothing.
 use borrow.Author.Needs.{needs}
 use native.Mathlib.Omega.{arith}
-use mathlib.Core.Path.{_≡_, sym, _∙_}
+use mathlib.Core.Path.{sym, _∙_}
 use borrow.Author.Tests.{not-true, not-false}
 use Rattle.type_set.specs.Set.{has}
-use Rattle.lookup.proofs.KindBytes.{told-object, told-link}
-use Rattle.check_sds.proofs.HeldLaws.{row-no, row-yes, row-found, link-below, ended-no-link, ended-link-out, ended-no-object, ended-object-out, ended-alone, ended-both, ended-mirror}
+use Rattle.lookup.proofs.KindBytes.{told-object, told-link, link-below}
+use Rattle.check_sds.proofs.HeldLaws.{row-no, row-yes, row-found, ended-no-link, ended-link-out, ended-no-object, ended-object-out, ended-alone, ended-both, ended-mirror}
 use Rattle.check_sds.proofs.end_fine.Statement.{statement}
 use Rattle.check_sds.proofs.end_fine.Tie as tie
 
@@ -106,13 +106,13 @@ reverse-requires c κs =
           (c .before .before .before .before .before .before .before .before .before .before .before .if1 .left)),
     )
 
-sub-end-row : tie.Need-sub-end-row
-sub-end-row c =
+sub-end-near : tie.Need-sub-end-near
+sub-end-near c =
     let x = c .before .before .before .before .before .before .before .before .before .before .before .before .before .before .before .before in
     omega (arith, c .before .before .end-side .ensures .is, x .pre .0 .sides (x .args .i) (x .pre .1))
 
-end-row-requires : tie.Need-end-row-requires
-end-row-requires c κs =
+end-near-requires : tie.Need-end-near-requires
+end-near-requires c κs =
     let x = c .before .before .before .before .before .before .before .before .before .before .before .before .before .before .before .before in (
       (x .pre .0 .long, x .pre .0 .counted .fits),
       (
@@ -150,7 +150,7 @@ returns-6 c =
     (c .before .before .end-sds .result) (c .before .reverse .result) (c .before .before .before .end-side .result)
     (c .before .before .end-sds .ensures .is) (c .before .reverse .ensures .is) (c .before .before .before .end-side .ensures .is)
     (λ q. c .before .before .before .before .if5 .left (c .before .before .before .before .before .value .ensures .is ∙ q)))
-    (c .end-row .ensures)
+    (c .end-near .ensures)
 
 pub end-fine-spec : {M : Type 1} → statement M
 end-fine-spec =
@@ -171,6 +171,6 @@ end-fine-spec =
     end-side-requires
     end-sds-requires
     reverse-requires
-    sub-end-row
-    end-row-requires
+    sub-end-near
+    end-near-requires
     returns-6)

@@ -1,11 +1,12 @@
--- `held::type_closed` meets its contract: a type has parents or a reverse by its kind, and not both. Assumes nothing.
+-- `check_sds::type_closed` meets its contract: an object type has parents and no reverse, a paired link type a reverse and no
+-- parents, any other neither. Assumes nothing.
 use native.Mathlib.Omega.{arith}
 use borrow.Author.Needs.{needs}
-use mathlib.Core.Path.{_≡_, sym, ap, _∙_}
+use mathlib.Core.Path.{sym, ap, _∙_}
 use mathlib.Core.Bool.{true≢false}
 use Rattle.type_set.specs.Set.{has}
 use Rattle.rows.proofs.Decides.{decides-yes, decides-iff}
-use Rattle.graph.proofs.Rows.{count-few}
+use Rattle.lookup.proofs.Parents.{count-few}
 use Rattle.check_sds.proofs.HeldLaws.{closed-object, closed-parents, closed-plain, closed-designation, closed-paired, closed-reverse}
 use Rattle.check_sds.proofs.type_closed.Statement.{statement}
 use Rattle.check_sds.proofs.type_closed.Tie as tie

@@ -4,15 +4,16 @@ use Prim.Native.Nat.{ℕ, _+_, _≤_, _<_, _-_}
 use mathlib.Core.Path.{_≡_, _∙_}
 use lib.ListN.{getD}
 use borrow.Author.Count.{below-none, below-more}
+use Rattle.rules.specs.Read.{parents-offset}
 use Rattle.base.specs.Rows.{type-at}
 use Rattle.base.proofs.Kept.{sound-long}
-use Rattle.graph.proofs.Rows.{good-parental, count-few}
+use Rattle.lookup.proofs.Parents.{good-parental, count-few}
 use Rattle.conditions.proofs.ConditionLaws.{parent-here, parent-nowhere}
 use Rattle.conditions.proofs.is_parent.Statement.{statement}
 use Rattle.conditions.proofs.is_parent.Tie as tie
 
 abbrev Inv-loop : tie.InvT-loop
-Inv-loop base t a n i₀ i = (i ≤ n) × (n ≤ 4) × ((k : ℕ) → k < i → getD base (type-at t + 4 + k) 0 ≡ a → ⊥)
+Inv-loop base t a n i₀ i = (i ≤ n) × (n ≤ 4) × ((k : ℕ) → k < i → getD base (type-at t + parents-offset + k) 0 ≡ a → ⊥)
 
 abbrev μ-loop : tie.MeasureT-loop
 μ-loop base t a n i₀ i = n - i

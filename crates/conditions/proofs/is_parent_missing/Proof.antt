@@ -8,16 +8,17 @@ use lib.ListN.{getD}
 use borrow.Author.Count.{below-none, below-more}
 use borrow.Author.Tests.{not-true, not-false}
 use Rattle.rules.specs.04-Schema.{present}
+use Rattle.rules.specs.Read.{parents-offset}
 use Rattle.base.specs.Rows.{type-at}
 use Rattle.base.specs.Back.{schema-of}
 use Rattle.base.proofs.Kept.{sound-long}
-use Rattle.graph.proofs.Rows.{good-parental, count-few}
+use Rattle.lookup.proofs.Parents.{good-parental, count-few}
 use Rattle.conditions.proofs.ConditionLaws.{missing-here, missing-nowhere}
 use Rattle.conditions.proofs.is_parent_missing.Statement.{statement}
 use Rattle.conditions.proofs.is_parent_missing.Tie as tie
 
 abbrev Inv-loop : tie.InvT-loop
-Inv-loop base target t n i₀ i = (i ≤ n) × (n ≤ 4) × ((k : ℕ) → k < i → present (schema-of base) target (getD base (type-at t + 4 + k) 0) ≡ true)
+Inv-loop base target t n i₀ i = (i ≤ n) × (n ≤ 4) × ((k : ℕ) → k < i → present (schema-of base) target (getD base (type-at t + parents-offset + k) 0) ≡ true)
 
 abbrev μ-loop : tie.MeasureT-loop
 μ-loop base target t n i₀ i = n - i

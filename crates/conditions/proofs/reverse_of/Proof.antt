@@ -1,3 +1,4 @@
+-- The reverse of a type by the bytes of its row: its kind, and then its category. Assumes nothing.
 use Rattle.base.proofs.Kept.{sound-long}
 use Rattle.conditions.proofs.ReverseLaws.{no-link-no-reverse, no-reverse, its-reverse}
 use Rattle.conditions.proofs.reverse_of.Statement.{statement}

@@ -13,9 +13,6 @@ array-write-row c = search needs
 cast-row-2 : tie.Need-cast-row-2
 cast-row-2 c = search needs
 
-add-row : tie.Need-add-row
-add-row c = search needs
-
 array-write-row-2 : tie.Need-array-write-row-2
 array-write-row-2 c = search needs
 
@@ -37,7 +34,6 @@ presence-bytes-spec =
     cast-row
     array-write-row
     cast-row-2
-    add-row
     array-write-row-2
     slice-aggregate-write
     write-requires

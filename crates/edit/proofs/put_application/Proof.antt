@@ -4,7 +4,8 @@ use mathlib.Core.Path.{sym, _∙_}
 use Rattle.rules.specs.04-Schema.{Application}
 use Rattle.base.proofs.Shown.{applications-long}
 use Rattle.base.proofs.StoredLaws.{stored-long}
-use Rattle.edit.proofs.EditLaws.{the-applications, ready, row-put, application-built, application-unlike}
+use Rattle.base.proofs.Tables.{keeps-applications}
+use Rattle.edit.proofs.EditLaws.{ready, row-put, application-built, application-unlike}
 use Rattle.edit.proofs.put_application.Statement.{statement}
 use Rattle.edit.proofs.put_application.Tie as tie
 
@@ -28,7 +29,7 @@ put-in-requires c κs =
     let x = c .before .before .before .before .before in
     let row : Application = record { sds = x .args .d; to = x .args .t; attribute = x .args .a } in
     let many = c .before .before .application-count .ensures .is ∙ sym (applications-long (x .args .base .now)) in
-    ready the-applications (x .pre .0) row (x .pre .1 .1 .0) many (application-built _ _ _ (x .pre .1 .0 .1))
+    ready keeps-applications (x .pre .0) row (x .pre .1 .1 .0) many (application-built _ _ _ (x .pre .1 .0 .1))
 
 same-length : tie.Need-same-length
 same-length c = search needs
@@ -38,8 +39,8 @@ returns c =
     let x = c .before .before .before .before .before .before .before .before in
     let row : Application = record { sds = x .args .d; to = x .args .t; attribute = x .args .a } in
     let many = c .before .before .before .before .before .application-count .ensures .is ∙ sym (applications-long (x .args .base .now)) in
-    row-put the-applications (x .pre .0) row (x .pre .1 .1 .0) many (application-built _ _ _ (x .pre .1 .0 .1))
-    (x .pre .1 .0 .0) (application-unlike _ row (x .pre .1 .1 .1)) (c .before .before .put-in .ensures)
+    row-put keeps-applications (x .pre .0) row (x .pre .1 .1 .0) many (application-built _ _ _ (x .pre .1 .0 .1))
+    (x .pre .1 .0 .0) tt (application-unlike (x .pre .0 .rows) row (x .pre .1 .1 .1)) (c .before .before .put-in .ensures)
 
 pub put-application-spec : {M : Type 1} → statement M
 put-application-spec =

@@ -5,7 +5,8 @@ use Rattle.rules.specs.04-Schema.{End}
 use Rattle.rules.specs.Read.{read-side}
 use Rattle.base.proofs.Shown.{ends-long}
 use Rattle.base.proofs.StoredLaws.{stored-long}
-use Rattle.edit.proofs.EditLaws.{the-ends, ready, row-put, end-built, end-unlike}
+use Rattle.base.proofs.Tables.{keeps-ends}
+use Rattle.edit.proofs.EditLaws.{ready, row-put, end-built, end-unlike}
 use Rattle.edit.proofs.put_end.Statement.{statement}
 use Rattle.edit.proofs.put_end.Tie as tie
 
@@ -32,7 +33,7 @@ put-in-requires c κs =
     let x = c .before .before .before .before .before in
     let row : End = record { sds = x .args .d; link = x .args .l; side = read-side (x .args .side); object = x .args .o } in
     let many = c .before .before .end-count .ensures .is ∙ sym (ends-long (x .args .base .now)) in
-    ready the-ends (x .pre .0) row (x .pre .1 .1 .0) many (end-built _ _ _ _ (x .pre .1 .0 .1))
+    ready keeps-ends (x .pre .0) row (x .pre .1 .1 .0) many (end-built _ _ _ _ (x .pre .1 .0 .1))
 
 same-length : tie.Need-same-length
 same-length c = search needs
@@ -42,8 +43,8 @@ returns c =
     let x = c .before .before .before .before .before .before .before .before in
     let row : End = record { sds = x .args .d; link = x .args .l; side = read-side (x .args .side); object = x .args .o } in
     let many = c .before .before .before .before .before .end-count .ensures .is ∙ sym (ends-long (x .args .base .now)) in
-    row-put the-ends (x .pre .0) row (x .pre .1 .1 .0) many (end-built _ _ _ _ (x .pre .1 .0 .1))
-    (x .pre .1 .0 .0) (end-unlike _ row (x .pre .1 .1 .1)) (c .before .before .put-in .ensures)
+    row-put keeps-ends (x .pre .0) row (x .pre .1 .1 .0) many (end-built _ _ _ _ (x .pre .1 .0 .1))
+    (x .pre .1 .0 .0) tt (end-unlike (x .pre .0 .rows) row (x .pre .1 .1 .1)) (c .before .before .put-in .ensures)
 
 pub put-end-spec : {M : Type 1} → statement M
 put-end-spec =

@@ -5,14 +5,15 @@ use Rattle.rules.specs.04-Schema.{Presence}
 use Rattle.rules.proofs.03-Names.{formed-long}
 use Rattle.base.proofs.Shown.{presences-long}
 use Rattle.base.proofs.StoredLaws.{stored-long}
-use Rattle.edit.proofs.EditLaws.{the-presences, ready, row-put, presence-unlike}
+use Rattle.base.proofs.Tables.{keeps-presences}
+use Rattle.edit.proofs.EditLaws.{ready, row-put, presence-unlike}
 use Rattle.edit.proofs.put_presence.Statement.{statement}
 use Rattle.edit.proofs.put_presence.Tie as tie
 
 presence-bytes-requires : tie.Need-presence-bytes-requires
 presence-bytes-requires c κs =
     let x = c .before .before in
-    (x .pre .1 .0 .0, (x .pre .1 .0 .1, formed-long (x .args .name .now) (x .pre .1 .1 .0) .1))
+    (x .pre .1 .0 .1 .0, (x .pre .1 .0 .1 .1, formed-long (x .args .name .now) (x .pre .1 .1 .0) .1))
 
 presence-count-requires : tie.Need-presence-count-requires
 presence-count-requires c κs = stored-long (c .before .before .before .before .pre .0)
@@ -26,7 +27,7 @@ put-in-requires c κs =
     let x = bytes .before .before .before in
     let row : Presence = record { sds = x .args .d; name = x .args .name .now; type = x .args .t } in
     let many = c .before .before .presence-count .ensures .is ∙ sym (presences-long (x .args .base .now)) in
-    ready the-presences (x .pre .0) row (x .pre .1 .1 .1 .0) many (bytes .presence-bytes .ensures)
+    ready keeps-presences (x .pre .0) row (x .pre .1 .1 .1 .0) many (bytes .presence-bytes .ensures)
 
 same-length : tie.Need-same-length
 same-length c = search needs
@@ -38,8 +39,8 @@ returns c =
     let row : Presence = record { sds = x .args .d; name = x .args .name .now; type = x .args .t } in
     let many = c .before .before .before .before .before .presence-count .ensures .is ∙ sym (presences-long (x .args .base .now)) in
     let named = x .pre .1 .1 .0 in
-    row-put the-presences (x .pre .0) row (x .pre .1 .1 .1 .0) many (bytes .presence-bytes .ensures)
-    named (presence-unlike (x .pre .0 .rows) row named (x .pre .1 .1 .1 .1)) (c .before .before .put-in .ensures)
+    row-put keeps-presences (x .pre .0) row (x .pre .1 .1 .1 .0) many (bytes .presence-bytes .ensures)
+    (x .pre .1 .0 .0) named (presence-unlike (x .pre .0 .rows) row named (x .pre .1 .1 .1 .1)) (c .before .before .put-in .ensures)
 
 pub put-presence-spec : {M : Type 1} → statement M
 put-presence-spec =

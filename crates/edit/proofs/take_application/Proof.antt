@@ -4,7 +4,8 @@ use native.Mathlib.Omega.{arith}
 use mathlib.Core.Path.{sym, _∙_}
 use Rattle.base.proofs.Shown.{applications-long}
 use Rattle.base.proofs.StoredLaws.{stored-long}
-use Rattle.edit.proofs.EditLaws.{the-applications, row-taken}
+use Rattle.base.proofs.Tables.{keeps-applications}
+use Rattle.edit.proofs.EditLaws.{row-taken}
 use Rattle.edit.proofs.take_application.Statement.{statement}
 use Rattle.edit.proofs.take_application.Tie as tie
 
@@ -33,7 +34,7 @@ returns : tie.Need-returns
 returns c =
     let x = c .before .before .before .before .before .before .before in
     let many = c .before .before .before .before .application-count .ensures .is ∙ sym (applications-long (x .args .base .now)) in
-    row-taken the-applications (x .pre .0) many (x .args .i) (omega arith) (c .before .before .take-row .ensures)
+    row-taken keeps-applications (x .pre .0) many (x .args .i) (omega arith) (c .before .before .take-row .ensures)
 
 pub take-application-spec : {M : Type 1} → statement M
 take-application-spec =

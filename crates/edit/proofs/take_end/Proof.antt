@@ -4,7 +4,8 @@ use native.Mathlib.Omega.{arith}
 use mathlib.Core.Path.{sym, _∙_}
 use Rattle.base.proofs.Shown.{ends-long}
 use Rattle.base.proofs.StoredLaws.{stored-long}
-use Rattle.edit.proofs.EditLaws.{the-ends, row-taken}
+use Rattle.base.proofs.Tables.{keeps-ends}
+use Rattle.edit.proofs.EditLaws.{row-taken}
 use Rattle.edit.proofs.take_end.Statement.{statement}
 use Rattle.edit.proofs.take_end.Tie as tie
 
@@ -33,7 +34,7 @@ returns : tie.Need-returns
 returns c =
     let x = c .before .before .before .before .before .before .before in
     let many = c .before .before .before .before .end-count .ensures .is ∙ sym (ends-long (x .args .base .now)) in
-    row-taken the-ends (x .pre .0) many (x .args .i) (omega arith) (c .before .before .take-row .ensures)
+    row-taken keeps-ends (x .pre .0) many (x .args .i) (omega arith) (c .before .before .take-row .ensures)
 
 pub take-end-spec : {M : Type 1} → statement M
 take-end-spec =

@@ -4,7 +4,8 @@ use native.Mathlib.Omega.{arith}
 use mathlib.Core.Path.{sym, _∙_}
 use Rattle.base.proofs.Shown.{presences-long}
 use Rattle.base.proofs.StoredLaws.{stored-long}
-use Rattle.edit.proofs.EditLaws.{the-presences, row-taken}
+use Rattle.base.proofs.Tables.{keeps-presences}
+use Rattle.edit.proofs.EditLaws.{row-taken}
 use Rattle.edit.proofs.take_presence.Statement.{statement}
 use Rattle.edit.proofs.take_presence.Tie as tie
 
@@ -33,7 +34,7 @@ returns : tie.Need-returns
 returns c =
     let x = c .before .before .before .before .before .before .before in
     let many = c .before .before .before .before .presence-count .ensures .is ∙ sym (presences-long (x .args .base .now)) in
-    row-taken the-presences (x .pre .0) many (x .args .i) (omega arith) (c .before .before .take-row .ensures)
+    row-taken keeps-presences (x .pre .0) many (x .args .i) (omega arith) (c .before .before .take-row .ensures)
 
 pub take-presence-spec : {M : Type 1} → statement M
 take-presence-spec =

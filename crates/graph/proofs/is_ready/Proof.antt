@@ -7,16 +7,17 @@ use native.Mathlib.Omega.{arith}
 use lib.ListN.{getD}
 use borrow.Author.Count.{below-none, below-more}
 use borrow.Author.Tests.{not-true, not-false}
+use Rattle.rules.specs.Read.{parents-offset}
 use Rattle.rows.proofs.Decides.{decides-no, decides-yes}
 use Rattle.base.specs.Rows.{type-at}
 use Rattle.type_set.specs.Set.{has}
-use Rattle.graph.proofs.Rows.{count-few, parent-at, parent-below}
+use Rattle.lookup.proofs.Parents.{count-few, parent-at, parent-below}
 use Rattle.graph.proofs.Laws.{lacks-parent, has-parents}
 use Rattle.graph.proofs.is_ready.Statement.{statement}
 use Rattle.graph.proofs.is_ready.Tie as tie
 
 abbrev Inv-loop : tie.InvT-loop
-Inv-loop base t s n i₀ i = (i ≤ n) × (n ≤ 4) × ((k : ℕ) → k < i → has s (getD base (type-at t + 4 + k) 0) ≡ true)
+Inv-loop base t s n i₀ i = (i ≤ n) × (n ≤ 4) × ((k : ℕ) → k < i → has s (getD base (type-at t + parents-offset + k) 0) ≡ true)
 
 abbrev μ-loop : tie.MeasureT-loop
 μ-loop base t s n i₀ i = n - i

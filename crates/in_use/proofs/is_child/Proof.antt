@@ -1,21 +1,23 @@
--- `uses::is_child` meets its contract. Assumes nothing.
+-- `in_use::is_child` meets its contract: a row of another SDS fails; of this one, whether t is a parent of its type decides.
+-- Assumes nothing.
 use native.Mathlib.Omega.{arith}
 use Prim.Native.Nat.{ℕ}
 use mathlib.Core.Path.{ap, _∙_}
 use lib.ListN.{drop}
 use Rattle.rules.specs.04-Schema.{is-parent}
-use Rattle.rows.proofs.Rows.{filled-most}
+use Rattle.base.specs.Tables.{presences}
+use Rattle.base.proofs.Back.{rows-few}
 use Rattle.base.specs.Back.{schema-of}
 use Rattle.base.proofs.Kept.{sound-long}
-use Rattle.visible.proofs.ShownLaws.{presence-small}
-use Rattle.conditions.proofs.ConditionLaws.{differs, agrees}
+use Rattle.lookup.proofs.RowBytes.{presence-small}
+use Rattle.rules.proofs.Bools.{differs, agrees}
 use Rattle.in_use.proofs.is_child.Statement.{statement}
 use Rattle.in_use.proofs.is_child.Tie as tie
 
 presence-sds-requires : tie.Need-presence-sds-requires
 presence-sds-requires c κs =
     let x = c .before in
-    (sound-long (x .pre .0), omega (arith, x .pre .1, filled-most 18 1 512 (drop 1280 (x .args .base .now))))
+    (sound-long (x .pre .0), omega (arith, x .pre .1, rows-few presences (x .args .base .now)))
 
 returns : tie.Need-returns
 returns c = differs _ _ (c .before .presence-sds .ensures .is) (c .if1 .taken)
@@ -23,7 +25,7 @@ returns c = differs _ _ (c .before .presence-sds .ensures .is) (c .if1 .taken)
 presence-type-requires : tie.Need-presence-type-requires
 presence-type-requires c κs =
     let x = c .before .before .before in
-    (sound-long (x .pre .0), omega (arith, x .pre .1, filled-most 18 1 512 (drop 1280 (x .args .base .now))))
+    (sound-long (x .pre .0), omega (arith, x .pre .1, rows-few presences (x .args .base .now)))
 
 is-parent-requires : tie.Need-is-parent-requires
 is-parent-requires c κs =

@@ -6,7 +6,7 @@ use native.Mathlib.Omega.{arith}
 use lib.Dec.{eqb}
 use Rattle.base.specs.Back.{schema-of}
 use Rattle.type_set.specs.Set.{has}
-use Rattle.graph.proofs.Rows.{count-few, parent-at, parent-below}
+use Rattle.lookup.proofs.Parents.{count-few, parent-at, parent-below}
 use Rattle.kin.proofs.KinLaws.{Adds, adds-none, adds-more, adds-all}
 use Rattle.kin.proofs.add_parents.Statement.{statement}
 use Rattle.kin.proofs.add_parents.Tie as tie

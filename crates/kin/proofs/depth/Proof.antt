@@ -8,7 +8,7 @@ use Rattle.rules.specs.05-Descent.{depth, members}
 use Rattle.base.specs.Back.{schema-of}
 use Rattle.base.proofs.Back.{sound-good}
 use Rattle.type_set.specs.Set.{has}
-use Rattle.graph.proofs.Rows.{good-parental, object-below}
+use Rattle.lookup.proofs.Parents.{good-parental, object-below}
 use Rattle.kin.proofs.KinLaws.{has-below}
 use Rattle.kin.proofs.DepthLaws.{Level, level-none, level-more, level-some, level-last, depth-small}
 use Rattle.kin.proofs.depth.Statement.{statement}

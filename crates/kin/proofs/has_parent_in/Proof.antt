@@ -4,7 +4,7 @@ use mathlib.Core.Path.{sym, ap, _∙_}
 use native.Mathlib.Omega.{arith}
 use Rattle.base.specs.Back.{schema-of}
 use Rattle.type_set.specs.Set.{has}
-use Rattle.graph.proofs.Rows.{count-few, parent-at, parent-below}
+use Rattle.lookup.proofs.Parents.{count-few, parent-at, parent-below}
 use Rattle.kin.proofs.KinLaws.{Finds, finds-none, finds-here, finds-more, finds-all}
 use Rattle.kin.proofs.has_parent_in.Statement.{statement}
 use Rattle.kin.proofs.has_parent_in.Tie as tie

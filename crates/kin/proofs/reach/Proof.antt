@@ -9,7 +9,7 @@ use Rattle.rules.proofs.05-Descent.{members-most}
 use Rattle.base.specs.Back.{schema-of}
 use Rattle.base.proofs.Back.{sound-good}
 use Rattle.type_set.specs.Set.{has}
-use Rattle.graph.proofs.Rows.{good-parental}
+use Rattle.lookup.proofs.Parents.{good-parental}
 use Rattle.kin.proofs.KinLaws.{near, Growing, has-below, stepped, growing-none, growing-more, growing-all}
 use Rattle.kin.proofs.reach.Statement.{statement}
 use Rattle.kin.proofs.reach.Tie as tie

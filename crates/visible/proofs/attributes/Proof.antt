@@ -1,3 +1,5 @@
+-- `visible::attributes` meets its contract: the loop keeps that the set has the attribute types of the rows passed that
+-- `is_applied` tells, and no others. Assumes nothing.
 use borrow.Author.Needs.{needs}
 use Prim.Native.Nat.{ℕ, _+_, _-_, _≤_}
 use native.Mathlib.Omega.{arith}
@@ -6,19 +8,20 @@ use mathlib.Core.Logic.{⊎-elim}
 use mathlib.Core.Bool.{_&&_, _||_}
 use lib.Dec.{eqb}
 use lib.ListN.{getD}
-use Rattle.rules.specs.04-Schema.{side-code}
-use Rattle.base.specs.Rows.{presence-at, application-at, end-at}
+use Rattle.rules.specs.Read.{attribute-offset, to-offset}
+use Rattle.base.specs.Rows.{application-at}
 use Rattle.base.specs.Back.{application-count}
 use Rattle.base.proofs.Kept.{sound-long}
 use Rattle.type_set.specs.declared.TypeSet.{TypeSet}
 use Rattle.type_set.specs.Set.{has}
-use Rattle.visible.proofs.ShownLaws.{Gathers, gathers-none, gathers-more, gathers-skip, application-small, all-applications}
+use Rattle.visible.proofs.ShownLaws.{Gathers, gathers-none, gathers-more, gathers-skip, all-applications}
+use Rattle.lookup.proofs.RowBytes.{application-small}
 use Rattle.visible.proofs.attributes.Statement.{statement}
 use Rattle.visible.proofs.attributes.Tie as tie
 
 abbrev Inv-loop : tie.InvT-loop
 Inv-loop base sdss types n r₀ i₀ r i = (i ≤ n) × Gathers i (λ j. has sdss (getD base (application-at j) 0) && has types
-    (getD base (application-at j + 1) 0)) (λ j. getD base (application-at j + 2) 0) (has r)
+    (getD base (application-at j + to-offset) 0)) (λ j. getD base (application-at j + attribute-offset) 0) (has r)
 
 abbrev μ-loop : tie.MeasureT-loop
 μ-loop base sdss types n r₀ i₀ r i = n - i

@@ -1,18 +1,13 @@
+-- `visible::is_end_at` meets its contract: `is_end` and the test of the object type are the two that the promise joins.
+-- Assumes nothing.
 use borrow.Author.Needs.{needs}
-use Prim.Native.Nat.{ℕ, _+_, _-_, _≤_}
+use Prim.Native.Nat.{_-_}
 use native.Mathlib.Omega.{arith}
-use mathlib.Core.Path.{_≡_, sym, ap, _∙_}
-use mathlib.Core.Logic.{⊎-elim}
-use mathlib.Core.Bool.{_&&_}
-use lib.Dec.{eqb}
-use lib.ListN.{getD}
-use Rattle.rules.specs.04-Schema.{side-code}
-use Rattle.base.specs.Rows.{presence-at, application-at, end-at}
-use Rattle.base.specs.Back.{application-shown, end-shown}
+use mathlib.Core.Path.{ap, _∙_}
 use Rattle.base.proofs.Kept.{sound-long}
-use Rattle.type_set.specs.declared.TypeSet.{TypeSet}
 use Rattle.type_set.specs.Set.{has}
-use Rattle.visible.proofs.ShownLaws.{few-ends, end-small, fails-first, passes-first}
+use Rattle.visible.proofs.ShownLaws.{fails-first, passes-first}
+use Rattle.lookup.proofs.RowBytes.{few-ends, end-small}
 use Rattle.visible.proofs.is_end_at.Statement.{statement}
 use Rattle.visible.proofs.is_end_at.Tie as tie
 

@@ -1,23 +1,26 @@
+-- `visible::visible` meets its contract: the loop keeps that the set has the types of the presences passed that are in these
+-- SDSs, and no others. Assumes nothing.
 use borrow.Author.Needs.{needs}
 use Prim.Native.Nat.{ℕ, _+_, _-_, _≤_}
 use native.Mathlib.Omega.{arith}
 use mathlib.Core.Path.{_≡_, sym, ap, _∙_}
 use mathlib.Core.Logic.{⊎-elim}
-use mathlib.Core.Bool.{_&&_, _||_}
+use mathlib.Core.Bool.{_||_}
 use lib.Dec.{eqb}
 use lib.ListN.{getD}
-use Rattle.rules.specs.04-Schema.{side-code}
-use Rattle.base.specs.Rows.{presence-at, application-at, end-at}
+use Rattle.rules.specs.Read.{type-offset}
+use Rattle.base.specs.Rows.{presence-at}
 use Rattle.base.specs.Back.{presence-count}
 use Rattle.base.proofs.Kept.{sound-long}
 use Rattle.type_set.specs.declared.TypeSet.{TypeSet}
 use Rattle.type_set.specs.Set.{has}
-use Rattle.visible.proofs.ShownLaws.{Gathers, gathers-none, gathers-more, gathers-skip, presence-small, all-presences}
+use Rattle.visible.proofs.ShownLaws.{Gathers, gathers-none, gathers-more, gathers-skip, all-presences}
+use Rattle.lookup.proofs.RowBytes.{presence-small}
 use Rattle.visible.proofs.visible.Statement.{statement}
 use Rattle.visible.proofs.visible.Tie as tie
 
 abbrev Inv-loop : tie.InvT-loop
-Inv-loop base sdss n r₀ i₀ r i = (i ≤ n) × Gathers i (λ j. has sdss (getD base (presence-at j) 0)) (λ j. getD base (presence-at j + 17) 0) (has r)
+Inv-loop base sdss n r₀ i₀ r i = (i ≤ n) × Gathers i (λ j. has sdss (getD base (presence-at j) 0)) (λ j. getD base (presence-at j + type-offset) 0) (has r)
 
 abbrev μ-loop : tie.MeasureT-loop
 μ-loop base sdss n r₀ i₀ r i = n - i

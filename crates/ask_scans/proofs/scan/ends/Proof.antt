@@ -1,12 +1,7 @@
+-- `ask_scans::scan::ends` meets its contract: half the code is the side, on which the ends are gathered; an odd code, "all", adds
+-- the descendants of these. Assumes nothing.
 use borrow.Author.Needs.{needs}
-use Prim.Native.Nat.{ℕ, _<_}
-use native.Mathlib.Omega.{arith}
-use mathlib.Core.Path.{_≡_, refl, sym, ap, _∙_}
-use mathlib.Core.Bool.{_||_, or-false}
-use lib.Dec.{eqb}
-use Rattle.graph.proofs.Rows.{good-parental}
 use Rattle.type_set.specs.Set.{has}
-use Rattle.type_set.proofs.Set.{has-past}
 use Rattle.ask_scans.proofs.ScanLaws.{end-scans, end-all-scans}
 use Rattle.ask_scans.proofs.scan.ends.Statement.{statement}
 use Rattle.ask_scans.proofs.scan.ends.Tie as tie

@@ -1,12 +1,6 @@
-use borrow.Author.Needs.{needs}
-use Prim.Native.Nat.{ℕ, _<_}
+-- `ask_scans::scan::had` meets its contract: an even code has the type for its source, the next one, "all", its ancestors too;
+-- what is gathered over the sources is the scan. Assumes nothing.
 use native.Mathlib.Omega.{arith}
-use mathlib.Core.Path.{_≡_, refl, sym, ap, _∙_}
-use mathlib.Core.Bool.{_||_, or-false}
-use lib.Dec.{eqb}
-use Rattle.graph.proofs.Rows.{good-parental}
-use Rattle.type_set.specs.Set.{has}
-use Rattle.type_set.proofs.Set.{has-past}
 use Rattle.ask_scans.proofs.ScanLaws.{attribute-scans, origin-scans, destination-scans}
 use Rattle.ask_scans.proofs.scan.had.Statement.{statement}
 use Rattle.ask_scans.proofs.scan.had.Tie as tie

@@ -1,12 +1,8 @@
-use borrow.Author.Needs.{needs}
-use Prim.Native.Nat.{ℕ, _<_}
+-- `ask_scans::scan::kin` meets its contract: the children, descendants, parents and ancestors of a set of one type are those of
+-- the type, code by code. Assumes nothing.
 use native.Mathlib.Omega.{arith}
-use mathlib.Core.Path.{_≡_, refl, sym, ap, _∙_}
-use mathlib.Core.Bool.{_||_, or-false}
-use lib.Dec.{eqb}
-use Rattle.graph.proofs.Rows.{good-parental}
-use Rattle.type_set.specs.Set.{has}
-use Rattle.type_set.proofs.Set.{has-past}
+use mathlib.Core.Path.{_≡_, _∙_}
+use Rattle.lookup.proofs.Parents.{good-parental}
 use Rattle.ask_scans.proofs.ScanLaws.{child-scan, descendant-scan, parent-scan, ancestor-scan}
 use Rattle.ask_scans.proofs.scan.kin.Statement.{statement}
 use Rattle.ask_scans.proofs.scan.kin.Tie as tie

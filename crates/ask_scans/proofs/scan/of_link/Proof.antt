@@ -1,12 +1,8 @@
+-- `ask_scans::scan::of_link` meets its contract: below code 4 it is what `ends` tells; only code 4 is left, the attribute types
+-- that are applied to the one type. Assumes nothing.
 use borrow.Author.Needs.{needs}
-use Prim.Native.Nat.{ℕ, _<_}
 use native.Mathlib.Omega.{arith}
-use mathlib.Core.Path.{_≡_, refl, sym, ap, _∙_}
-use mathlib.Core.Bool.{_||_, or-false}
-use lib.Dec.{eqb}
-use Rattle.graph.proofs.Rows.{good-parental}
-use Rattle.type_set.specs.Set.{has}
-use Rattle.type_set.proofs.Set.{has-past}
+use mathlib.Core.Path.{_≡_}
 use Rattle.ask_scans.proofs.ScanLaws.{one-among, applied-scan}
 use Rattle.ask_scans.proofs.scan.of_link.Statement.{statement}
 use Rattle.ask_scans.proofs.scan.of_link.Tie as tie

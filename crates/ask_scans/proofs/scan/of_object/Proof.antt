@@ -1,12 +1,6 @@
+-- `ask_scans::scan::of_object` meets its contract: below code 4 it is what `kin` tells, under any working schema; from code 4 on
+-- it is what `had` tells. Assumes nothing.
 use borrow.Author.Needs.{needs}
-use Prim.Native.Nat.{ℕ, _<_}
-use native.Mathlib.Omega.{arith}
-use mathlib.Core.Path.{_≡_, refl, sym, ap, _∙_}
-use mathlib.Core.Bool.{_||_, or-false}
-use lib.Dec.{eqb}
-use Rattle.graph.proofs.Rows.{good-parental}
-use Rattle.type_set.specs.Set.{has}
-use Rattle.type_set.proofs.Set.{has-past}
 use Rattle.ask_scans.proofs.scan.of_object.Statement.{statement}
 use Rattle.ask_scans.proofs.scan.of_object.Tie as tie
 

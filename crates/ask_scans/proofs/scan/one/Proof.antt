@@ -1,12 +1,8 @@
+-- `ask_scans::scan::one` meets its contract: what is added to the empty set is all that it has. Assumes nothing.
 use borrow.Author.Needs.{needs}
-use Prim.Native.Nat.{ℕ, _<_}
-use native.Mathlib.Omega.{arith}
-use mathlib.Core.Path.{_≡_, refl, sym, ap, _∙_}
+use mathlib.Core.Path.{ap, _∙_}
 use mathlib.Core.Bool.{_||_, or-false}
 use lib.Dec.{eqb}
-use Rattle.graph.proofs.Rows.{good-parental}
-use Rattle.type_set.specs.Set.{has}
-use Rattle.type_set.proofs.Set.{has-past}
 use Rattle.ask_scans.proofs.scan.one.Statement.{statement}
 use Rattle.ask_scans.proofs.scan.one.Tie as tie
 

@@ -1,10 +1,6 @@
+-- `ask_scans::scan::sources` meets its contract: without "all" the type is alone; with it the set of one type is joined with its
+-- ancestors, none of which is past the last type. Assumes nothing.
 use borrow.Author.Needs.{needs}
-use Prim.Native.Nat.{ℕ, _<_}
-use native.Mathlib.Omega.{arith}
-use mathlib.Core.Path.{_≡_, refl, sym, ap, _∙_}
-use mathlib.Core.Bool.{_||_, or-false}
-use lib.Dec.{eqb}
-use Rattle.graph.proofs.Rows.{good-parental}
 use Rattle.base.specs.Back.{schema-of}
 use Rattle.type_set.specs.Set.{has}
 use Rattle.type_set.proofs.Set.{has-past}

@@ -2,6 +2,8 @@
 use native.Mathlib.Omega.{arith}
 use borrow.Author.Needs.{needs}
 use Rattle.rows.proofs.Scan.{rising-level}
+use Rattle.rules.specs.Read.{attribute-offset}
+use Rattle.base.specs.Tables.{applications}
 use Rattle.base.proofs.split.applications_past.Statement.{statement}
 use Rattle.base.proofs.split.applications_past.Tie as tie
 
@@ -14,7 +16,7 @@ past-requires c κs =
         (omega arith, (omega arith, omega arith)),
         (
           x .pre .1 .1,
-          rising-level (x .args .base .now) 10496 3 2 (x .args .n) (λ k h. omega arith) (x .pre .1 .0),
+          rising-level (x .args .base .now) (applications .start) (applications .width) attribute-offset (x .args .n) (λ k h. omega arith) (x .pre .1 .0),
         ),
       ),
     )

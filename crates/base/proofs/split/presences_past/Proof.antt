@@ -2,6 +2,8 @@
 use native.Mathlib.Omega.{arith}
 use borrow.Author.Needs.{needs}
 use Rattle.rows.proofs.Scan.{rising-level}
+use Rattle.rules.specs.02-Limits.{limits}
+use Rattle.base.specs.Tables.{presences}
 use Rattle.base.proofs.split.presences_past.Statement.{statement}
 use Rattle.base.proofs.split.presences_past.Tie as tie
 
@@ -14,7 +16,7 @@ past-requires c κs =
         (omega arith, (omega arith, omega arith)),
         (
           x .pre .1 .1,
-          rising-level (x .args .base .now) 1280 18 16 (x .args .n) (λ k h. omega arith) (x .pre .1 .0),
+          rising-level (x .args .base .now) (presences .start) (presences .width) (limits .name) (x .args .n) (λ k h. omega arith) (x .pre .1 .0),
         ),
       ),
     )

@@ -41,7 +41,7 @@ put-presence-requires c κs =
     let there = row-there s found _ (th .there) (th .named) in (
       shows-stored out,
       (
-        (omega (arith, th .aim .below), omega (arith, th .below)),
+        (th .aim .outside, (omega (arith, th .aim .below), omega (arith, th .below))),
         (th .formed, (room-then s found there out, name-free s found there out _ (th .free))),
       ),
     )

@@ -1,10 +1,12 @@
--- `tables::named::alone_after` meets its contract: each field passed has another name. Assumes nothing.
+-- `check_rows::named::alone_after` meets its contract: the loop keeps that each field passed behind d has another name.
+-- Assumes nothing.
 use borrow.Author.Needs.{needs}
 use Prim.Native.Nat.{ℕ, _≤_, _<_, _-_}
 use native.Mathlib.Omega.{arith}
 use mathlib.Core.Path.{_≡_, sym, ap₂, _∙_}
 use mathlib.Core.Bool.{true, true≢false}
 use borrow.Author.Count.{below-more}
+use Rattle.rules.specs.02-Limits.{limits}
 use Rattle.rules.specs.03-Names.{same-name}
 use Rattle.rows.specs.Rows.{part}
 use Rattle.rows.proofs.Decides.{decides-yes, decides-no}
@@ -13,7 +15,7 @@ use Rattle.check_rows.proofs.named.alone_after.Statement.{statement}
 use Rattle.check_rows.proofs.named.alone_after.Tie as tie
 
 abbrev Inv-loop : tie.InvT-loop
-Inv-loop base d e₀ e = (d < e) × (e ≤ 16) × ((k : ℕ) → k < e → d < k → same-name (part base (sds-at d) 16) (part base (sds-at k) 16) ≡ true → ⊥)
+Inv-loop base d e₀ e = (d < e) × (e ≤ 16) × ((k : ℕ) → k < e → d < k → same-name (part base (sds-at d) (limits .name)) (part base (sds-at k) (limits .name)) ≡ true → ⊥)
 
 abbrev μ-loop : tie.MeasureT-loop
 μ-loop base d e₀ e = 16 - e

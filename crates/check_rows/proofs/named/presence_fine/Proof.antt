@@ -1,4 +1,4 @@
--- `tables::named::presence_fine` meets its contract: the tests are the fields of `Row-named`. Assumes nothing.
+-- `check_rows::named::presence_fine` meets its contract: the tests are the fields of `Row-named`. Assumes nothing.
 use borrow.Author.Needs.{needs}
 use native.Mathlib.Omega.{arith}
 use Prim.Native.Nat.{ℕ, _+_}
@@ -6,7 +6,9 @@ use mathlib.Core.Path.{sym, ap, _∙_}
 use mathlib.Core.Bool.{true≢false}
 use lib.ListN.{length}
 use borrow.Author.Tests.{not-true, not-false}
+use Rattle.rules.specs.02-Limits.{limits}
 use Rattle.rules.specs.04-Schema.{used-sds, kind-of, is-used}
+use Rattle.rules.specs.Read.{name-offset}
 use Rattle.name_fields.specs.Field.{name-field}
 use Rattle.rows.proofs.Decides.{decides-no}
 use Rattle.rows.proofs.Scan.{length-part}
@@ -21,7 +23,7 @@ presence-field-requires c κs = search needs
 is-name-field-requires : tie.Need-is-name-field-requires
 is-name-field-requires c κs =
     let x = c .before .before in
-    ap length (c .presence-field .ensures) ∙ length-part (x .args .base .now) (presence-at (x .args .i) + 1) 16 (omega (arith, x .pre .0, x .pre .1))
+    ap length (c .presence-field .ensures) ∙ length-part (x .args .base .now) (presence-at (x .args .i) + name-offset) (limits .name) (omega (arith, x .pre .0, x .pre .1))
 
 returns : tie.Need-returns
 returns c =

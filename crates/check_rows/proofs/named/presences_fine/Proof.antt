@@ -1,4 +1,5 @@
--- `tables::named::presences_fine` meets its contract: the tests find what `Presences` asks. Assumes nothing.
+-- `check_rows::named::presences_fine` meets its contract: the tests, with the count of used rows, find what `Presences-fine` asks
+-- and nothing else. Assumes nothing.
 use borrow.Author.Needs.{needs}
 use borrow.Author.Tests.{not-true, not-false}
 use Rattle.rows.proofs.Decides.{decides-no}
@@ -44,7 +45,8 @@ returns-4 c =
     let n = c .before .before .before .before .before .before .before in
     let long = n .before .before .pre in record {
       holds = λ e. found-presences (n .before .before .args .base .now) long (n .presence-count .ensures) (record {
-        rows = c .before .before .before .before .before .before .presence-rows-fine .ensures .holds (not-false _ (c .before .before .before .before .before .if1 .left));
+        rows = c .before .before .before .before .before .before .presence-rows-fine .ensures .holds
+            (not-false _ (c .before .before .before .before .before .if1 .left));
         rest = c .before .before .before .before .no-presence-from .ensures .holds (not-false _ (c .before .before .before .if2 .left));
         rise = c .before .before .presences-rise .ensures .holds (not-false _ (c .before .if3 .left));
         system = c .system-first .ensures .holds e;

@@ -1,8 +1,9 @@
--- `tables::named::sds_field_fine` meets its contract: a field is blank, or holds a name. Assumes nothing.
+-- `check_rows::named::sds_field_fine` meets its contract: a field is blank, or holds a name. Assumes nothing.
 use borrow.Author.Needs.{needs}
 use native.Mathlib.Omega.{arith}
 use mathlib.Core.Path.{sym, ap, _∙_}
 use lib.ListN.{length}
+use Rattle.rules.specs.02-Limits.{limits}
 use Rattle.name_fields.specs.Field.{name-field, blank-field}
 use Rattle.rows.specs.Rows.{part}
 use Rattle.rows.proofs.Scan.{length-part}
@@ -20,7 +21,7 @@ is-blank-field-requires c κs = search needs
 returns : tie.Need-returns
 returns c =
     let x = c .before .before .before .before in
-    fine-blank (part (x .args .base .now) (sds-at (x .args .d)) 16) (ap blank-field (sym (c .before .before .sds-field .ensures)) ∙ sym
+    fine-blank (part (x .args .base .now) (sds-at (x .args .d)) (limits .name)) (ap blank-field (sym (c .before .before .sds-field .ensures)) ∙ sym
     (c .before .is-blank-field .ensures) ∙ c .if1 .taken)
 
 sds-field-requires-2 : tie.Need-sds-field-requires-2
@@ -29,12 +30,12 @@ sds-field-requires-2 c κs = search needs
 is-name-field-requires : tie.Need-is-name-field-requires
 is-name-field-requires c κs =
     let x = c .before .before .before .before .before in
-    ap length (c .sds-field2 .ensures) ∙ length-part (x .args .base .now) (sds-at (x .args .d)) 16 (omega (arith, x .pre .0))
+    ap length (c .sds-field2 .ensures) ∙ length-part (x .args .base .now) (sds-at (x .args .d)) (limits .name) (omega (arith, x .pre .0))
 
 returns-2 : tie.Need-returns-2
 returns-2 c =
     let x = c .before .before .before .before .before .before in
-    fine-name (part (x .args .base .now) (sds-at (x .args .d)) 16) (c .is-name-field .result)
+    fine-name (part (x .args .base .now) (sds-at (x .args .d)) (limits .name)) (c .is-name-field .result)
     (ap blank-field (sym (c .before .before .before .before .sds-field .ensures)) ∙ sym (c .before .before .before .is-blank-field .ensures) ∙ c .before .before .if1 .left)
     (c .is-name-field .ensures ∙ ap name-field (c .before .sds-field2 .ensures))
 

@@ -1,16 +1,17 @@
--- `tables::rest::sides_fine` meets its contract: each side passed is 0 or 1. Assumes nothing.
+-- `check_rows::rest::sides_fine` meets its contract: the loop keeps that each side passed is 0 or 1. Assumes nothing.
 use borrow.Author.Needs.{needs}
 use Prim.Native.Nat.{ℕ, _+_, _≤_, _<_, _-_}
 use native.Mathlib.Omega.{arith}
 use lib.ListN.{getD}
 use borrow.Author.Count.{below-none, below-more}
+use Rattle.rules.specs.Read.{side-offset}
 use Rattle.rows.proofs.Decides.{decides-yes, decides-no}
 use Rattle.base.specs.Rows.{end-at}
 use Rattle.check_rows.proofs.rest.sides_fine.Statement.{statement}
 use Rattle.check_rows.proofs.rest.sides_fine.Tie as tie
 
 abbrev Inv-loop : tie.InvT-loop
-Inv-loop base n i₀ i = (i ≤ n) × ((k : ℕ) → k < i → getD base (end-at k + 2) 0 ≤ 1)
+Inv-loop base n i₀ i = (i ≤ n) × ((k : ℕ) → k < i → getD base (end-at k + side-offset) 0 ≤ 1)
 
 abbrev μ-loop : tie.MeasureT-loop
 μ-loop base n i₀ i = n - i

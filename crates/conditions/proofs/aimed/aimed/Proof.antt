@@ -7,7 +7,7 @@ use Rattle.rules.specs.09-Refusals.{malformed}
 use Rattle.base.specs.Back.{schema-of}
 use Rattle.base.proofs.TestedLaws.{Past, come-next, come-stops, come-through, tested-first}
 use Rattle.conditions.specs.Aimed.{aim-refusals}
-use Rattle.conditions.proofs.NameLaws.{formed-passes, malformed-stops}
+use Rattle.rules.proofs.NameTests.{formed-passes, malformed-stops}
 use Rattle.conditions.proofs.AimedLaws.{come-on}
 use Rattle.conditions.proofs.aimed.aimed.Statement.{statement}
 use Rattle.conditions.proofs.aimed.aimed.Tie as tie

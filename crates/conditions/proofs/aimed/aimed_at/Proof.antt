@@ -7,7 +7,7 @@ use Rattle.base.proofs.Kept.{sound-long}
 use Rattle.base.proofs.TestedLaws.{come-spoiled, Past, come-first, come-next, come-stops, come-through}
 use Rattle.lookup.proofs.SdsShown.{known, unknown}
 use Rattle.conditions.specs.Aimed.{sds-refusals}
-use Rattle.conditions.proofs.NameLaws.{system-stops, system-passes}
+use Rattle.rules.proofs.NameTests.{system-stops, system-passes}
 use Rattle.conditions.proofs.aimed.aimed_at.Statement.{statement}
 use Rattle.conditions.proofs.aimed.aimed_at.Tie as tie
 

@@ -1,7 +1,8 @@
 -- Whether a new name of two is taken: the first, the second, or one by the other. Assumes nothing.
 use borrow.Author.Needs.{needs}
 use mathlib.Core.Path.{sym, _∙_}
-use Rattle.conditions.proofs.NameLaws.{borne, not-borne, first-taken, second-taken, two-as-told}
+use Rattle.rules.proofs.NameTests.{first-taken, second-taken, two-as-told}
+use Rattle.lookup.proofs.NamedLaws.{borne, not-borne}
 use Rattle.conditions.proofs.aimed.are_taken.Statement.{statement}
 use Rattle.conditions.proofs.aimed.are_taken.Tie as tie
 

@@ -76,7 +76,8 @@ returns-2 c =
     let at = c .before in
     let x = at .before .before in (
       at .loop .inv .0,
-      split-end (x .args .base .now) (x .args .first) (x .args .width) (x .args .n) (x .args .d) (at .loop .i) (at .loop .inv .1) (at .loop .inv .3) (omega arith),
+      split-end (x .args .base .now) (x .args .first) (x .args .width) (x .args .n) (x .args .d) (at .loop .i) (at .loop .inv .1) (at .loop .inv .3)
+          (omega arith),
     )
 
 pub past-spec : {M : Type 1} → statement M

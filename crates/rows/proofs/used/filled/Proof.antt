@@ -4,37 +4,46 @@ use Prim.Native.Nat.{ℕ, _+_, _*_, _≤_, _<_, _-_}
 use native.Mathlib.Nat.{mul-le-mul-right}
 use native.Mathlib.Omega.{arith}
 use mathlib.Core.Path.{_≡_, sym, ap, _∙_}
-use lib.ListN.{getD}
+use mathlib.Core.List.{List}
+use lib.ListN.{replicate}
 use borrow.Author.Count.{below-none, below-more}
+use Rattle.rows.specs.Rows.{part, row-at}
 use Rattle.rows.proofs.used.filled.Statement.{statement}
 use Rattle.rows.proofs.used.filled.Tie as tie
 
 abbrev Inv-loop : tie.InvT-loop
-Inv-loop base first width n at₀ k₀ at k = (k ≤ n) × (at ≡ first + k * width) × ((j : ℕ) → j < k → getD base (first + j * width) 0 ≡ 0 → ⊥)
+Inv-loop base start width n at₀ k₀ at k =
+    (k ≤ n) × (at ≡ start + k * width) × ((j : ℕ) → j < k → row-at base start width j ≡ replicate width 0 → ⊥)
 
 abbrev μ-loop : tie.MeasureT-loop
-μ-loop base first width n at₀ k₀ at k = n - k
+μ-loop base start width n at₀ k₀ at k = n - k
+
+-- the row that `at` has come to
+here : (b : List ℕ) (w : ℕ) {at i : ℕ} → at ≡ i → part b i w ≡ part b at w
+here b w e = ap (λ (i : ℕ). part b i w) (sym e)
 
 loop-holds : tie.Need-loop-holds Inv-loop μ-loop
 loop-holds c = (omega arith, omega arith, below-none _)
 
-shared-slice-read-if1 : tie.Need-shared-slice-read-if1 Inv-loop μ-loop
-shared-slice-read-if1 c = omega (arith, c .before .before .before .pre .0 (c .before .before .loop .k) (c .before .loop-test .taken))
+is-unused-requires : tie.Need-is-unused-requires Inv-loop μ-loop
+is-unused-requires c κs =
+    let x = c .before .before .before in
+    (x .pre .1 .0, omega (arith, x .pre .0 (c .before .loop .k) (c .loop-test .taken)))
 
 returns : tie.Need-returns Inv-loop μ-loop
 returns c =
     let at = c .before .before .before in
-    let b = at .before .args .base .now in
+    let x = at .before .before .args in
     record {
       fits = at .loop .inv .0;
       used = at .loop .inv .2;
-      free = λ h. ap (λ (i : ℕ). getD b i 0) (sym (at .loop .inv .1)) ∙ c .if1 .taken;
+      free = λ h. here (x .base .now) (x .width) (at .loop .inv .1) ∙ c .before .is-unused .ensures .holds (c .if1 .taken);
     }
 
 add-at : tie.Need-add-at Inv-loop μ-loop
 add-at c =
-    let at = c .before .before .before in
-    omega (arith, mul-le-mul-right (at .before .args .width) (c .before .before .loop-test .taken))
+    let x = c .before .before .before .before .before .args in
+    omega (arith, mul-le-mul-right (x .width) (c .before .before .loop-test .taken))
 
 add-k : tie.Need-add-k Inv-loop μ-loop
 add-k c = search needs
@@ -45,10 +54,11 @@ loop-less c = search needs
 loop-again : tie.Need-loop-again Inv-loop μ-loop
 loop-again c =
     let at = c .before .before .before in
-    let b = at .before .args .base .now in (
+    let x = at .before .before .args in (
       omega arith,
       omega arith,
-      below-more _ _ (at .loop .inv .2) (λ e. c .if1 .left (ap (λ (i : ℕ). getD b i 0) (at .loop .inv .1) ∙ e)),
+      below-more _ _ (at .loop .inv .2)
+          (λ e. c .before .is-unused .ensures .fails (c .if1 .left) (sym (here (x .base .now) (x .width) (at .loop .inv .1)) ∙ e)),
     )
 
 returns-2 : tie.Need-returns-2 Inv-loop μ-loop
@@ -63,7 +73,7 @@ filled-spec =
     Inv-loop
     μ-loop
     loop-holds
-    shared-slice-read-if1
+    is-unused-requires
     returns
     add-at
     add-k

@@ -11,7 +11,8 @@ use Rattle.base.specs.Back.{schema-of, presence-count}
 use Rattle.base.proofs.Back.{sound-good}
 use Rattle.base.proofs.Kept.{sound-long}
 use Rattle.working.specs.Listed.{drawn-from}
-use Rattle.working.proofs.FindLaws.{bears-none, bears-it, type-is, type-below, named-first, named-nowhere}
+use Rattle.working.proofs.FindLaws.{named-first, named-nowhere}
+use Rattle.lookup.proofs.NamedLaws.{bears-none, bears-it, type-is, type-below}
 use Rattle.working.proofs.find.type_named.Statement.{statement}
 use Rattle.working.proofs.find.type_named.Tie as tie
 

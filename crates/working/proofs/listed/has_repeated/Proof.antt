@@ -32,18 +32,18 @@ wide-requires c κs = search needs
 test-requires : tie.Need-test-requires Inv-loop μ-loop
 test-requires c κs =
     let l = c .before .before .before in
-    omega (arith, c .wide .ensures, l .before .before .before .pre (l .loop .at) (c .before .before .loop-test .taken))
+    omega (arith, c .wide .ensures .0, l .before .before .before .pre (l .loop .at) (c .before .before .loop-test .taken))
 
 returns : tie.Need-returns Inv-loop μ-loop
 returns c =
     let l = c .before .before .before .before .before .loop in
     sym (met-twice (l .inv .1) (c .before .before .before .before .loop-test .taken)
-    (ap (has (l .met)) (sym (c .before .before .wide .ensures)) ∙ sym (c .before .test .ensures) ∙ c .if1 .taken))
+    (ap (has (l .met)) (sym (c .before .before .wide .ensures .0)) ∙ sym (c .before .test .ensures) ∙ c .if1 .taken))
 
 add-requires : tie.Need-add-requires Inv-loop μ-loop
 add-requires c κs =
     let l = c .before .before .before .before .before in
-    omega (arith, c .before .before .wide .ensures, l .before .before .before .pre (l .loop .at) (c .before .before .before .before .loop-test .taken))
+    omega (arith, c .before .before .wide .ensures .0, l .before .before .before .pre (l .loop .at) (c .before .before .before .before .loop-test .taken))
 
 add-at : tie.Need-add-at Inv-loop μ-loop
 add-at c = search needs
@@ -55,7 +55,7 @@ loop-again : tie.Need-loop-again Inv-loop μ-loop
 loop-again c =
     let l = c .before .before .before .before .before .before .loop in
     let m = has (l .met) in
-    let d = sym (c .before .before .before .wide .ensures) in (
+    let d = sym (c .before .before .before .wide .ensures .0) in (
       omega arith,
       met-more (l .inv .1) _ (c .before .before .before .before .before .loop-test .taken)
           (ap m d ∙ sym (c .before .before .test .ensures) ∙ c .before .if1 .left)

@@ -11,7 +11,7 @@ use Rattle.rules.specs.04-Schema.{used-sds}
 use Rattle.rules.specs.09-Refusals.{unknown-sds}
 use Rattle.base.specs.Back.{schema-of}
 use Rattle.lookup.proofs.SdsShown.{known, unknown}
-use Rattle.working.proofs.ListedLaws.{any-there, any-nowhere}
+use Rattle.rules.proofs.01-Lists.{any-there, any-nowhere}
 use Rattle.working.proofs.listed.has_unknown.Statement.{statement}
 use Rattle.working.proofs.listed.has_unknown.Tie as tie
 
@@ -40,7 +40,7 @@ returns c =
     sym (any-there (unknown-sds s) (x .args .schema .now) (c .before .before .before .before .before .loop .i)
     (c .before .before .before .before .loop-test .taken)
     (unknown (x .args .base .now) (x .pre) _
-    (ap (used-sds s) (sym (c .before .before .wide .ensures)) ∙ sym (c .before .is-sds .ensures) ∙ not-true _ (c .if1 .taken))))
+    (ap (used-sds s) (sym (c .before .before .wide .ensures .0)) ∙ sym (c .before .is-sds .ensures) ∙ not-true _ (c .if1 .taken))))
 
 add-i : tie.Need-add-i Inv-loop μ-loop
 add-i c = search needs
@@ -55,7 +55,7 @@ loop-again c =
       omega arith,
       below-more _ _ (c .before .before .before .before .before .loop .inv .1)
           (known (x .args .base .now) (x .pre) _
-          (ap (used-sds s) (sym (c .before .before .wide .ensures)) ∙ sym (c .before .is-sds .ensures) ∙ not-false _ (c .if1 .left))),
+          (ap (used-sds s) (sym (c .before .before .wide .ensures .0)) ∙ sym (c .before .is-sds .ensures) ∙ not-false _ (c .if1 .left))),
     )
 
 returns-2 : tie.Need-returns-2 Inv-loop μ-loop

@@ -1,4 +1,4 @@
--- `working::listed::sds_at` meets its contract. Assumes nothing.
+-- `working::listed::sds_at` meets its contract: an empty list is told apart; any other list stands for itself. Assumes nothing.
 use borrow.Author.Needs.{needs}
 use Prim.Native.Nat.{ℕ}
 use native.Mathlib.Omega.{arith}
@@ -23,7 +23,7 @@ wide-requires c κs = search needs
 returns-2 : tie.Need-returns-2
 returns-2 c =
     let x = c .before .before .before .before in
-    c .wide .ensures ∙ ap (λ (l : List ℕ). getD l (x .args .i) 0) (itself (x .args .schema .now) (c .before .before .if1 .left))
+    c .wide .ensures .0 ∙ ap (λ (l : List ℕ). getD l (x .args .i) 0) (itself (x .args .schema .now) (c .before .before .if1 .left))
 
 pub sds-at-spec : {M : Type 1} → statement M
 sds-at-spec = tie.close (tie.spec returns shared-slice-read-wide wide-requires returns-2)

@@ -1,3 +1,5 @@
+-- `ask::depth` meets its contract: where the view refuses, the rule does so with the same number; else its answer is that of
+-- `kin::depth`. Assumes nothing.
 use borrow.Author.Needs.{needs}
 use Prim.Native.Nat.{ℕ}
 use mathlib.Core.Path.{ap, _∙_}

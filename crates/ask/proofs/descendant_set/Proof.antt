@@ -1,3 +1,5 @@
+-- `ask::descendant_set` meets its contract: the view's refusals are the rule's; else the visible part of scan 1 is the set of
+-- visible descendants, and its words are their marks. Assumes nothing.
 use borrow.Author.Needs.{needs}
 use native.Mathlib.Omega.{arith}
 use mathlib.Core.Path.{ap, _∙_}

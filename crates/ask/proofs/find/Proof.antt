@@ -1,3 +1,5 @@
+-- `ask::find` meets its contract: the tests are the rule's refusals in its order; what `type_named` hands back tells whether the
+-- name is listed, and the type that bears it. Assumes nothing.
 use borrow.Author.Needs.{needs}
 use Prim.Native.Nat.{ℕ, _<_}
 use native.Mathlib.Omega.{arith}

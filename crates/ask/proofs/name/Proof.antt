@@ -1,3 +1,5 @@
+-- `ask::name` meets its contract: `name_place` answers a stretch that lies in the base, sound or not, and the slice of the base
+-- is that stretch. Assumes nothing.
 use borrow.Author.Needs.{needs}
 use native.Mathlib.Omega.{arith}
 use Rattle.ask.proofs.Laws.{within, handed}

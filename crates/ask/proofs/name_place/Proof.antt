@@ -1,3 +1,5 @@
+-- `ask::name_place` meets its contract: the tests are the rule's refusals in its order; the row that was found is the presence
+-- whose field holds the name. Assumes nothing.
 use borrow.Author.Needs.{needs}
 use Prim.Native.Nat.{ℕ, _<_}
 use native.Mathlib.Omega.{arith}

@@ -1,3 +1,5 @@
+-- `ask::profile` meets its contract: the view's refusals come first in the rule; then the visible part of each of the three scans
+-- is its list, and `put_three` tests the room. Assumes nothing.
 use borrow.Author.Needs.{needs}
 use native.Mathlib.Omega.{arith}
 use Rattle.rules.specs.12-Contracts.{room}

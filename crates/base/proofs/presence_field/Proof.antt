@@ -1,4 +1,5 @@
--- `base::presence_field` meets its contract: a slice from a start to as many bytes further on is a part. Assumes nothing.
+-- `base::presence_field` meets its contract: a slice from where the name starts to 16 further on is a part of 16 bytes.
+-- Assumes nothing.
 use borrow.Author.Needs.{needs}
 use Prim.Native.Nat.{ℕ}
 use mathlib.Core.Path.{ap, _∙_}

@@ -1,3 +1,5 @@
+-- `cases::tell_all` meets its contract: the loop keeps the four lengths and a place within the input, as `next_line` and
+-- `tell_next` do; the turns fall. Assumes nothing.
 use borrow.Author.Needs.{needs}
 use native.Mathlib.Omega.{arith}
 use mathlib.Core.Path.{_≡_, refl, _∙_}

@@ -1,3 +1,5 @@
+-- `cases::tell_next` meets its contract: at most 128 bytes are kept of a line, so that the part of it that is lent lies in it.
+-- Assumes nothing.
 use borrow.Author.Needs.{needs}
 use native.Mathlib.Omega.{arith}
 use lib.ListN.{length-take}

@@ -1,4 +1,4 @@
--- `held::application_fine` meets its contract: the tests are the fields of `Applied`. Assumes nothing.
+-- `check_sds::application_fine` meets its contract: the tests are the fields of `Application-fits`. Assumes nothing.
 use borrow.Author.Needs.{needs}
 use native.Mathlib.Omega.{arith}
 use mathlib.Core.Path.{_≡_, sym, ap, _∙_}

@@ -1,4 +1,4 @@
--- `held::applications_fine` meets its contract: each application passed is fine. Assumes nothing.
+-- `check_sds::applications_fine` meets its contract: the loop keeps that each application passed is fine. Assumes nothing.
 use borrow.Author.Needs.{needs}
 use Prim.Native.Nat.{ℕ, _+_, _≤_, _<_, _-_}
 use native.Mathlib.Omega.{arith}

@@ -1,5 +1,5 @@
--- `held::end_fine` meets its contract: the tests are the fields of `Ended`; the mirror is looked for where there is a reverse.
--- Assumes nothing.
+-- `check_sds::end_fine` meets its contract: the tests are the fields of `End-fits`; the mirror is looked for where there is a
+-- reverse. Assumes nothing.
 use borrow.Author.Needs.{needs}
 use native.Mathlib.Omega.{arith}
 use mathlib.Core.Path.{sym, _∙_}

@@ -1,4 +1,5 @@
--- `held::ends_fine` meets its contract: each end passed is fine. Assumes nothing.
+-- `check_sds::ends_fine` meets its contract: the loop keeps that each end passed is fine; where the next mirror is looked for
+-- first is of no matter. Assumes nothing.
 use borrow.Author.Needs.{needs}
 use Prim.Native.Nat.{ℕ, _+_, _≤_, _<_, _-_}
 use native.Mathlib.Omega.{arith}

@@ -1,4 +1,5 @@
--- `held::gather` meets its contract: the set has the types passed, each of which stood once. Assumes nothing.
+-- `check_sds::gather` meets its contract: the loop keeps that the set has the types passed and no others, and that each of them
+-- stood once. Assumes nothing.
 use borrow.Author.Needs.{needs}
 use Prim.Native.Nat.{ℕ, _+_, _≤_, _<_, _-_}
 use native.Mathlib.Omega.{arith}

@@ -1,4 +1,4 @@
--- `held::parents_in` meets its contract: each parent passed is in the set. Assumes nothing.
+-- `check_sds::parents_in` meets its contract: the loop keeps that each parent passed is in the set. Assumes nothing.
 use borrow.Author.Needs.{needs}
 use Prim.Native.Nat.{ℕ, _+_, _≤_, _<_, _-_}
 use native.Mathlib.Omega.{arith}

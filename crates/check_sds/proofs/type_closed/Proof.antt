@@ -1,4 +1,5 @@
--- `held::type_closed` meets its contract: a type has parents or a reverse by its kind, and not both. Assumes nothing.
+-- `check_sds::type_closed` meets its contract: an object type has parents and no reverse, a paired link type a reverse and no
+-- parents, any other neither. Assumes nothing.
 use native.Mathlib.Omega.{arith}
 use borrow.Author.Needs.{needs}
 use mathlib.Core.Path.{sym, ap, _∙_}

@@ -1,4 +1,4 @@
--- `held::types_closed` meets its contract: each type passed is closed. Assumes nothing.
+-- `check_sds::types_closed` meets its contract: the loop keeps that each type passed is closed. Assumes nothing.
 use borrow.Author.Needs.{needs}
 use Prim.Native.Nat.{ℕ, _+_, _≤_, _<_, _-_}
 use native.Mathlib.Omega.{arith}

@@ -1,5 +1,5 @@
--- `closed::closed_fine` meets its contract: every SDS is closed, no row is past the last SDS, and every used type is in one.
--- Assumes nothing.
+-- `check_sdss::closed_fine` meets its contract: every SDS is closed, no row is past the last SDS, and every used type is in one:
+-- that is `Sdss-closed`. Assumes nothing.
 use borrow.Author.Needs.{needs}
 use Prim.Native.Nat.{ℕ, _<_}
 use native.Mathlib.Omega.{arith}

@@ -1,4 +1,5 @@
--- `closed::is_in_if_used` meets its contract: a used type has a first byte that is not 0. Assumes nothing.
+-- `check_sdss::is_in_if_used` meets its contract: a type is used exactly where its row begins with a byte that is not 0.
+-- Assumes nothing.
 use borrow.Author.Needs.{needs}
 use mathlib.Core.Path.{_≡_, sym, _∙_}
 use mathlib.Core.Bool.{true≢false}

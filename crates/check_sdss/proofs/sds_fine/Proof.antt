@@ -1,4 +1,4 @@
--- `closed::sds_fine` meets its contract: the rows of the SDS stand between two places, and each check is one field of
+-- `check_sdss::sds_fine` meets its contract: the rows of the SDS stand between two places, and each check is one field of
 -- `Sds-closed`. Assumes nothing.
 use borrow.Author.Needs.{needs}
 use native.Mathlib.Omega.{arith}

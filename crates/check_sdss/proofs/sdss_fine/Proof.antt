@@ -1,5 +1,5 @@
--- `closed::sdss_fine` meets its contract: the SDSs passed are closed, and the set has what is present in one of them.
--- Assumes nothing.
+-- `check_sdss::sdss_fine` meets its contract: the loop keeps that the SDSs passed are closed, and that the set has what is
+-- present in one of them. Assumes nothing.
 use borrow.Author.Needs.{needs}
 use Prim.Native.Nat.{_-_}
 use native.Mathlib.Omega.{arith}

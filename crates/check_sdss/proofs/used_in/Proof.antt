@@ -1,4 +1,4 @@
--- `closed::used_in` meets its contract: each used type passed is in the set. Assumes nothing.
+-- `check_sdss::used_in` meets its contract: the loop keeps that each used type passed is in the set. Assumes nothing.
 use borrow.Author.Needs.{needs}
 use Prim.Native.Nat.{ℕ, _≤_, _<_, _-_}
 use native.Mathlib.Omega.{arith}

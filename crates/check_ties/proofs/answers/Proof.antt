@@ -1,5 +1,5 @@
--- `ties::answers` meets its contract: each refusal contradicts one field.
--- Assumes nothing.
+-- `check_ties::answers` meets its contract: each refusal contradicts one field of `Answers`; where r is implicit, t's category
+-- decides. Assumes nothing.
 use native.Mathlib.Omega.{arith}
 use borrow.Author.Needs.{needs}
 use Rattle.rows.proofs.Decides.{decides-yes, decides-no, decides-iff}

@@ -1,5 +1,5 @@
--- `ties::parents_fine` meets its contract: type 0 is the root, the types below t are fine, and the answer on t decides.
--- Assumes nothing.
+-- `check_ties::parents_fine` meets its contract: type 0 is the root; the loop keeps that the types below t are fine, and the
+-- answer on t decides. Assumes nothing.
 use native.Mathlib.Omega.{arith}
 use borrow.Author.Needs.{needs}
 use Prim.Native.Nat.{ℕ, _≤_, _<_, _-_}

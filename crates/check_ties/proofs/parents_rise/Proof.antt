@@ -1,5 +1,5 @@
--- `ties::parents_rise` meets its contract: the parents before place i are fine, `least` is past the last of them, and each
--- refusal contradicts one field of the parent in place i. Assumes nothing.
+-- `check_ties::parents_rise` meets its contract: the loop keeps that the parents before place i are fine and `least` is past the
+-- last of them; each refusal contradicts one field of the parent in place i. Assumes nothing.
 use native.Mathlib.Omega.{arith}
 use borrow.Author.Needs.{needs}
 use Prim.Native.Nat.{ℕ, _≤_, _<_, _-_}

@@ -1,5 +1,5 @@
--- `ties::reverse_fine` meets its contract: each refusal contradicts one field.
--- Assumes nothing.
+-- `check_ties::reverse_fine` meets its contract: without a reverse nothing is asked; else each refusal contradicts one field of
+-- `Mutual`, and `answers` decides the last one. Assumes nothing.
 use native.Mathlib.Omega.{arith}
 use borrow.Author.Needs.{needs}
 use Rattle.rows.proofs.Decides.{decides-yes, decides-no}

@@ -1,4 +1,4 @@
--- `ties::reverses_fine` meets its contract: the types below t are fine, and the answer on t decides.
+-- `check_ties::reverses_fine` meets its contract: the loop keeps that the types below t are fine, and the answer on t decides.
 -- Assumes nothing.
 use native.Mathlib.Omega.{arith}
 use borrow.Author.Needs.{needs}

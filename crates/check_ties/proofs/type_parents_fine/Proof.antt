@@ -1,5 +1,5 @@
--- `ties::type_parents_fine` meets its contract: only an object type has parents, it has some, and each decides.
--- Assumes nothing.
+-- `check_ties::type_parents_fine` meets its contract: only of an object type is anything asked: that it has parents, t not being
+-- type 0, and that each is fine, which `parents_rise` decides. Assumes nothing.
 use native.Mathlib.Omega.{arith}
 use borrow.Author.Needs.{needs}
 use Rattle.rows.proofs.Decides.{decides-yes, decides-no, decides-iff}

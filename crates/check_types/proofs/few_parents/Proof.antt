@@ -1,5 +1,4 @@
--- `kinds::few_parents` meets its contract: the count is at most `most`, and the places behind it decide.
--- Assumes nothing.
+-- `check_types::few_parents` meets its contract: the count is at most `most`, and the places behind it decide. Assumes nothing.
 use native.Mathlib.Omega.{arith}
 use borrow.Author.Needs.{needs}
 use Rattle.rows.proofs.Decides.{decides-no, decides-iff}

@@ -1,4 +1,4 @@
--- `kinds::kinds_fine` meets its contract: the rows below t are fine, and the answer on t decides.
+-- `check_types::kinds_fine` meets its contract: the loop keeps that the rows below t are fine, and the answer on t decides.
 -- Assumes nothing.
 use native.Mathlib.Omega.{arith}
 use borrow.Author.Needs.{needs}

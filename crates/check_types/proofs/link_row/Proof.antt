@@ -1,5 +1,4 @@
--- `kinds::link_row` meets its contract: below category 4 the parents decide, and from it on a plain row.
--- Assumes nothing.
+-- `check_types::link_row` meets its contract: below category 4 the parents decide, and from it on a plain row. Assumes nothing.
 use native.Mathlib.Omega.{arith}
 use borrow.Author.Needs.{needs}
 use Rattle.rows.proofs.Decides.{decides-iff}

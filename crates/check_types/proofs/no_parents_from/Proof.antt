@@ -1,5 +1,5 @@
--- `kinds::no_parents_from` meets its contract: the places from n up to i are zero, and the byte at i decides.
--- Assumes nothing.
+-- `check_types::no_parents_from` meets its contract: the loop keeps that the places from n up to i are zero, and the byte at i
+-- decides. Assumes nothing.
 use native.Mathlib.Omega.{arith}
 use borrow.Author.Needs.{needs}
 use Prim.Native.Nat.{ℕ, _≤_, _<_, _-_}

@@ -1,5 +1,4 @@
--- `kinds::plain_row` meets its contract: each refusal contradicts one field, and the parents decide.
--- Assumes nothing.
+-- `check_types::plain_row` meets its contract: each refusal contradicts one field, and the parents decide. Assumes nothing.
 use native.Mathlib.Omega.{arith}
 use borrow.Author.Needs.{needs}
 use Rattle.rows.proofs.Decides.{decides-no, decides-iff}

@@ -1,5 +1,4 @@
--- `kinds::row_fine` meets its contract: each kind has its own row, and another kind has none.
--- Assumes nothing.
+-- `check_types::row_fine` meets its contract: each kind has its own row, and another kind has none. Assumes nothing.
 use native.Mathlib.Omega.{arith}
 use borrow.Author.Needs.{needs}
 use Rattle.rows.proofs.Decides.{decides-no}

@@ -1,4 +1,4 @@
--- `uses::has_child` meets its contract. The loop's invariant: no row that it has passed is a child's. Assumes nothing.
+-- `in_use::has_child` meets its contract: the loop keeps that no row passed is a child's. Assumes nothing.
 use native.Mathlib.Omega.{arith}
 use Prim.Native.Nat.{ℕ, _≤_, _<_, _-_}
 use mathlib.Core.Path.{_≡_, sym, _∙_}

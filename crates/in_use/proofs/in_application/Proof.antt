@@ -1,4 +1,4 @@
--- `uses::in_application` meets its contract. The loop's invariant: no row that it has passed has the type. Assumes nothing.
+-- `in_use::in_application` meets its contract: the loop keeps that no row passed has the type in that SDS. Assumes nothing.
 use native.Mathlib.Omega.{arith}
 use borrow.Author.Needs.{needs}
 use Prim.Native.Nat.{ℕ, _≤_, _<_, _-_}

@@ -1,4 +1,5 @@
--- `uses::is_child` meets its contract. Assumes nothing.
+-- `in_use::is_child` meets its contract: a row of another SDS fails; of this one, whether t is a parent of its type decides.
+-- Assumes nothing.
 use native.Mathlib.Omega.{arith}
 use Prim.Native.Nat.{ℕ}
 use mathlib.Core.Path.{ap, _∙_}

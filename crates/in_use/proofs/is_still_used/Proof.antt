@@ -1,4 +1,5 @@
--- `uses::is_still_used` meets its contract. Assumes nothing.
+-- `in_use::is_still_used` meets its contract: the three tests are those that `still-used` joins, each made where those before it
+-- fail. Assumes nothing.
 use borrow.Author.Needs.{needs}
 use Rattle.rules.specs.09-Refusals.{still-used}
 use Rattle.base.proofs.Kept.{sound-long}

@@ -1,5 +1,5 @@
--- `fields::is_blank_field` meets its contract. The loop's invariant: that no bit was met and that what is left is zero decide.
--- Assumes nothing.
+-- `name_fields::is_blank_field` meets its contract: the loop keeps that the field is blank exactly where no bit was met and what
+-- is left is blank. Assumes nothing.
 use Prim.Native.Nat.{_-_, _≤_}
 use native.Mathlib.Omega.{arith}
 use mathlib.Core.Path.{_≡_, refl, sym, _∙_}

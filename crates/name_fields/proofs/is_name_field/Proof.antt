@@ -1,5 +1,5 @@
--- `fields::is_name_field` meets its contract. The loop's invariant: that each byte passed may follow the one before it, and each one left
--- may, decide. Assumes nothing.
+-- `name_fields::is_name_field` meets its contract: the loop keeps that the field holds a name exactly where each byte passed may
+-- follow the one before it, and each one left may. Assumes nothing.
 use Prim.Native.Nat.{_+_, _-_, _≤_}
 use native.Mathlib.Omega.{arith}
 use borrow.Author.Needs.{needs}

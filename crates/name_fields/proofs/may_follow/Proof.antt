@@ -1,4 +1,4 @@
--- `fields::may_follow` meets its contract: the comparisons are those of the definition. Assumes nothing.
+-- `name_fields::may_follow` meets its contract: the comparisons are those of the definition. Assumes nothing.
 use mathlib.Core.Path.{refl}
 use Rattle.rules.specs.03-Names.{letter, letter-or-digit}
 use Rattle.name_fields.specs.Field.{may-follow}

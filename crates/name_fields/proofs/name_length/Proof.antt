@@ -1,5 +1,5 @@
--- `fields::name_length` meets its contract. The loop's invariant: the name is as long as what is passed and what is left of it.
--- Assumes nothing.
+-- `name_fields::name_length` meets its contract: the loop keeps that the bytes passed, and what is left of the name, make up its
+-- length. Assumes nothing.
 use Prim.Native.Nat.{_+_, _-_, _≤_}
 use native.Mathlib.Omega.{arith}
 use mathlib.Core.Path.{_≡_}

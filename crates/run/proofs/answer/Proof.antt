@@ -1,3 +1,5 @@
+-- `run::answer` meets its contract: `reply` keeps the lengths of the base and the output, and its reply is no longer than the
+-- output. Assumes nothing.
 use borrow.Author.Needs.{needs}
 use native.Mathlib.Omega.{arith}
 use mathlib.Core.Path.{_∙_}

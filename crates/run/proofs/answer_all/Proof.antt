@@ -1,3 +1,5 @@
+-- `run::answer_all` meets its contract: the loop keeps the four lengths and a place within the input, as `next_line` and `answer`
+-- do; the turns fall. Assumes nothing.
 use borrow.Author.Needs.{needs}
 use native.Mathlib.Omega.{arith}
 use mathlib.Core.Path.{_≡_}

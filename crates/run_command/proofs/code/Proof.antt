@@ -1,3 +1,4 @@
+-- `run_command::code` meets its contract: the tests are those of `code-of`, in its order. Assumes nothing.
 use borrow.Author.Needs.{needs}
 use mathlib.Core.Path.{sym, _∙_}
 use Rattle.run_command.proofs.CommandLaws.{code-0, code-1, code-2, code-3, code-4, code-5, code-6}

@@ -1,3 +1,5 @@
+-- `run_command::of` meets its contract: a line of over 127 bytes or with a blank word has the code 0, any other that of its
+-- words. Assumes nothing.
 use borrow.Author.Needs.{needs}
 use native.Mathlib.Omega.{arith}
 use mathlib.Core.Path.{sym, _∙_}

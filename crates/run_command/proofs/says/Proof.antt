@@ -1,3 +1,5 @@
+-- `run_command::says` meets its contract: another first word fails; behind the command the count of words decides.
+-- Assumes nothing.
 use borrow.Author.Needs.{needs}
 use mathlib.Core.Path.{sym, _∙_}
 use borrow.Author.Tests.{not-true, not-false}

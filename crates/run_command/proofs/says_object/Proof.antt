@@ -1,3 +1,5 @@
+-- `run_command::says_object` meets its contract: another first word fails; behind `object` the count of words decides.
+-- Assumes nothing.
 use borrow.Author.Needs.{needs}
 use mathlib.Core.Path.{sym, _∙_}
 use borrow.Author.Tests.{not-true, not-false}

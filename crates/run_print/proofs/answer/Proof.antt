@@ -1,3 +1,5 @@
+-- `run_print::answer` meets its contract: a refusal is its number alone; behind 0 the value is printed straight on, with a space
+-- before it. Assumes nothing.
 use borrow.Author.Needs.{needs}
 use native.Mathlib.Omega.{arith}
 use Rattle.run_print.proofs.PrintLaws.{decimal-few}

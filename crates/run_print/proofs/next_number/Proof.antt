@@ -1,3 +1,4 @@
+-- `run_print::next_number` meets its contract: the space is printed, and the number straight behind it. Assumes nothing.
 use borrow.Author.Needs.{needs}
 use native.Mathlib.Omega.{arith}
 use mathlib.Core.Path.{_∙_}

@@ -1,3 +1,5 @@
+-- `run_print::number` meets its contract: a number below 2 ^ 64 has at most 20 digits, and those that `io::decimal` makes are
+-- written at their place. Assumes nothing.
 use borrow.Author.Needs.{needs}
 use native.Mathlib.Omega.{arith}
 use Rattle.run_print.proofs.PrintLaws.{places-few, number-printed}

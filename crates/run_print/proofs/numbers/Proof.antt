@@ -1,3 +1,5 @@
+-- `run_print::numbers` meets its contract: the loop keeps that the first i entries are printed, in at most 21 bytes each.
+-- Assumes nothing.
 use borrow.Author.Needs.{needs}
 use Prim.Native.Nat.{_-_, _≤_}
 use native.Mathlib.Omega.{arith}

@@ -1,3 +1,4 @@
+-- `run_print::unreadable` meets its contract: one byte is put down at the start. Assumes nothing.
 use borrow.Author.Needs.{needs}
 use native.Mathlib.Omega.{arith}
 use Rattle.run_print.proofs.PrintLaws.{printed-byte}

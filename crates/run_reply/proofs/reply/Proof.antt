@@ -1,3 +1,5 @@
+-- `run_reply::reply` meets its contract: the code of the line tells the command, whose function says what the rule does; with no
+-- code of the six it is unreadable. Assumes nothing.
 use borrow.Author.Needs.{needs}
 use mathlib.Core.Path.{sym, _∙_}
 use Rattle.run_reply.proofs.ReplyLaws.{replied-sds, replied-import, replied-object, replied-remove, replied-desc, replied-depth}

@@ -1,3 +1,5 @@
+-- `run_words::count` meets its contract: the loop keeps that the words counted and those left are together all words; a line
+-- below 128 bytes has few enough. Assumes nothing.
 use borrow.Author.Needs.{needs}
 use Prim.Native.Nat.{_+_, _≤_}
 use native.Mathlib.Omega.{arith}

@@ -1,3 +1,5 @@
+-- `run_words::gather` meets its contract: the loop keeps that what is kept, and what is left before the newline behind it, make
+-- the line, of which 128 bytes are kept. Assumes nothing.
 use borrow.Author.Needs.{needs}
 use Prim.Native.Nat.{_-_}
 use native.Mathlib.Omega.{arith}

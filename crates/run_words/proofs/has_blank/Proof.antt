@@ -1,3 +1,5 @@
+-- `run_words::has_blank` meets its contract: the loop keeps that a blank word is among those left exactly where there is one in
+-- the line. Assumes nothing.
 use borrow.Author.Needs.{needs}
 use Prim.Native.Nat.{_≤_}
 use mathlib.Core.Path.{_≡_, sym, ap, _∙_}

@@ -1,3 +1,5 @@
+-- `run_words::keep` meets its contract: with room the byte is put behind those kept; without it the first 128 bytes are those
+-- kept. Assumes nothing.
 use borrow.Author.Needs.{needs}
 use native.Mathlib.Omega.{arith}
 use Rattle.run_words.proofs.LineLaws.{keeps-room, keeps-full}

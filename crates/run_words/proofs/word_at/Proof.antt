@@ -1,3 +1,5 @@
+-- `run_words::word_at` meets its contract: the loop keeps that word i and those behind it are what is left behind `before` words
+-- more. Assumes nothing.
 use borrow.Author.Needs.{needs}
 use native.Mathlib.Omega.{arith}
 use lib.ListN.{length}

@@ -1,3 +1,5 @@
+-- `visible::is_end` meets its contract: the tests are the two that the promise joins; in a sound base the byte of a side is its
+-- code. Assumes nothing.
 use Prim.Native.Nat.{ℕ, _-_}
 use native.Mathlib.Omega.{arith}
 use mathlib.Core.Path.{ap, _∙_}

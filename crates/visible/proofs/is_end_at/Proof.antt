@@ -1,3 +1,5 @@
+-- `visible::is_end_at` meets its contract: `is_end` and the test of the object type are the two that the promise joins.
+-- Assumes nothing.
 use borrow.Author.Needs.{needs}
 use Prim.Native.Nat.{_-_}
 use native.Mathlib.Omega.{arith}

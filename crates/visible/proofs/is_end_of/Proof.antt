@@ -1,3 +1,5 @@
+-- `visible::is_end_of` meets its contract: `is_end` and the test of the link type are the two that the promise joins.
+-- Assumes nothing.
 use borrow.Author.Needs.{needs}
 use Prim.Native.Nat.{ℕ, _-_}
 use native.Mathlib.Omega.{arith}

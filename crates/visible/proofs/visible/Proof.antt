@@ -1,3 +1,5 @@
+-- `visible::visible` meets its contract: the loop keeps that the set has the types of the presences passed that are in these
+-- SDSs, and no others. Assumes nothing.
 use borrow.Author.Needs.{needs}
 use Prim.Native.Nat.{ℕ, _+_, _-_, _≤_}
 use native.Mathlib.Omega.{arith}

@@ -1,3 +1,5 @@
+-- `ask_scans::lists::put` meets its contract: the count is the list's length, so the test of the room is that of `listing`; past
+-- it the list is put down. Assumes nothing.
 use borrow.Author.Needs.{needs}
 use Prim.Native.Nat.{ℕ, _+_, _*_, _≤_, _<_}
 use native.Mathlib.Omega.{arith}

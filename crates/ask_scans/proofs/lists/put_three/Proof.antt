@@ -1,3 +1,5 @@
+-- `ask_scans::lists::put_three` meets its contract: the counts are the lists' lengths, so the test of the room is that of
+-- `three-listing`; a list put down behind another goes on with it. Assumes nothing.
 use borrow.Author.Needs.{needs}
 use Prim.Native.Nat.{ℕ, _+_, _*_, _≤_, _<_}
 use native.Mathlib.Omega.{arith}

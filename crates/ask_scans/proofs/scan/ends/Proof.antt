@@ -1,3 +1,5 @@
+-- `ask_scans::scan::ends` meets its contract: half the code is the side, on which the ends are gathered; an odd code, "all", adds
+-- the descendants of these. Assumes nothing.
 use borrow.Author.Needs.{needs}
 use Rattle.type_set.specs.Set.{has}
 use Rattle.ask_scans.proofs.ScanLaws.{end-scans, end-all-scans}

@@ -1,3 +1,5 @@
+-- `ask_scans::scan::had` meets its contract: an even code has the type for its source, the next one, "all", its ancestors too;
+-- what is gathered over the sources is the scan. Assumes nothing.
 use native.Mathlib.Omega.{arith}
 use Rattle.ask_scans.proofs.ScanLaws.{attribute-scans, origin-scans, destination-scans}
 use Rattle.ask_scans.proofs.scan.had.Statement.{statement}

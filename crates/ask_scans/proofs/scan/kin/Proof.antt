@@ -1,3 +1,5 @@
+-- `ask_scans::scan::kin` meets its contract: the children, descendants, parents and ancestors of a set of one type are those of
+-- the type, code by code. Assumes nothing.
 use native.Mathlib.Omega.{arith}
 use mathlib.Core.Path.{_≡_, _∙_}
 use Rattle.lookup.proofs.Parents.{good-parental}

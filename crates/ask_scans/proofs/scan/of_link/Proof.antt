@@ -1,3 +1,5 @@
+-- `ask_scans::scan::of_link` meets its contract: below code 4 it is what `ends` tells; only code 4 is left, the attribute types
+-- that are applied to the one type. Assumes nothing.
 use borrow.Author.Needs.{needs}
 use native.Mathlib.Omega.{arith}
 use mathlib.Core.Path.{_≡_}

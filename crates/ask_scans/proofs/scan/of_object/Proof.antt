@@ -1,3 +1,5 @@
+-- `ask_scans::scan::of_object` meets its contract: below code 4 it is what `kin` tells, under any working schema; from code 4 on
+-- it is what `had` tells. Assumes nothing.
 use borrow.Author.Needs.{needs}
 use Rattle.ask_scans.proofs.scan.of_object.Statement.{statement}
 use Rattle.ask_scans.proofs.scan.of_object.Tie as tie

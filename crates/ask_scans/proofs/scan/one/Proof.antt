@@ -1,3 +1,4 @@
+-- `ask_scans::scan::one` meets its contract: what is added to the empty set is all that it has. Assumes nothing.
 use borrow.Author.Needs.{needs}
 use mathlib.Core.Path.{ap, _∙_}
 use mathlib.Core.Bool.{_||_, or-false}

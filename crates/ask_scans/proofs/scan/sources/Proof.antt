@@ -1,3 +1,5 @@
+-- `ask_scans::scan::sources` meets its contract: without "all" the type is alone; with it the set of one type is joined with its
+-- ancestors, none of which is past the last type. Assumes nothing.
 use borrow.Author.Needs.{needs}
 use Rattle.base.specs.Back.{schema-of}
 use Rattle.type_set.specs.Set.{has}

@@ -1,4 +1,5 @@
--- `scans::view::is_of_kind` meets its contract. Assumes nothing.
+-- `ask_scans::view::is_of_kind` meets its contract: a link type has the byte 3 for its kind, an object type the byte 1, and the
+-- one that is asked for is looked up. Assumes nothing.
 use native.Mathlib.Omega.{arith}
 use mathlib.Core.Path.{sym}
 use Rattle.lookup.proofs.KindBytes.{told-object, told-link}

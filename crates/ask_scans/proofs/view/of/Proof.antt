@@ -1,3 +1,5 @@
+-- `ask_scans::view::of` meets its contract: a test that passes comes to the next of `type-refusals`, one that fails tells its
+-- number; past all, the two sets are what is listed and what is visible. Assumes nothing.
 use borrow.Author.Needs.{needs}
 use Prim.Native.Nat.{ℕ, _<_}
 use native.Mathlib.Omega.{arith}

@@ -1,3 +1,5 @@
+-- `cases::print::entries` meets its contract: nothing is promised; the loop keeps i at most n, so that it ends and i has room.
+-- Assumes nothing.
 use borrow.Author.Needs.{needs}
 use native.Mathlib.Omega.{arith}
 use Prim.Native.Nat.{_-_, _≤_}

@@ -1,3 +1,5 @@
+-- `cases::read::number_at` meets its contract: nothing is promised; the loop keeps the place within the word, and the number
+-- within what `with_digit` takes. Assumes nothing.
 use borrow.Author.Needs.{needs}
 use native.Mathlib.Omega.{arith}
 use Prim.Native.Nat.{_-_, _≤_}

@@ -1,3 +1,4 @@
+-- `cases::read::room_at` meets its contract: neither answer is over the output's length. Assumes nothing.
 use borrow.Author.Needs.{needs}
 use native.Mathlib.Omega.{arith}
 use lib.ListN.{length-take, length}

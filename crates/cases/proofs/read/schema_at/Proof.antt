@@ -1,3 +1,5 @@
+-- `cases::read::schema_at` meets its contract: the loop keeps the place within the word, n at most the length of the list, and
+-- that length as it was. Assumes nothing.
 use borrow.Author.Needs.{needs}
 use native.Mathlib.Omega.{arith}
 use Prim.Native.Nat.{_-_, _≤_}

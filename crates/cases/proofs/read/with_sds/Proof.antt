@@ -1,3 +1,5 @@
+-- `cases::read::with_sds` meets its contract: n goes up only where it is below the list's length, and a byte that is written
+-- keeps that length. Assumes nothing.
 use borrow.Author.Needs.{needs}
 use native.Mathlib.Omega.{arith}
 use lib.ListN.{length-set}

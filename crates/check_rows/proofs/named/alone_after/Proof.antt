@@ -1,4 +1,5 @@
--- `tables::named::alone_after` meets its contract: each field passed has another name. Assumes nothing.
+-- `check_rows::named::alone_after` meets its contract: the loop keeps that each field passed behind d has another name.
+-- Assumes nothing.
 use borrow.Author.Needs.{needs}
 use Prim.Native.Nat.{ℕ, _≤_, _<_, _-_}
 use native.Mathlib.Omega.{arith}

@@ -1,4 +1,5 @@
--- `tables::named::alone_if_used` meets its contract: an unused number has no name. Assumes nothing.
+-- `check_rows::named::alone_if_used` meets its contract: of an unused number nothing is asked; of a used one `alone_after`
+-- decides. Assumes nothing.
 use borrow.Author.Needs.{needs}
 use mathlib.Core.Path.{sym, _∙_}
 use mathlib.Core.Bool.{true≢false}

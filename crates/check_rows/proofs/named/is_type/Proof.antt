@@ -1,4 +1,5 @@
--- `tables::named::is_type` meets its contract: a type is used exactly where its row begins with 1, 2 or 3. Assumes nothing.
+-- `check_rows::named::is_type` meets its contract: a type is used exactly where it is below 128 and its kind is 1, 2 or 3.
+-- Assumes nothing.
 use borrow.Author.Needs.{needs}
 use Rattle.check_rows.proofs.NamedLaws.{used-kind, unused-zero, unused-past}
 use Rattle.check_rows.proofs.named.is_type.Statement.{statement}

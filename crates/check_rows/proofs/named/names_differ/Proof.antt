@@ -1,4 +1,5 @@
--- `tables::named::names_differ` meets its contract: each SDS passed is alone with its name. Assumes nothing.
+-- `check_rows::named::names_differ` meets its contract: the loop keeps that each SDS passed is alone with its name.
+-- Assumes nothing.
 use borrow.Author.Needs.{needs}
 use Prim.Native.Nat.{ℕ, _≤_, _<_, _-_}
 use native.Mathlib.Omega.{arith}

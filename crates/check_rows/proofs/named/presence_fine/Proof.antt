@@ -1,4 +1,4 @@
--- `tables::named::presence_fine` meets its contract: the tests are the fields of `Row-named`. Assumes nothing.
+-- `check_rows::named::presence_fine` meets its contract: the tests are the fields of `Row-named`. Assumes nothing.
 use borrow.Author.Needs.{needs}
 use native.Mathlib.Omega.{arith}
 use Prim.Native.Nat.{ℕ, _+_}

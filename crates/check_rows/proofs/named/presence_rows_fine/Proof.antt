@@ -1,4 +1,4 @@
--- `tables::named::presence_rows_fine` meets its contract: each row passed is fine. Assumes nothing.
+-- `check_rows::named::presence_rows_fine` meets its contract: the loop keeps that each row passed is fine. Assumes nothing.
 use borrow.Author.Needs.{needs}
 use Prim.Native.Nat.{ℕ, _≤_, _<_, _-_}
 use native.Mathlib.Omega.{arith}

@@ -1,4 +1,5 @@
--- `tables::named::presences_fine` meets its contract: the tests find what `Presences-fine` asks. Assumes nothing.
+-- `check_rows::named::presences_fine` meets its contract: the tests, with the count of used rows, find what `Presences-fine` asks
+-- and nothing else. Assumes nothing.
 use borrow.Author.Needs.{needs}
 use borrow.Author.Tests.{not-true, not-false}
 use Rattle.rows.proofs.Decides.{decides-no}

@@ -1,4 +1,4 @@
--- `tables::named::sds_field_fine` meets its contract: a field is blank, or holds a name. Assumes nothing.
+-- `check_rows::named::sds_field_fine` meets its contract: a field is blank, or holds a name. Assumes nothing.
 use borrow.Author.Needs.{needs}
 use native.Mathlib.Omega.{arith}
 use mathlib.Core.Path.{sym, ap, _∙_}

@@ -1,4 +1,4 @@
--- `tables::named::sds_fields_fine` meets its contract: each field passed is fine. Assumes nothing.
+-- `check_rows::named::sds_fields_fine` meets its contract: the loop keeps that each field passed is fine. Assumes nothing.
 use borrow.Author.Needs.{needs}
 use Prim.Native.Nat.{ℕ, _≤_, _<_, _-_}
 use native.Mathlib.Omega.{arith}

@@ -1,4 +1,4 @@
--- `tables::named::sdss_fine` meets its contract: the tests find what `Sdss-fine` asks. Assumes nothing.
+-- `check_rows::named::sdss_fine` meets its contract: the tests find what `Sdss-fine` asks and nothing else. Assumes nothing.
 use borrow.Author.Needs.{needs}
 use borrow.Author.Tests.{not-true, not-false}
 use mathlib.Core.Path.{sym, _∙_}

@@ -1,4 +1,5 @@
--- `tables::named::system_first` meets its contract: the tests are the fields of `System-first`. Assumes nothing.
+-- `check_rows::named::system_first` meets its contract: the tests are the fields of `System-first`, the last of which asks
+-- nothing where there is one row. Assumes nothing.
 use borrow.Author.Needs.{needs}
 use native.Mathlib.Omega.{arith}
 use mathlib.Core.Path.{sym, _∙_}

@@ -1,4 +1,5 @@
--- `tables::rest::rest_fine` meets its contract: the tests find what `Rest-fine` asks, and nothing else. Assumes nothing.
+-- `check_rows::rest::rest_fine` meets its contract: the tests, with the counts of used rows, find what `Rest-fine` asks and
+-- nothing else. Assumes nothing.
 use borrow.Author.Needs.{needs}
 use mathlib.Core.Path.{_≡_}
 use borrow.Author.Tests.{not-true, not-false}

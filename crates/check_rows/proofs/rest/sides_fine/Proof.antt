@@ -1,4 +1,4 @@
--- `tables::rest::sides_fine` meets its contract: each side passed is 0 or 1. Assumes nothing.
+-- `check_rows::rest::sides_fine` meets its contract: the loop keeps that each side passed is 0 or 1. Assumes nothing.
 use borrow.Author.Needs.{needs}
 use Prim.Native.Nat.{ℕ, _+_, _≤_, _<_, _-_}
 use native.Mathlib.Omega.{arith}

@@ -1,4 +1,5 @@
--- `lookup::applications::is_application` meets its contract. Assumes nothing.
+-- `lookup::applications::is_application` meets its contract: the SDS, the type and the attribute type are tested in turn.
+-- Assumes nothing.
 use borrow.Author.Needs.{needs}
 use Rattle.rules.proofs.Bools.{differs, agrees, last-one}
 use Rattle.lookup.proofs.applications.is_application.Statement.{statement}

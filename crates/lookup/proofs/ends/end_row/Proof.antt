@@ -1,4 +1,5 @@
--- `lookup::ends::end_row` meets its contract. Assumes nothing.
+-- `lookup::ends::end_row` meets its contract: in a stored base the rows rise, so `end_near` finds the end among all of them.
+-- Assumes nothing.
 use native.Mathlib.Omega.{arith}
 use Rattle.base.proofs.StoredLaws.{stored-long}
 use Rattle.lookup.proofs.EndRows.{rows-rise, end-placed}

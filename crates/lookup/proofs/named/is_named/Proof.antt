@@ -1,4 +1,4 @@
--- `lookup::named::is_named` meets its contract. Assumes nothing.
+-- `lookup::named::is_named` meets its contract: a row of another SDS fails; of this one its local name decides. Assumes nothing.
 use borrow.Author.Needs.{needs}
 use Prim.Native.Nat.{ℕ}
 use mathlib.Core.Path.{sym, ap, _∙_}

@@ -1,4 +1,4 @@
--- `lookup::named::local_name` meets its contract. Assumes nothing.
+-- `lookup::named::local_name` meets its contract: as many bytes of the field as the name has are the name. Assumes nothing.
 use borrow.Author.Needs.{needs}
 use Prim.Native.Nat.{ℕ, _-_}
 use native.Mathlib.Omega.{arith}

@@ -1,4 +1,5 @@
--- `lookup::named::type_in` meets its contract. Assumes nothing.
+-- `lookup::named::type_in` meets its contract: without a row no type bears the name; else the type of the row that was found does.
+-- Assumes nothing.
 use native.Mathlib.Omega.{arith}
 use Rattle.base.proofs.Back.{sound-good}
 use Rattle.base.proofs.Kept.{sound-long}

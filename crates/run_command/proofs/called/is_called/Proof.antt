@@ -1,3 +1,5 @@
+-- `run_command::called::is_called` meets its contract: an unused number bears no name, and a used one the name that `sds_name`
+-- hands back. Assumes nothing.
 use borrow.Author.Needs.{needs}
 use mathlib.Core.Path.{sym, ap, _∙_}
 use mathlib.Core.List.{List}

@@ -1,3 +1,5 @@
+-- `run_command::called::sds_called` meets its contract: the loop keeps that no SDS passed bears the name, so that the first one
+-- that does is the answer. Assumes nothing.
 use borrow.Author.Needs.{needs}
 use Prim.Native.Nat.{ℕ, _-_, _≤_, _<_}
 use native.Mathlib.Omega.{arith}

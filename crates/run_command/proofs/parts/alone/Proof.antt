@@ -1,3 +1,4 @@
+-- `run_command::parts::alone` meets its contract: a number of at most 16 is the byte that is written. Assumes nothing.
 use borrow.Author.Needs.{needs}
 use Prim.Native.Nat.{ℕ, _%_}
 use native.Mathlib.Omega.{arith}

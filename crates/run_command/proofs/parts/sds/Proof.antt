@@ -1,3 +1,4 @@
+-- `run_command::parts::sds` meets its contract: the SDS that is called by word i is the one that the word names. Assumes nothing.
 use borrow.Author.Needs.{needs}
 use Prim.Native.Nat.{ℕ}
 use mathlib.Core.Path.{ap, _∙_}

@@ -1,3 +1,5 @@
+-- `run_command::parts::words_from` meets its contract: from where word i starts to the end of the line stand word i and those
+-- behind it. Assumes nothing.
 use borrow.Author.Needs.{needs}
 use Prim.Native.Nat.{_-_}
 use native.Mathlib.Omega.{arith}

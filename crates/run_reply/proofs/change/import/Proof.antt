@@ -1,3 +1,5 @@
+-- `run_reply::change::import` meets its contract: `import`, with the SDSs that words 1 and 2 name and with word 3, does what
+-- `obey-import` says, and its answer is printed. Assumes nothing.
 use borrow.Author.Needs.{needs}
 use mathlib.Core.Path.{_∙_}
 use Rattle.run_reply.proofs.DoneLaws.{import-done}

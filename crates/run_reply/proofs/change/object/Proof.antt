@@ -1,3 +1,5 @@
+-- `run_reply::change::object` meets its contract: `new_object`, with the SDS that word 1 names and the words behind it, does what
+-- `obey-object` says, and its answer is printed. Assumes nothing.
 use borrow.Author.Needs.{needs}
 use mathlib.Core.Path.{_∙_}
 use Rattle.run_reply.proofs.DoneLaws.{object-done}

@@ -1,3 +1,5 @@
+-- `run_reply::change::remove` meets its contract: `remove_type`, with the SDS that word 1 names and with word 2, does what
+-- `obey-remove` says, and its answer is printed. Assumes nothing.
 use borrow.Author.Needs.{needs}
 use mathlib.Core.Path.{_∙_}
 use Rattle.run_reply.proofs.DoneLaws.{remove-done}

@@ -1,3 +1,5 @@
+-- `run_reply::change::sds` meets its contract: `new_sds`, with word 1, does what `obey-sds` says, and its answer is printed.
+-- Assumes nothing.
 use borrow.Author.Needs.{needs}
 use mathlib.Core.Path.{_∙_}
 use Rattle.run_reply.proofs.DoneLaws.{sds-done}

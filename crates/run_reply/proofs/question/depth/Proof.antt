@@ -1,3 +1,5 @@
+-- `run_reply::question::depth` meets its contract: where `find` refuses, its number is printed alone; else the answer of `depth`
+-- on the type that was found, as `obey-depth` says. Assumes nothing.
 use borrow.Author.Needs.{needs}
 use native.Mathlib.Omega.{arith}
 use Prim.Native.Nat.{ℕ}

@@ -1,3 +1,5 @@
+-- `run_reply::question::desc` meets its contract: where `find` or the scan refuses, its number is printed alone; else the count
+-- and the list, for which there is room, since it has at most 128 types. Assumes nothing.
 use borrow.Author.Needs.{needs}
 use native.Mathlib.Omega.{arith}
 use Prim.Native.Nat.{ℕ}

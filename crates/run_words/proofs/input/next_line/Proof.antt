@@ -1,3 +1,5 @@
+-- `run_words::input::next_line` meets its contract: the loop keeps the lengths and a place within, as `advance` does; the turns
+-- fall. Assumes nothing.
 use borrow.Author.Needs.{needs}
 use native.Mathlib.Omega.{arith}
 use mathlib.Core.Path.{_≡_}

@@ -1,4 +1,4 @@
--- `working::listed::sds_at` meets its contract. Assumes nothing.
+-- `working::listed::sds_at` meets its contract: an empty list is told apart; any other list stands for itself. Assumes nothing.
 use borrow.Author.Needs.{needs}
 use Prim.Native.Nat.{ℕ}
 use native.Mathlib.Omega.{arith}

@@ -1,4 +1,4 @@
--- `working::listed::span` meets its contract. Assumes nothing.
+-- `working::listed::span` meets its contract: an empty list is told apart; any other list stands for itself. Assumes nothing.
 use mathlib.Core.Path.{ap}
 use lib.ListN.{length}
 use Rattle.working.proofs.ListedLaws.{empty-long, itself}

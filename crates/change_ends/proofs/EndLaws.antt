@@ -95,7 +95,10 @@ unfolding all
 aimed-passes {b} {d} {n} {m} aimed z {o} rest effect left =
     let th = aimed .through z in
     let passed = begun-passes (rest (type-named (schema-of b) d n) (type-named (schema-of b) d m)) (aimed .told) z refl left in
-    record { is = passed .is ∙ (λ i. verdict (rest (sym (th .link-named) i) (sym (th .object-named) i)) (effect (sym (th .link-named) i) (sym (th .object-named) i))) }
+    record {
+      is = passed .is ∙ (λ i. verdict (rest (sym (th .link-named) i) (sym (th .object-named) i))
+          (effect (sym (th .link-named) i) (sym (th .object-named) i)));
+    }
 
 -- ---- room for the ends of a link type and its reverse
 
@@ -176,11 +179,11 @@ pub full-is : {s : Schema} {l r : ℕ} → Reverse-of s l r → ends-full s (suc
 full-is {s} rev = ap (λ (l : List ℕ). ends-full s (suc (length l))) (sym (rev .is))
 
 module _ (b : List ℕ) {l r : ℕ} (rev : Reverse-of (schema-of b) l r) (room : ends-full (schema-of b) (suc (length (one-or-none r))) ≡ false) where
-  pub room-first : length ((schema-of b) .ends) < 512
+  pub room-first : length ((schema-of b) .ends) < limits .ends
   unfolding ends-full
   room-first = let h = ltb-false 512 (length ((schema-of b) .ends) + suc (length (one-or-none r))) room in omega arith
 
-  room-both : r < 128 → suc (length ((schema-of b) .ends)) < 512
+  room-both : r < 128 → suc (length ((schema-of b) .ends)) < limits .ends
   unfolding ends-full
   room-both k = let h = ltb-false 512 (length ((schema-of b) .ends) + suc (length (one-or-none r))) room in omega (arith, ap length (one-is k))
 
@@ -191,7 +194,7 @@ module _ (b : List ℕ) {l r : ℕ} (rev : Reverse-of (schema-of b) l r) (room :
         (end-of d l side o ∷ map (λ y. end-of d y (other-side side) o) ls) ((schema-of b) .ends)))) (sym (rev .is ∙ none-is {r = r} (omega arith)))
 
     module _ (k : r < 128) where
-      pub room-second : length ((schema-of b₁) .ends) < 512
+      pub room-second : length ((schema-of b₁) .ends) < limits .ends
       room-second =
           omega (arith, ap (λ (s : Schema). length (s .ends)) (shows-schema out), put-long end-before (end-of d l side o) ((schema-of b) .ends), room-both k)
 
@@ -242,7 +245,8 @@ pub remove-tests : {b : List ℕ} {d : ℕ} {n m : Name} {v : Aim} → Aimed b d
     → Left (remove-end side d n m (schema-of b)) (remove-rest side d (v .link) (v .object) (schema-of b))
     (done 0 0 0 (removed side d (v .link) (v .object) (schema-of b)))
 remove-tests {b} {d} {n} {m} aimed z side =
-    aimed-passes aimed z (λ l o. remove-rest side d l o (schema-of b)) (λ l o. done 0 0 0 (removed side d l o (schema-of b))) (remove-left side d n m (schema-of b))
+    aimed-passes aimed z (λ l o. remove-rest side d l o (schema-of b)) (λ l o. done 0 0 0 (removed side d l o (schema-of b)))
+    (remove-left side d n m (schema-of b))
 
 module _ {b : List ℕ} {d l o row k : ℕ} {side : Side} (count : Counted (end-count b) (limits .ends) k) (place : End-place b d l side o row) where
   pub row-none : k ≤ row → not (has-end (schema-of b) d l side o) ≡ true
@@ -266,7 +270,8 @@ module _ (s : Schema) (d l o : ℕ) (side : Side) where
   unfolding both-ends any
   removed-pair r e =
       ap (with-ends s) (without-twice (is-end d l side o) (is-end d r (other-side side) o) (s .ends)
-      ∙ without-same (λ x. is-end d l side o x || is-end d r (other-side side) o x) (is-one-of (end-of d l side o ∷ end-of d r (other-side side) o ∷ [])) (s .ends)
+      ∙ without-same (λ x. is-end d l side o x || is-end d r (other-side side) o x) (is-one-of (end-of d l side o ∷ end-of d r (other-side side) o ∷ []))
+      (s .ends)
       (λ x i. ap (λ (t : Bool). is-end d l side o x || t) (sym (or-false (is-end d r (other-side side) o x)))))
       ∙ ap (λ (ls : List ℕ). with-ends s (without (is-one-of (end-of d l side o ∷ map (λ y. end-of d y (other-side side) o) ls)) (s .ends))) (sym e)
 

@@ -4,6 +4,7 @@ use mathlib.Core.Path.{_≡_}
 use mathlib.Core.List.{List, [], _∷_}
 use mathlib.Core.Bool.{true, false}
 use lib.ListN.{length}
+use Rattle.rules.specs.02-Limits.{limits}
 use Rattle.rules.specs.03-Names.{Name, well-formed, same-name}
 use Rattle.rules.specs.04-Schema.{bears}
 use Rattle.rules.specs.07-Picture.{Sound}
@@ -14,7 +15,7 @@ use Rattle.base.specs.Tested.{Tested}
 
 -- t and r are the numbers that the forward type and its reverse take, and there is room for their presences
 pub record Two-free (b : List ℕ) (t r : ℕ) : Type 0 where
-  pub room : length ((schema-of b) .presences) + 2 ≤ 512
+  pub room : length ((schema-of b) .presences) + 2 ≤ limits .presences
   pub below : t < 128
   pub new : t ≡ new-type (schema-of b)
   pub reverse-below : r < 128

@@ -4,6 +4,7 @@ use mathlib.Core.Path.{_≡_}
 use mathlib.Core.List.{List, _∷_, _++_}
 use mathlib.Core.Bool.{Bool, true, false}
 use lib.ListN.{length}
+use Rattle.rules.specs.02-Limits.{limits}
 use Rattle.rules.specs.03-Names.{Name, well-formed}
 use Rattle.rules.specs.04-Schema.{Schema, bears}
 use Rattle.rules.specs.07-Picture.{Sound}
@@ -30,7 +31,7 @@ pub record Ready (b : List ℕ) (d : ℕ) (n : Name) (t : ℕ) : Type 0 where
   pub small : d < 16
   pub formed : well-formed n ≡ true
   pub free : bears (schema-of b) d n ≡ false
-  pub room : length ((schema-of b) .presences) < 512
+  pub room : length ((schema-of b) .presences) < limits .presences
   pub below : t < 128
   pub new : t ≡ new-type (schema-of b)
 
@@ -45,7 +46,7 @@ pub record Aimed (b : List ℕ) (d : ℕ) (n : Name) (no : ℕ) : Type 0 where
 pub record Room (b : List ℕ) (d : ℕ) (n : Name) (no t : ℕ) : Type 0 where
   pub told : Tested b (room-refusals (schema-of b) d n) no 0
   pub free : no ≡ 0 → bears (schema-of b) d n ≡ false
-  pub room : no ≡ 0 → length ((schema-of b) .presences) < 512
+  pub room : no ≡ 0 → length ((schema-of b) .presences) < limits .presences
   pub below : no ≡ 0 → t < 128
   pub new : no ≡ 0 → t ≡ new-type (schema-of b)
 

@@ -23,7 +23,8 @@ through-1 c = c .before .before .aimed-at .ensures .through (c .if1 .left)
 sds-1 : (c : tie.Else1) → c .before .before .before .before .before .before .before .args .sds < 16
 sds-1 c = used-below _ (sound-long (through-1 c .sound)) _ (through-1 c .used)
 
-row-2 : (c : tie.Else2) → c .before .before .before .end-row .result < end-count (c .before .before .before .before .before .before .before .before .before .before .before .before .args .base .now)
+row-2 : (c : tie.Else2) → c .before .before .before .end-row .result < end-count
+    (c .before .before .before .before .before .before .before .before .before .before .before .before .args .base .now)
 row-2 c = omega (arith, c .before .end-count .ensures .is, c .if2 .left)
 
 there-2 : (c : tie.Else2) → let x = c .before .before .before .before .before .before .before .before .before .before .before .before .args in
@@ -47,7 +48,10 @@ end-row-requires : tie.Need-end-row-requires
 end-row-requires c κs =
     let th = through-1 (c .before) in (
       sound-stored (th .sound),
-      (omega (arith, sds-1 (c .before)), (omega (arith, th .link-below), (c .before .before .before .before .before .before .before .before .pre, omega (arith, th .object-below)))),
+      (
+        omega (arith, sds-1 (c .before)),
+        (omega (arith, th .link-below), (c .before .before .before .before .before .before .before .before .pre, omega (arith, th .object-below))),
+      ),
     )
 
 end-count-requires : tie.Need-end-count-requires
@@ -70,7 +74,11 @@ reverse-of-requires : tie.Need-reverse-of-requires
 reverse-of-requires c κs = let th = through-1 (c .before .before .before .before .before .before) in (th .sound, th .link-below)
 
 take-end-requires : tie.Need-take-end-requires
-take-end-requires c κs = (sound-stored (through-1 (c .before .before .before .before .before .before .before .before) .sound), row-2 (c .before .before .before))
+take-end-requires c κs = (
+  sound-stored (through-1 (c .before .before .before .before .before .before .before .before) .sound),
+  row-2
+      (c .before .before .before),
+)
 
 done-requires : tie.Need-done-requires
 done-requires c κs = search needs

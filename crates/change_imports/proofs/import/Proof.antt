@@ -55,8 +55,15 @@ enter-one-requires c κs =
     let x = c .before .before .before .before .before .before .before .before .before .before .before .before .before .before .before .before .before .args in
     let v = c .before .before .before .before .before .before .before .before .before .before .before .named-by .result in
     let r = ready-1 (c .before .before .before .before .before .before .before .before .before) in
-    let name = cut-is (c .before .before .before .before .before .name-length .ensures) ∙ c .before .before .before .before .before .before .before .filled .ensures in
-    (r .sound, ((r .elsewhere, (r .small, r .below)), ap well-formed name ∙ filled-formed (sound-good (r .sound)) (x .source) (v .t) (x .new .now) (r .there) (r .formed)))
+    let name = cut-is (c .before .before .before .before .before .name-length .ensures)
+    ∙ c .before .before .before .before .before .before .before .filled .ensures in (
+      r .sound,
+      (
+        (r .elsewhere, (r .small, r .below)),
+        ap well-formed name
+            ∙ filled-formed (sound-good (r .sound)) (x .source) (v .t) (x .new .now) (r .there) (r .formed),
+      ),
+    )
 
 same-length-2 : tie.Need-same-length-2
 same-length-2 c = search needs
@@ -112,7 +119,8 @@ enter-both-requires c κs =
     let good = sound-good (r .sound) in
     let name = cut-is (c .before .before .before .before .before .before .before .before .before .before .before .name-length .ensures) ∙ c .before
     .before .before .before .before .before .before .before .before .before .before .before .before .filled .ensures in
-    let other = cut-is (c .before .before .before .before .before .name-length2 .ensures) ∙ c .before .before .before .before .before .before .before .filled2 .ensures in (
+    let other = cut-is (c .before .before .before .before .before .name-length2 .ensures)
+    ∙ c .before .before .before .before .before .before .before .filled2 .ensures in (
       r .sound,
       (
         (r .elsewhere, (r .small, (r .below, reverse-below named z e))),

@@ -34,7 +34,8 @@ returns-2 : tie.Need-returns-2
 returns-2 c =
     let below : c .before .before .before .before .free-type .result < 128 = let h = c .before .before .before .if1 .left in omega arith in
     no-two (come-stops (come-first (c .before .before .before .before .before .before .pre))
-    (numbers-short _ 2 (no-room-for-two (c .before .before .before .before .free-type .ensures) below (c .before .before .free-type2 .ensures) (c .before .if2 .taken)))
+    (numbers-short _ 2 (no-room-for-two (c .before .before .before .before .free-type .ensures) below (c .before .before .free-type2 .ensures)
+    (c .before .if2 .taken)))
     (c .refused2 .ensures)) (λ z. omega (arith, c .refused2 .ensures))
 
 presence-count-requires : tie.Need-presence-count-requires
@@ -62,7 +63,12 @@ returns-4 c =
       told = come-through (come-next (come-first (c .before .before .before .before .before .before .before .pre))
           (both-fit _ 2 (room-for-two f below g next) (omega (arith, c .before .presence-count .ensures .is))));
       two = λ _. record {
-        room = omega (arith, c .before .presence-count .ensures .is, presences-long (c .before .before .before .before .before .before .before .args .base .now));
+        room = omega (
+          arith,
+          c .before .presence-count .ensures .is,
+          presences-long
+              (c .before .before .before .before .before .before .before .args .base .now),
+        );
         below = below;
         new = new-type-is f below;
         reverse-below = next;

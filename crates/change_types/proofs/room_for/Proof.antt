@@ -20,7 +20,8 @@ use Rattle.change_types.proofs.room_for.Tie as tie
 free-1 : (c : tie.Else1) → let x = c .before .before .before .before .args in bears (schema-of (x .base .now)) (x .sds) (x .name .now) ≡ false
 free-1 c = not-borne (c .before .type-in .ensures) (c .if1 .left)
 
-at-14 : (c : tie.Else1) → let x = c .before .before .before .before .args in Past (x .base .now) (room-refusals (schema-of (x .base .now)) (x .sds) (x .name .now)) 14
+at-14 : (c : tie.Else1) → let x = c .before .before .before .before .args in Past (x .base .now)
+    (room-refusals (schema-of (x .base .now)) (x .sds) (x .name .now)) 14
 at-14 c = come-next (come-first (c .before .before .before .before .pre)) (one-free _ _ _ (free-1 c))
 
 type-in-requires : tie.Need-type-in-requires
@@ -30,7 +31,8 @@ refused-requires : tie.Need-refused-requires
 refused-requires c κs = search needs
 
 returns : tie.Need-returns
-returns c = no-room (come-stops (come-first (c .before .before .before .before .before .pre)) (one-taken _ _ _ (borne (c .before .before .type-in .ensures) (c .before .if1 .taken)))
+returns c = no-room (come-stops (come-first (c .before .before .before .before .before .pre))
+    (one-taken _ _ _ (borne (c .before .before .type-in .ensures) (c .before .if1 .taken)))
     (c .refused .ensures)) (λ z. omega (arith, c .refused .ensures))
 
 free-type-requires : tie.Need-free-type-requires
@@ -40,7 +42,8 @@ refused-requires-2 : tie.Need-refused-requires-2
 refused-requires-2 c κs = search needs
 
 returns-2 : tie.Need-returns-2
-returns-2 c = no-room (come-stops (at-14 (c .before .before .before)) (numbers-short _ 1 (no-room-for (c .before .before .free-type .ensures) 1 (omega arith) (c .before .if2 .taken)))
+returns-2 c = no-room (come-stops (at-14 (c .before .before .before))
+    (numbers-short _ 1 (no-room-for (c .before .before .free-type .ensures) 1 (omega arith) (c .before .if2 .taken)))
     (c .refused2 .ensures)) (λ z. omega (arith, c .refused2 .ensures))
 
 presence-count-requires : tie.Need-presence-count-requires
@@ -60,9 +63,15 @@ returns-4 c =
     let below : c .before .before .before .free-type .result < 128 = let h = c .before .before .if2 .left in omega arith in
     let h = c .if3 .left in
     record {
-      told = come-through (come-next (at-14 (c .before .before .before .before)) (both-fit _ 1 (room-for-one f below) (omega (arith, c .before .presence-count .ensures .is))));
+      told = come-through (come-next (at-14 (c .before .before .before .before))
+          (both-fit _ 1 (room-for-one f below) (omega (arith, c .before .presence-count .ensures .is))));
       free = λ _. free-1 (c .before .before .before .before);
-      room = λ _. omega (arith, c .before .presence-count .ensures .is, presences-long (c .before .before .before .before .before .before .before .before .args .base .now));
+      room = λ _. omega (
+        arith,
+        c .before .presence-count .ensures .is,
+        presences-long
+            (c .before .before .before .before .before .before .before .before .args .base .now),
+      );
       below = λ _. below;
       new = λ _. new-type-is f below;
     }

@@ -3,13 +3,14 @@ use Prim.Native.Nat.{ℕ, _+_, _≤_, _<_}
 use mathlib.Core.Path.{_≡_}
 use mathlib.Core.List.{List, [], _∷_}
 use lib.ListN.{length}
+use Rattle.rules.specs.02-Limits.{limits}
 use Rattle.rules.specs.09-Refusals.{_when_, Refusals, types-full}
 use Rattle.rules.specs.10-Changes.{new-type, second-new-type}
 use Rattle.base.specs.Back.{schema-of}
 
 -- t and r are the numbers that the forward type and its reverse take, and there is room for their presences
 pub record Two-free (b : List ℕ) (t r : ℕ) : Type 0 where
-  pub room : length ((schema-of b) .presences) + 2 ≤ 512
+  pub room : length ((schema-of b) .presences) + 2 ≤ limits .presences
   pub below : t < 128
   pub new : t ≡ new-type (schema-of b)
   pub reverse-below : r < 128

@@ -8,6 +8,7 @@ use lib.Dec.{eqb}
 use lib.ListN.{length}
 use borrow.Author.Tests.{eqb-true, eq-eqb}
 use Rattle.rules.specs.01-Lists.{_∈_, any, all, without, put}
+use Rattle.rules.specs.02-Limits.{limits}
 use Rattle.rules.specs.03-Names.{Name, well-formed, same-name}
 use Rattle.rules.specs.04-Schema.{Schema, Presence, holds-type, holds-name, bears, type-named, presence-before}
 use Rattle.rules.specs.06-Good.{Good}
@@ -127,7 +128,7 @@ module _ {b b₁ : List ℕ} (s : Sound b) {d t r : ℕ} (found : Presence-row b
   is-now = shows-schema (row-taken (held-row (sound-good s) found h) found (sound-stored s) out)
 
   -- there is room for it, and its name is free
-  pub room-then : length ((schema-of b₁) .presences) < 512
+  pub room-then : length ((schema-of b₁) .presences) < limits .presences
   room-then =
       omega (
         arith,

@@ -43,7 +43,8 @@ past-last n code = go (ltb n code) refl
 -- all that a scan tests, by whether its code is unknown and its type of the wrong kind
 abbrev scan-tests : Schema → List ℕ → ℕ → Bool → Bool → ℕ → List ℕ → Refusals
 scan-tests s w t unknown wrong room l =
-    (2 when any (unknown-sds s) w) ∷ (5 when unknown) ∷ (6 when not-visible s w t) ∷ (7 when wrong) ∷ (8 when repeated w) ∷ (15 when short-output room (length l)) ∷ []
+    (2 when any (unknown-sds s) w) ∷ (5 when unknown) ∷ (6 when not-visible s w t) ∷ (7 when wrong) ∷ (8 when repeated w) ∷
+    (15 when short-output room (length l)) ∷ []
 
 abbrev pub room-test : ℕ → List ℕ → Refusals
 room-test room l = (15 when short-output room (length l)) ∷ []

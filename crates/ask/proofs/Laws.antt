@@ -13,7 +13,8 @@ use Rattle.rules.specs.04-Schema.{Schema, Presence, system-presence, holds-type
 use Rattle.rules.specs.07-Picture.{Sound, name-start}
 use Rattle.rules.specs.09-Refusals.{Outcome, not-present}
 use Rattle.rules.specs.09-Refusals.Outcome.{done}
-use Rattle.rules.specs.11-Asks.{place, name, name-refusals}
+use Rattle.rules.specs.11-Asks.{name, name-refusals}
+use Rattle.rules.specs.01-Lists.{place}
 use Rattle.rules.specs.12-Contracts.{Answered, Handed, stretch}
 use Rattle.rules.specs.Read.{strip, name-offset}
 use Rattle.rules.proofs.09-Refusals.{Left}

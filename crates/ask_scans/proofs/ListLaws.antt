@@ -34,7 +34,8 @@ module _ (l : List ℕ) {a : Answer} (before : List ℕ) where
   unfolding listing
   list-short h e = puts-as (no-room _ (room before) (length l) h) e refl
 
-  pub list-put : {after : List ℕ} → length l ≤ room before → a ≡ success (length l) 0 0 → after ≡ put-down l before → Puts (listing l (room before)) a before after
+  pub list-put : {after : List ℕ} → length l ≤ room before → a ≡ success (length l) 0 0 → after ≡ put-down l before
+      → Puts (listing l (room before)) a before after
   unfolding listing
   list-put h e f = puts-as (some-room _ (room before) (length l) h) e (f ∙ put-output l before)
 

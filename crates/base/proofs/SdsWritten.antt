@@ -11,7 +11,7 @@ use Rattle.rules.specs.03-Names.{Name}
 use Rattle.rules.specs.04-Schema.{Schema}
 use Rattle.rules.specs.06-Good.{Good}
 use Rattle.rules.specs.07-Picture.{sds-width, sds-row, picture}
-use Rattle.rules.specs.10-Changes.{with-sdss}
+use Rattle.rules.specs.04-Schema.{with-sdss}
 use Rattle.rules.proofs.07-Picture.{length-pad}
 use Rattle.rows.specs.Table.{written}
 use Rattle.rows.proofs.Written.{field-written}

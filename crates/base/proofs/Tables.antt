@@ -10,10 +10,11 @@ use lib.Dec.{ltb, eqb}
 use lib.ListN.{length, getD, set, length-append}
 use borrow.Author.Tests.{ltb-true, ltb-false, eq-eqb, ne-eqb}
 use Rattle.rules.specs.01-Lists.{bytes-before}
-use Rattle.rules.specs.04-Schema.{Schema, presence-before, application-before, end-before}
+use Rattle.rules.specs.04-Schema.{Schema}
+use Rattle.rules.specs.06-Good.{presence-before, application-before, end-before}
 use Rattle.rules.specs.07-Picture.{pad, presence-row, application-row, end-row, type-table, presence-table, application-table, end-table}
 use Rattle.rules.specs.07-Picture.{picture}
-use Rattle.rules.specs.10-Changes.{with-sdss, with-types, with-presences, with-applications, with-ends}
+use Rattle.rules.specs.04-Schema.{with-sdss, with-types, with-presences, with-applications, with-ends}
 use Rattle.rules.specs.02-Limits.{limits}
 use Rattle.rules.proofs.03-Names.{pad-before}
 use Rattle.rules.proofs.07-Picture.{length-pad, length-table, wide-sds, wide-type, wide-presence, wide-application, wide-end}

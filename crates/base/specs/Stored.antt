@@ -7,7 +7,7 @@ use lib.ListN.{length, take, drop, set}
 use Rattle.rules.specs.01-Lists.{_∈_, rising}
 use Rattle.rules.specs.04-Schema.{Schema, Kind}
 use Rattle.rules.specs.07-Picture.{pad, type-width, type-row, picture}
-use Rattle.rules.specs.10-Changes.{with-types}
+use Rattle.rules.specs.04-Schema.{with-types}
 use Rattle.rules.specs.Read.{parents-offset, read-kind}
 use Rattle.base.specs.Tables.{Table, Sorted, Used, sdss, types, by-name, by-application, by-end}
 use Rattle.base.specs.Back.{schema-of}

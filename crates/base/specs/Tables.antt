@@ -6,7 +6,8 @@ use mathlib.Core.Bool.{Bool, true}
 use lib.ListN.{drop, replicate}
 use Rattle.rules.specs.02-Limits.{limits}
 use Rattle.rules.specs.03-Names.{Name, well-formed}
-use Rattle.rules.specs.04-Schema.{Kind, Presence, Application, End, presence-before, application-before, end-before}
+use Rattle.rules.specs.04-Schema.{Kind, Presence, Application, End}
+use Rattle.rules.specs.06-Good.{presence-before, application-before, end-before}
 use Rattle.rules.specs.07-Picture.{sds-width, sds-row, type-width, type-row, presence-width, presence-row, application-width, application-row}
 use Rattle.rules.specs.07-Picture.{end-width, end-row, table}
 use Rattle.rules.specs.Read.{type-offset, strip, read-kind, read-presence, read-application, read-end}

@@ -10,11 +10,13 @@ use borrow.Author.Tests.{lt-ltb, le-ltb}
 use Rattle.rules.specs.01-Lists.{without, put}
 use Rattle.rules.specs.02-Limits.{limits}
 use Rattle.rules.specs.03-Names.{Name}
-use Rattle.rules.specs.04-Schema.{Schema, Application, kind-of, is-attribute, type-named, applied, is-application, application-before}
+use Rattle.rules.specs.04-Schema.{Schema, Application, kind-of, is-attribute, type-named, applied, is-application}
+use Rattle.rules.specs.06-Good.{application-before}
 use Rattle.rules.specs.07-Picture.{Sound, picture}
 use Rattle.rules.specs.09-Refusals.{_when_, Refusals, no-object, no-attribute, no-link, applications-full}
 use Rattle.rules.specs.09-Refusals.Outcome.{done}
-use Rattle.rules.specs.10-Changes.{with-applications, application-refusals, apply, unapply}
+use Rattle.rules.specs.10-Changes.{application-refusals, apply, unapply}
+use Rattle.rules.specs.04-Schema.{with-applications}
 use Rattle.rules.proofs.Bools.{or-left}
 use Rattle.rules.proofs.09-Refusals.{Left}
 use Rattle.rows.specs.Rows.{Counted}

@@ -12,12 +12,14 @@ use Rattle.rules.specs.declared.Answer.{Answer}
 use Rattle.rules.specs.01-Lists.{all, first, put}
 use Rattle.rules.specs.03-Names.{Name, well-formed, blank, same-name}
 use Rattle.rules.specs.04-Schema.{Schema, Presence, used-sds, reverse, holds-type, holds-name, present, bears, type-named, local-name}
-use Rattle.rules.specs.04-Schema.{presence-before}
+use Rattle.rules.specs.06-Good.{presence-before}
 use Rattle.rules.specs.06-Good.{Good}
 use Rattle.rules.specs.07-Picture.{Sound, pad, picture, base-length}
 use Rattle.rules.specs.09-Refusals.{_when_, Outcome, verdict, unknown-sds, malformed, malformed-new, idle-reverse-name, names-taken, presences-full}
 use Rattle.rules.specs.09-Refusals.Outcome.{done}
-use Rattle.rules.specs.10-Changes.{with-presences, put-all, filled, imported, import}
+use Rattle.rules.specs.10-Changes.{filled, imported, import}
+use Rattle.rules.specs.04-Schema.{with-presences}
+use Rattle.rules.specs.01-Lists.{put-all}
 use Rattle.rules.specs.12-Contracts.{Kept}
 use Rattle.rules.proofs.Bools.{and-rest, or-neither}
 use Rattle.rules.proofs.Edits.{put-long, put-none, first-in}

@@ -14,7 +14,8 @@ use Rattle.rules.specs.06-Good.{Good}
 use Rattle.rules.specs.07-Picture.{Sound, picture}
 use Rattle.rules.specs.09-Refusals.{Outcome, still-used}
 use Rattle.rules.specs.09-Refusals.Outcome.{done}
-use Rattle.rules.specs.10-Changes.{with-presences, less-gone, remove-type, remove-type-refusals}
+use Rattle.rules.specs.10-Changes.{less-gone, remove-type, remove-type-refusals}
+use Rattle.rules.specs.04-Schema.{with-presences}
 use Rattle.rules.proofs.Bools.{and-both, or-first, or-next}
 use Rattle.rules.proofs.01-Lists.{any-at, any-where}
 use Rattle.rules.proofs.Edits.{without-in, without-keeps, without-same, without-twice}

@@ -13,7 +13,8 @@ use borrow.Author.Tests.{ltb-true, ltb-false, le-ltb, eqb-true, eq-eqb}
 use Rattle.rules.specs.01-Lists.{_∈_, bytes-before, rising}
 use Rattle.rules.specs.02-Limits.{limits}
 use Rattle.rules.specs.03-Names.{well-formed, same-name, name-before}
-use Rattle.rules.specs.04-Schema.{Presence, system-presence, presence-before}
+use Rattle.rules.specs.04-Schema.{Presence, system-presence}
+use Rattle.rules.specs.06-Good.{presence-before}
 use Rattle.rules.specs.07-Picture.{pad, presence-row, presence-width}
 use Rattle.rules.proofs.Bools.{or-cases, and-both, fails}
 use Rattle.rules.proofs.01-Lists.{rising-at, at-rising}

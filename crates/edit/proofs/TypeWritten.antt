@@ -11,7 +11,7 @@ use Rattle.rules.specs.02-Limits.{limits}
 use Rattle.rules.specs.04-Schema.{Schema, Kind}
 use Rattle.rules.specs.04-Schema.Kind.{unused, object, attribute, designation, paired}
 use Rattle.rules.specs.07-Picture.{pad, type-width, type-row, picture}
-use Rattle.rules.specs.10-Changes.{with-types}
+use Rattle.rules.specs.04-Schema.{with-types}
 use Rattle.rules.specs.Read.{parents-offset, read-kind}
 use Rattle.rules.proofs.07-Picture.{kind-back}
 use Rattle.rules.proofs.07-Picture.Fitting.{fits-unused, fits-object, fits-attribute, fits-designation, fits-paired}

@@ -15,7 +15,7 @@ use Rattle.rules.specs.04-Schema.Kind.{unused, object, attribute, designation, 
 use Rattle.rules.specs.05-Descent.{Parent, Descends}
 use Rattle.rules.specs.05-Descent.Descends.{by-parent, by-step}
 use Rattle.rules.specs.06-Good.{Good}
-use Rattle.rules.specs.10-Changes.{with-types, with-presences}
+use Rattle.rules.specs.04-Schema.{with-types, with-presences}
 use Rattle.rules.specs.Parts.{of-types, of-presences, Types, Presences}
 use Rattle.rules.proofs.05-Descent.{object-used}
 use Rattle.rules.proofs.Parts.{presence-there, parts-of, whole}

@@ -11,13 +11,16 @@ use Rattle.rules.specs.01-Lists.{first, put}
 use Rattle.rules.specs.02-Limits.{limits}
 use Rattle.rules.specs.03-Names.{Name, well-formed, blank, same-name}
 use Rattle.rules.specs.04-Schema.{Schema, Kind, Presence, kind-of, is-used, reverse-in, reverse, with-reverse, parents, holds-type, present, bears}
-use Rattle.rules.specs.04-Schema.{type-named, local-name, presence-before}
+use Rattle.rules.specs.04-Schema.{type-named, local-name}
+use Rattle.rules.specs.06-Good.{presence-before}
 use Rattle.rules.specs.04-Schema.Kind.{paired}
 use Rattle.rules.specs.05-Descent.{Parent}
 use Rattle.rules.specs.06-Good.{Good}
 use Rattle.rules.specs.09-Refusals.{unknown-sds, system-sds, malformed, malformed-new, not-present, missing-parent, names-taken, presences-full}
 use Rattle.rules.specs.09-Refusals.Outcome.{done}
-use Rattle.rules.specs.10-Changes.{with-presences, put-all, filled, imported, import, import-refusals}
+use Rattle.rules.specs.10-Changes.{filled, imported, import, import-refusals}
+use Rattle.rules.specs.04-Schema.{with-presences}
+use Rattle.rules.specs.01-Lists.{put-all}
 use Rattle.rules.specs.13-History.{next}
 use Rattle.rules.specs.Parts.{of-types, of-presences}
 use Rattle.rules.proofs.Bools.{or-neither, fails}
@@ -191,7 +194,9 @@ import-keeps target source n new new-reverse s g =
     (done t (getD (reverse s t) 0 0) 0 (with-presences s (put-all presence-before (imported target source t new new-reverse s) (s .presences))))
     (λ _ _. g)
     (λ passed.
-    let given = or-neither (malformed-new new) (malformed-new new-reverse) (or-neither (malformed n) (malformed-new new || malformed-new new-reverse) (passed .fails 4) .1) in
-    comes target source t new new-reverse s g (or-neither (unknown-sds s target) (unknown-sds s source) (passed .fails 2) .0) (passed .fails 3) (given .0) (given .1)
+    let given = or-neither (malformed-new new) (malformed-new new-reverse)
+    (or-neither (malformed n) (malformed-new new || malformed-new new-reverse) (passed .fails 4) .1) in
+    comes target source t new new-reverse s g (or-neither (unknown-sds s target) (unknown-sds s source) (passed .fails 2) .0) (passed .fails 3) (given .0)
+    (given .1)
     (named-present s source n (passed .fails 6)) (passed .fails 9) (passed .fails 10) (passed .fails 11)
     (passed .fails 14))

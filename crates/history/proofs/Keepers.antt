@@ -8,7 +8,7 @@ use lib.ListN.{length, getD, set}
 use Rattle.rules.specs.declared.Answer.{Answer}
 use Rattle.rules.specs.01-Lists.{bytes, any, all, numbers}
 use Rattle.rules.specs.03-Names.{letter, letter-or-digit, well-formed}
-use Rattle.rules.specs.04-Schema.{Schema, fresh, used-sds}
+use Rattle.rules.specs.04-Schema.{with-sdss, Schema, fresh, used-sds}
 use Rattle.rules.specs.06-Good.{Good}
 use Rattle.rules.specs.07-Picture.{Sound, picture, pad, sds-row, table}
 use Rattle.rules.specs.09-Refusals.{Outcome, verdict, answer-of, success, malformed, sds-name-taken, no-free-sds, free-sdss}
@@ -42,10 +42,10 @@ abbrev pub new-radio : Call
 new-radio = change (new-sds (bytes "radio"))
 
 abbrev with-bus : Schema
-with-bus = Changes.with-sdss fresh (set (fresh .sdss) 1 (bytes "bus"))
+with-bus = with-sdss fresh (set (fresh .sdss) 1 (bytes "bus"))
 
 abbrev with-both : Schema
-with-both = Changes.with-sdss with-bus (set (with-bus .sdss) 2 (bytes "radio"))
+with-both = with-sdss with-bus (set (with-bus .sdss) 2 (bytes "radio"))
 
 bus-done : Changes.new-sds (bytes "bus") fresh ≡ done 1 0 0 with-bus
 unfolding Changes.new-sds verdict malformed sds-name-taken no-free-sds free-sdss well-formed letter letter-or-digit all any numbers fresh used-sds

@@ -11,9 +11,10 @@ use lib.Dec.{ltb, eqb}
 use borrow.Author.Tests.{ltb-true, ltb-false, lt-ltb, eqb-true, eq-eqb}
 use Rattle.rules.specs.01-Lists.{_∈_, rising, without, put}
 use Rattle.rules.specs.03-Names.{Name, name-before}
-use Rattle.rules.specs.04-Schema.{Side, side-code, presence-before, application-before, end-before}
+use Rattle.rules.specs.04-Schema.{Side, side-code}
+use Rattle.rules.specs.06-Good.{presence-before, application-before, end-before}
 use Rattle.rules.specs.04-Schema.Side.{origin, destination}
-use Rattle.rules.specs.10-Changes.{put-all}
+use Rattle.rules.specs.01-Lists.{put-all}
 use Rattle.rules.proofs.Bools.{or-cases, or-left, or-right, or-neither, and-both, and-of}
 use Rattle.rules.proofs.01-Lists.{Different}
 use Rattle.rules.proofs.03-Names.{name-transitive, name-connected}

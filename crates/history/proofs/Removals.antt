@@ -18,7 +18,8 @@ use Rattle.rules.specs.05-Descent.{Parent}
 use Rattle.rules.specs.06-Good.{Good}
 use Rattle.rules.specs.09-Refusals.{has-child, in-application, in-end, still-used}
 use Rattle.rules.specs.09-Refusals.Outcome.{done}
-use Rattle.rules.specs.10-Changes.{with-types, with-presences, less-gone, remove-type, remove-type-refusals}
+use Rattle.rules.specs.10-Changes.{less-gone, remove-type, remove-type-refusals}
+use Rattle.rules.specs.04-Schema.{with-types, with-presences}
 use Rattle.rules.specs.13-History.{next}
 use Rattle.rules.specs.Parts.{of-types, of-presences, Types, Presences, Applications, Ends, Parts}
 use Rattle.rules.proofs.Bools.{or-left, or-right, or-neither, and-both, and-of, fails}

@@ -16,7 +16,8 @@ use Rattle.rules.specs.04-Schema.{Schema, Presence, used-sds}
 use Rattle.rules.specs.06-Good.{Good}
 use Rattle.rules.specs.09-Refusals.{unknown-sds, sds-name-taken, holds-presence, free-sdss, no-free-sds}
 use Rattle.rules.specs.09-Refusals.Outcome.{done}
-use Rattle.rules.specs.10-Changes.{with-sdss, new-sds, new-sds-number, new-sds-refusals, remove-sds, remove-sds-refusals}
+use Rattle.rules.specs.10-Changes.{new-sds, new-sds-number, new-sds-refusals, remove-sds, remove-sds-refusals}
+use Rattle.rules.specs.04-Schema.{with-sdss}
 use Rattle.rules.specs.13-History.{next}
 use Rattle.rules.specs.Parts.{of-sdss, Sdss}
 use Rattle.rules.proofs.Bools.{or-neither, and-of}

@@ -89,7 +89,8 @@ module _ {s : Schema} (good : Good s) where
   origins-are-destinations d l c r o k =
       let (c′, h) = good .reverse-in-turn l c r k in
       same-test (has-end s d l origin o) (has-end s d r destination o)
-      (λ e. good .mirrored (record { sds = d; link = l; side = origin; object = o }) (has-in (s .ends) (record { sds = d; link = l; side = origin; object = o }) e) c r k)
+      (λ e. good .mirrored (record { sds = d; link = l; side = origin; object = o })
+      (has-in (s .ends) (record { sds = d; link = l; side = origin; object = o }) e) c r k)
       (λ e. good .mirrored (record { sds = d; link = r; side = destination; object = o })
       (has-in (s .ends) (record { sds = d; link = r; side = destination; object = o }) e) c′ l h)
 

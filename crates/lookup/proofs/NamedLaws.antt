@@ -9,7 +9,7 @@ use borrow.Author.Tests.{eq-eqb, ne-eqb}
 use Rattle.rules.specs.03-Names.{Name, same-name}
 use Rattle.rules.specs.04-Schema.{Schema, Presence, system-presence, holds-name, bears, type-named}
 use Rattle.rules.specs.06-Good.{Good}
-use Rattle.rules.specs.11-Asks.{place}
+use Rattle.rules.specs.01-Lists.{place}
 use Rattle.rules.specs.Read.{type-offset}
 use Rattle.rules.proofs.01-Lists.{any-at, any-none}
 use Rattle.rules.proofs.05-Descent.{used-below}

@@ -316,7 +316,8 @@ before-connected (x ∷ a) (y ∷ b) p q =
     let (l, e) = or-neither (ltb x y) (eqb x y && bytes-before a b) p in
     let (m, f) = or-neither (ltb y x) (eqb y x && bytes-before b a) q in
     let same : x ≡ y = omega (arith, ltb-false x y l, ltb-false y x m) in
-    let rest = before-connected a b (and-rest (eqb x y) (bytes-before a b) (eq-eqb x y same) e) (and-rest (eqb y x) (bytes-before b a) (eq-eqb y x (sym same)) f) in
+    let rest = before-connected a b (and-rest (eqb x y) (bytes-before a b) (eq-eqb x y same) e)
+    (and-rest (eqb y x) (bytes-before b a) (eq-eqb y x (sym same)) f) in
     λ i. same i ∷ rest i
 
 -- ---- a rising list, neighbour by neighbour

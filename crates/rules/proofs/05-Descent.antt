@@ -13,7 +13,8 @@ use borrow.Author.Tests.{ltb-false, ltb-true, eqb-true, eq-eqb}
 use Rattle.rules.specs.01-Lists.{_∈_, rising}
 use Rattle.rules.specs.04-Schema.{Schema, Kind, kind-of, is-used, is-object, parents, parents-in}
 use Rattle.rules.specs.04-Schema.Kind.{unused, object, attribute, designation, paired}
-use Rattle.rules.specs.05-Descent.{Parent, Descends, Chain, climbs, descends, greatest, height, depth, members}
+use Rattle.rules.specs.05-Descent.{Parent, Descends, Chain, climbs, descends, height, depth, members}
+use Rattle.rules.specs.01-Lists.{greatest}
 use Rattle.rules.specs.05-Descent.Descends.{by-parent, by-step}
 use Rattle.rules.specs.05-Descent.Chain.{at-root, up}
 use Rattle.rules.specs.06-Good.{Good}
@@ -152,7 +153,8 @@ module _ {s : Schema} (good : Good s) where
   trail-short {l = l} o tr =
       members-at-most objects l (trail-different tr) (λ x i. let e = trail-objects o tr x i in (object-below x e, e))
 
-  climbs-full : {from t : ℕ} {l : List ℕ} → is-object (kind-of s from) ≡ true → (n a : ℕ) → n + length l ≡ 129 → Trail s from t l → Descends s t a → climbs s n t a ≡ true
+  climbs-full : {from t : ℕ} {l : List ℕ} → is-object (kind-of s from) ≡ true → (n a : ℕ) → n + length l ≡ 129 → Trail s from t l → Descends s t a
+      → climbs s n t a ≡ true
   unfolding climbs
   climbs-full {l = l} o zero a e tr d = absurd (let short = trail-short o tr in omega (arith, members-most objects))
   climbs-full {t = t} o (suc n) a e tr (by-parent by) =

@@ -293,7 +293,7 @@ module _ {s : Schema} (good : Good s) where
       let rest = application-table s ++ end-table s in
       let T = table presence-width presence-row (512 - suc k) (drop (suc k) (s .presences)) in
       let along : k * presence-width ≤ length (presence-table s) = omega
-          (arith, length-table presence-width presence-row wide-presence 512 (s .presences), good .presence-room) in
+      (arith, length-table presence-width presence-row wide-presence 512 (s .presences), good .presence-room) in
       let row : drop (k * presence-width) (presence-table s ++ rest) ≡ (presence-row p ++ T) ++ rest
       = lib.Seq.drop-append-le (k * presence-width) (presence-table s) rest along
       ∙ ap (λ (l : List ℕ). l ++ rest) (table-row presence-width presence-row wide-presence 512 (s .presences) k system-presence h (good .presence-room)) in

@@ -20,7 +20,8 @@ use Rattle.rules.specs.06-Good.{Good}
 use Rattle.rules.specs.07-Picture.{sds-row, type-row, picture, name-start, sds-width, type-width, presence-width, base-length}
 use Rattle.rules.specs.08-Working.{visible, shown}
 use Rattle.rules.specs.09-Refusals.{Outcome, answer-of, not-present}
-use Rattle.rules.specs.11-Asks.{place, name, name-refusals, one-if, marks, visible-descendant, object-scan-list}
+use Rattle.rules.specs.11-Asks.{name, name-refusals, one-if, marks, visible-descendant, object-scan-list}
+use Rattle.rules.specs.01-Lists.{place}
 use Rattle.rules.specs.13-History.{Whole-list}
 use Rattle.rules.proofs.05-Descent.{members-rising, descends-sound, descends-full}
 use Rattle.rules.proofs.01-Lists.{place-in}

@@ -34,7 +34,7 @@
 --   record, data        a record of named fields; a choice between the shapes that are listed
 --   abbrev, unfoldable, pub    how the checker treats a name; they say nothing about its meaning. A name in braces, `{A : Type 0}`,
 --                       is found by the checker and not written at a call
-use Prim.Native.Nat.{ℕ, zero, suc}
+use Prim.Native.Nat.{ℕ, zero, suc, max}
 use Prim.Native.Char.{code}
 use Prim.Native.String as Text
 use Prim.Native.String.{String}
@@ -97,6 +97,21 @@ module _ {A : Type 0} where
   unfoldable pub put : (A → A → Bool) → A → List A → List A
   put before a [] = a ∷ []
   put before a (x ∷ xs) = cond (before x a) (x ∷ put before a xs) (a ∷ x ∷ xs)
+
+-- each put in at its place
+unfoldable pub put-all : {A : Type 0} → (A → A → Bool) → List A → List A → List A
+put-all before [] rs = rs
+put-all before (a ∷ more) rs = put-all before more (put before a rs)
+
+-- how many elements stand before the first that passes
+unfoldable pub place : {A : Type 0} → (A → Bool) → List A → ℕ
+place p [] = 0
+place p (x ∷ xs) = cond (p x) 0 (suc (place p xs))
+
+-- the greatest of what f makes of the numbers, 0 where there are none
+unfoldable pub greatest : (ℕ → ℕ) → List ℕ → ℕ
+greatest f [] = 0
+greatest f (p ∷ ps) = max (f p) (greatest f ps)
 
 -- n is one of the numbers
 abbrev pub among : List ℕ → ℕ → Bool

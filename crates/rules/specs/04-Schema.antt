@@ -1,12 +1,12 @@
 -- 01, "Things in a base", as a value: names, types, presences, applications, ends. What is allowed of them is said in 06-Good.
 use Prim.Native.Nat.{ℕ, _-_}
 use mathlib.Core.List.{List, [], _∷_}
-use mathlib.Core.Bool.{Bool, true, false, not, _&&_, _||_}
+use mathlib.Core.Bool.{Bool, not, _&&_}
 use lib.Dec.{ltb, eqb}
 use lib.ListN.{getD, replicate}
 use Rattle.rules.specs.01-Lists.{bytes, any, first, among}
 use Rattle.rules.specs.02-Limits.{limits}
-use Rattle.rules.specs.03-Names.{Name, blank, same-name, name-before}
+use Rattle.rules.specs.03-Names.{Name, blank, same-name}
 
 -- "A type has a number 0 to 127 and a kind. What belongs to a type is the same in every SDS."
 -- "A designation type has no reverse. Every other has exactly one."
@@ -68,6 +68,23 @@ fresh = record {
   applications = [];
   ends = [];
 }
+
+-- ---- a schema with one table changed
+
+abbrev pub with-sdss : Schema → List Name → Schema
+with-sdss s ns = record { sdss = ns; types = s .types; presences = s .presences; applications = s .applications; ends = s .ends }
+
+abbrev pub with-types : Schema → List Kind → Schema
+with-types s ks = record { sdss = s .sdss; types = ks; presences = s .presences; applications = s .applications; ends = s .ends }
+
+abbrev pub with-presences : Schema → List Presence → Schema
+with-presences s ps = record { sdss = s .sdss; types = s .types; presences = ps; applications = s .applications; ends = s .ends }
+
+abbrev pub with-applications : Schema → List Application → Schema
+with-applications s xs = record { sdss = s .sdss; types = s .types; presences = s .presences; applications = xs; ends = s .ends }
+
+abbrev pub with-ends : Schema → List End → Schema
+with-ends s es = record { sdss = s .sdss; types = s .types; presences = s .presences; applications = s .applications; ends = es }
 
 -- ---- SDSs
 
@@ -183,21 +200,3 @@ is-end d l side o e = eqb (e .sds) d && (eqb (e .link) l && (eqb (side-code (e .
 -- object type o is an origin, or a destination, of link type l in SDS d
 unfoldable pub has-end : Schema → ℕ → ℕ → Side → ℕ → Bool
 has-end s d l side o = any (is-end d l side o) (s .ends)
-
--- ---- the order in which rows are kept (design: the layout's, not 01's)
-
--- x comes before y; where they are the same, the rest decides
-abbrev first-by : ℕ → ℕ → Bool → Bool
-first-by x y rest = ltb x y || (eqb x y && rest)
-
--- by SDS, then name, then type
-unfoldable pub presence-before : Presence → Presence → Bool
-presence-before p q = first-by (p .sds) (q .sds) (name-before (p .name) (q .name) || (not (name-before (q .name) (p .name)) && ltb (p .type) (q .type)))
-
--- by SDS, then the type applied to, then the attribute type
-unfoldable pub application-before : Application → Application → Bool
-application-before x y = first-by (x .sds) (y .sds) (first-by (x .to) (y .to) (ltb (x .attribute) (y .attribute)))
-
--- by SDS, then link type, then side, then object type
-unfoldable pub end-before : End → End → Bool
-end-before x y = first-by (x .sds) (y .sds) (first-by (x .link) (y .link) (first-by (side-code (x .side)) (side-code (y .side)) (ltb (x .object) (y .object))))

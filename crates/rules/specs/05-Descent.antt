@@ -1,10 +1,10 @@
 -- "Ancestors are what parents reach in one or more steps; descendants are the converse. Depth is the greatest number of parent
 -- steps from a type up to type 0."
-use Prim.Native.Nat.{ℕ, zero, suc, max}
-use mathlib.Core.List.{List, [], _∷_}
+use Prim.Native.Nat.{ℕ, zero, suc}
+use mathlib.Core.List.{List}
 use mathlib.Core.Bool.{Bool, false, _||_}
 use lib.Dec.{eqb}
-use Rattle.rules.specs.01-Lists.{_∈_, any, numbers}
+use Rattle.rules.specs.01-Lists.{_∈_, any, greatest, numbers}
 use Rattle.rules.specs.02-Limits.{limits}
 use Rattle.rules.specs.04-Schema.{Schema, parents}
 
@@ -31,10 +31,6 @@ climbs s (suc n) t a = any (λ p. eqb p a || climbs s n p a) (parents s t)
 -- no way up is longer than there are types
 unfoldable pub descends : Schema → ℕ → ℕ → Bool
 descends s t a = climbs s (limits .types) t a
-
-unfoldable pub greatest : (ℕ → ℕ) → List ℕ → ℕ
-greatest f [] = 0
-greatest f (p ∷ ps) = max (f p) (greatest f ps)
 
 -- the greatest number of steps from t, n of them at most
 unfoldable pub height : Schema → ℕ → ℕ → ℕ

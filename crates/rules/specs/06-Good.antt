@@ -3,17 +3,36 @@
 use Prim.Native.Nat.{ℕ, _≤_}
 use mathlib.Core.Path.{_≡_}
 use mathlib.Core.List.{List, []}
-use mathlib.Core.Bool.{true, _&&_, _||_}
-use lib.Dec.{ltb}
+use mathlib.Core.Bool.{Bool, true, not, _&&_, _||_}
+use lib.Dec.{ltb, eqb}
 use lib.ListN.{length}
 use Rattle.rules.specs.01-Lists.{_∈_, rising}
 use Rattle.rules.specs.02-Limits.{limits}
-use Rattle.rules.specs.03-Names.{well-formed, same-name}
+use Rattle.rules.specs.03-Names.{well-formed, same-name, name-before}
 use Rattle.rules.specs.04-Schema.{Schema, Presence, Application, End, system-name, system-presence, sds-name, used-sds, kind-of}
-use Rattle.rules.specs.04-Schema.{is-used, is-object, is-attribute, is-link, present, has-end, other-side, presence-before}
-use Rattle.rules.specs.04-Schema.{application-before, end-before}
+use Rattle.rules.specs.04-Schema.{is-used, is-object, is-attribute, is-link, present, has-end, side-code, other-side}
 use Rattle.rules.specs.04-Schema.Kind.{object, attribute, paired}
 use Rattle.rules.specs.05-Descent.{Parent, Descends}
+
+-- ---- the order in which rows are kept: the layout's, not 01's
+
+-- x comes before y; where they are the same, the rest decides
+abbrev first-by : ℕ → ℕ → Bool → Bool
+first-by x y rest = ltb x y || (eqb x y && rest)
+
+-- by SDS, then name, then type
+unfoldable pub presence-before : Presence → Presence → Bool
+presence-before p q = first-by (p .sds) (q .sds) (name-before (p .name) (q .name) || (not (name-before (q .name) (p .name)) && ltb (p .type) (q .type)))
+
+-- by SDS, then the type applied to, then the attribute type
+unfoldable pub application-before : Application → Application → Bool
+application-before x y = first-by (x .sds) (y .sds) (first-by (x .to) (y .to) (ltb (x .attribute) (y .attribute)))
+
+-- by SDS, then link type, then side, then object type
+unfoldable pub end-before : End → End → Bool
+end-before x y = first-by (x .sds) (y .sds) (first-by (x .link) (y .link) (first-by (side-code (x .side)) (side-code (y .side)) (ltb (x .object) (y .object))))
+
+-- ---- what a sound base keeps
 
 pub record Good (s : Schema) : Type 0 where
   -- "Room: 16 SDSs, 128 types, 512 presences, 256 applications, 512 ends."

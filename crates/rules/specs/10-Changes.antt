@@ -4,11 +4,13 @@ use mathlib.Core.List.{List, [], _∷_, _++_, map}
 use mathlib.Core.Bool.{Bool, not, cond, _&&_, _||_}
 use lib.Dec.{ltb, eqb}
 use lib.ListN.{length, getD, set}
-use Rattle.rules.specs.01-Lists.{any, among, repeated, without, put}
+use Rattle.rules.specs.01-Lists.{any, among, repeated, without, put, put-all}
 use Rattle.rules.specs.03-Names.{Name, blank, names-in}
-use Rattle.rules.specs.04-Schema.{Schema, Kind, Presence, Application, Side, End, reverse, with-reverse, present, type-named}
-use Rattle.rules.specs.04-Schema.{local-name, holds-type, applied, is-application, has-end, is-end, other-side, presence-before}
-use Rattle.rules.specs.04-Schema.{application-before, end-before}
+use Rattle.rules.specs.04-Schema.{with-sdss, with-types, with-presences, with-applications, with-ends}
+use Rattle.rules.specs.04-Schema.{Schema, Kind, Presence, Side, End, reverse, with-reverse, present, type-named}
+use Rattle.rules.specs.04-Schema.{local-name, holds-type, applied, is-application, has-end, is-end, other-side}
+use Rattle.rules.specs.06-Good.{presence-before}
+use Rattle.rules.specs.06-Good.{application-before, end-before}
 use Rattle.rules.specs.04-Schema.Kind.{unused, object, attribute, designation, paired}
 use Rattle.rules.specs.04-Schema.Side.{origin, destination}
 use Rattle.rules.specs.09-Refusals.{Outcome, Refusals, _when_, verdict, unknown-sds, system-sds, malformed, malformed-new, unknown-value-kind}
@@ -16,28 +18,6 @@ use Rattle.rules.specs.09-Refusals.{no-pair, not-1-to-4, no-such-name, n
 use Rattle.rules.specs.09-Refusals.{missing-parent, sds-name-taken, names-taken, borne-by-another, holds-presence, still-used}
 use Rattle.rules.specs.09-Refusals.{no-free-sds, presences-full, applications-full, ends-full, types-full, free-sdss, free-types}
 use Rattle.rules.specs.09-Refusals.Outcome.{done}
-
--- ---- a schema with one table changed
-
-abbrev pub with-sdss : Schema → List Name → Schema
-with-sdss s ns = record { sdss = ns; types = s .types; presences = s .presences; applications = s .applications; ends = s .ends }
-
-abbrev pub with-types : Schema → List Kind → Schema
-with-types s ks = record { sdss = s .sdss; types = ks; presences = s .presences; applications = s .applications; ends = s .ends }
-
-abbrev pub with-presences : Schema → List Presence → Schema
-with-presences s ps = record { sdss = s .sdss; types = s .types; presences = ps; applications = s .applications; ends = s .ends }
-
-abbrev pub with-applications : Schema → List Application → Schema
-with-applications s xs = record { sdss = s .sdss; types = s .types; presences = s .presences; applications = xs; ends = s .ends }
-
-abbrev pub with-ends : Schema → List End → Schema
-with-ends s es = record { sdss = s .sdss; types = s .types; presences = s .presences; applications = s .applications; ends = es }
-
--- each put in at its place
-unfoldable pub put-all : {A : Type 0} → (A → A → Bool) → List A → List A → List A
-put-all before [] rs = rs
-put-all before (a ∷ more) rs = put-all before more (put before a rs)
 
 -- ---- 2 "New SDS by name; remove SDS by number; it must hold no presence."
 

@@ -2,9 +2,9 @@
 -- none. `w` is the working schema, as the caller lists it; `room` is the whole entries that the output has.
 use Prim.Native.Nat.{ℕ, zero, suc, _+_, _*_}
 use mathlib.Core.List.{List, [], _∷_, _++_}
-use mathlib.Core.Bool.{Bool, true, false, cond, _&&_}
+use mathlib.Core.Bool.{Bool, true, false, _&&_}
 use lib.ListN.{length, getD}
-use Rattle.rules.specs.01-Lists.{any, first, repeated}
+use Rattle.rules.specs.01-Lists.{any, first, place, repeated}
 use Rattle.rules.specs.03-Names.{Name}
 use Rattle.rules.specs.04-Schema.{Schema, bears, holds-type, type-named, local-name}
 use Rattle.rules.specs.05-Descent.{descends, depth, members}
@@ -114,11 +114,6 @@ name-refusals d t s =
     (2 when unknown-sds s d)
     ∷ (6 when not-present s d t)
     ∷ []
-
--- how many elements stand before the first that passes
-unfoldable pub place : {A : Type 0} → (A → Bool) → List A → ℕ
-place p [] = 0
-place p (x ∷ xs) = cond (p x) 0 (suc (place p xs))
 
 -- its values: where the stretch starts, and how long it is
 unfoldable pub name : ℕ → ℕ → Schema → Outcome (List ℕ)

@@ -30,7 +30,8 @@ left-2 : (c : tie.Else2) → Known (c .before .before .before .before .before .a
 left-2 c = passes (name-left _ _ _) (known _ (sound-long (sound-1 (c .before .before))) _ (sym (c .before .is-sds .ensures) ∙ not-false _ (c .if2 .left)))
 
 -- a row that is not behind the last is one of them
-row-3 : (c : tie.Else3) → c .before .before .presence-row .result < presence-count (c .before .before .before .before .before .before .before .before .args .base .now)
+row-3 : (c : tie.Else3) → c .before .before .presence-row .result < presence-count
+    (c .before .before .before .before .before .before .before .before .args .base .now)
 row-3 c = omega (arith, c .before .before .presence-row .ensures .fits, c .if3 .left, c .before .presence-count .ensures .is)
 
 is-sound-requires : tie.Need-is-sound-requires
@@ -51,7 +52,8 @@ refused-requires-2 c κs = search needs
 returns-2 : tie.Need-returns-2
 returns-2 c =
     answered-as (sound-1 (c .before .before .before))
-    (stops (name-left _ _ _) (unknown _ (sound-long (sound-1 (c .before .before .before))) _ (sym (c .before .before .is-sds .ensures) ∙ not-true _ (c .before .if2 .taken))))
+    (stops (name-left _ _ _) (unknown _ (sound-long (sound-1 (c .before .before .before))) _ (sym (c .before .before .is-sds .ensures)
+    ∙ not-true _ (c .before .if2 .taken))))
     (c .refused2 .ensures)
 
 presence-row-requires : tie.Need-presence-row-requires
@@ -88,7 +90,8 @@ returns-4 c =
     let row = row-3 (c .before .before .before) in
     answered-as (sound-1 (c .before .before .before .before .before .before .before .before))
     (ends (passes (left-2 (c .before .before .before .before .before .before)) (name-there _ _ _ found row)))
-    (c .done .ensures ∙ (λ i. success ((c .before .before .name-at .ensures ∙ start-is _ _ _ found row) i) ((c .before .name-length .ensures ∙ length-is _ _ _ found row) i) 0))
+    (c .done .ensures ∙ (λ i. success ((c .before .before .name-at .ensures ∙ start-is _ _ _ found row) i) ((c .before .name-length .ensures
+    ∙ length-is _ _ _ found row) i) 0))
 
 pub name-place-spec : {M : Type 1} → statement M
 name-place-spec =

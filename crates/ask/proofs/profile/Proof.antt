@@ -30,7 +30,8 @@ of-object-requires-2 : tie.Need-of-object-requires-2
 of-object-requires-2 c κs = let th = c .before .before .before .of .ensures .through (c .before .if1 .left) in (th .sound, (th .below, omega arith))
 
 of-object-requires-3 : tie.Need-of-object-requires-3
-of-object-requires-3 c κs = let th = c .before .before .before .before .of .ensures .through (c .before .before .if1 .left) in (th .sound, (th .below, omega arith))
+of-object-requires-3 c κs = let th = c .before .before .before .before .of .ensures .through (c .before .before .if1 .left) in
+    (th .sound, (th .below, omega arith))
 
 meet-requires : tie.Need-meet-requires
 meet-requires c κs = search needs

@@ -31,7 +31,9 @@ tell-next-requires : tie.Need-tell-next-requires Inv-loop μ-loop
 tell-next-requires c κs = c .before .before .before .before .before .before .before .next-line .ensures .1
 
 loop-less : tie.Need-loop-less Inv-loop μ-loop
-loop-less c = omega (arith, c .before .before .before .before .before .before .before .before .before .before .before .before .before .before .before .before .loop-test .taken)
+loop-less c =
+    let test = c .before .before .before .before .before .before .before .before .before .before .before .before .before .before .before .before .loop-test .taken in
+    omega arith
 
 loop-again : tie.Need-loop-again Inv-loop μ-loop
 loop-again c = (

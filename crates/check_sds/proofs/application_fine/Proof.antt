@@ -84,7 +84,8 @@ returns-5 c =
           (c .before .before .before .before .before .before .before .before .before .before .application-attribute .result)
           (c .before .before .before .before .before .before .before .before .before .is-kind .ensures) ∙ not-false _
           (c .before .before .before .before .before .before .before .before .if1 .left)) (sym
-          (c .before .before .before .before .before .before .before .holds .ensures) ∙ not-false _ (c .before .before .before .before .before .before .if2 .left))
+          (c .before .before .before .before .before .before .before .holds .ensures)
+          ∙ not-false _ (c .before .before .before .before .before .before .if2 .left))
           (sym (c .before .before .before .before .holds2 .ensures) ∙ not-false _ (c .before .before .before .if3 .left))
           (or-right (is-object (kind-of (schema-of b) to)) (is-link (kind-of (schema-of b) to)) (told-link b to (c .is-kind3 .ensures) ∙ e));
       fails = λ e. applied-neither b (has (x .set)) (x .i) to (c .before .before .before .before .before .application-to .ensures .is)

@@ -25,7 +25,8 @@ application-fine-requires c κs = search needs
 returns : tie.Need-returns Inv-loop μ-loop
 returns c =
     let at = c .before .before .before in
-    decides-no (λ f. c .before .application-fine .ensures .fails (not-true _ (c .if1 .taken)) (f (at .loop .i) (c .before .before .loop-test .taken) (at .loop .inv .0)))
+    decides-no (λ f. c .before .application-fine .ensures .fails (not-true _ (c .if1 .taken))
+    (f (at .loop .i) (c .before .before .loop-test .taken) (at .loop .inv .0)))
 
 add-i : tie.Need-add-i Inv-loop μ-loop
 add-i c = search needs

@@ -22,7 +22,8 @@ end-count-requires c κs = c .before .before .before .pre .0 .long
 sdss-fine-requires : tie.Need-sdss-fine-requires
 sdss-fine-requires c κs =
     let x = c .before .before .before .before in
-    ready-of (x .pre .0) (x .pre .1 .0) (x .pre .1 .1) (c .before .before .presence-count .ensures) (c .before .application-count .ensures) (c .end-count .ensures)
+    ready-of (x .pre .0) (x .pre .1 .0) (x .pre .1 .1) (c .before .before .presence-count .ensures) (c .before .application-count .ensures)
+    (c .end-count .ensures)
 
 returns : tie.Need-returns
 returns c =

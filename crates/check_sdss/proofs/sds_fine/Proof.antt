@@ -69,7 +69,8 @@ returns-4 c =
     (c .before .before .before .before .before .before .before .before .before .before .before .gather .ensures) (not-false _
     (c .before .before .before .before .before .before .before .before .if1 .left)) in
     checks-no refl (λ q. c .before .ends-fine .ensures .fails (not-true _ (c .if4 .taken)) (asked-ends (x .pre .0) (x .pre .1)
-    (c .before .before .before .before .before .before .before .before .before .before .before .gather .result) shows (c .before .before .ends-past .ensures .1) q))
+    (c .before .before .before .before .before .before .before .before .before .before .before .gather .result) shows
+    (c .before .before .ends-past .ensures .1) q))
 
 returns-5 : tie.Need-returns-5
 returns-5 c =
@@ -85,7 +86,8 @@ returns-5 c =
       holds = λ e. sds-closed (x .pre .0) (x .pre .1)
           (c .before .before .before .before .before .before .before .before .before .before .before .gather .result) shows sp sa se
           (c .before .before .before .before .before .before .before .before .before .before .before .gather .ensures) o
-          (c .before .before .before .before .before .before .before .types-closed .ensures .holds (not-false _ (c .before .before .before .before .before .before .if2 .left)))
+          (c .before .before .before .before .before .before .before .types-closed .ensures .holds
+          (not-false _ (c .before .before .before .before .before .before .if2 .left)))
           (c .before .before .before .before .applications-fine .ensures .holds (not-false _ (c .before .before .before .if3 .left)))
           (c .before .ends-fine .ensures .holds (not-false _ (c .if4 .left)));
       places = λ e. record { presences = sp; applications = sa; ends = se };

@@ -57,7 +57,8 @@ loop-again c =
     let at = c .before .before .before .before .before .before .before in
     let sds = c .before .before .before .before .before .sds-fine in
     let yes′ = not-false _ (c .before .before .before .if1 .left) in
-    passed-more (at .loop .inv) (c .before .before .before .before .before .before .loop-test .taken) (sds .result .next) (has (sds .result .types)) (has (c .join .result))
+    passed-more (at .loop .inv) (c .before .before .before .before .before .before .loop-test .taken) (sds .result .next) (has (sds .result .types))
+    (has (c .join .result))
     (sds .ensures .places yes′) (sds .ensures .holds yes′) (sds .ensures .shows yes′) (c .join .ensures)
 
 returns-2 : tie.Need-returns-2 Inv-loop μ-loop

@@ -26,7 +26,8 @@ reverse-fine-requires c κs = search needs
 returns : tie.Need-returns Inv-loop μ-loop
 returns c =
     let at = c .before .before .before in
-    decides-no (λ x. c .before .reverse-fine .ensures .fails (not-true _ (c .if1 .taken)) (reverses-each _ x (at .loop .t) (c .before .before .loop-test .taken)))
+    decides-no (λ x. c .before .reverse-fine .ensures .fails (not-true _ (c .if1 .taken))
+    (reverses-each _ x (at .loop .t) (c .before .before .loop-test .taken)))
 
 add-t : tie.Need-add-t Inv-loop μ-loop
 add-t c = search needs

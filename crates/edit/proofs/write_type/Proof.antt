@@ -45,7 +45,7 @@ returns c =
     let row = over .before .before .before .before in
     let x = row .before .before .before .before in
     let fields = type-built (x .args .kind) (x .args .value) (x .args .reverse) (x .args .parents .now) _ (x .pre .1 .1 .0) (x .pre .1 .1 .1)
-        (row .write .ensures) in
+    (row .write .ensures) in
     type-written (x .pre .0) (x .args .t) (x .pre .1 .0) fields (over .write2 .ensures)
 
 pub write-type-spec : {M : Type 1} → statement M

@@ -47,7 +47,8 @@ returns : tie.Need-returns Inv-loop μ-loop
 returns c =
     let at = c .before in
     let start = at .before .before in
-    sym (at .loop .inv .1 ∙ follow-end (start .args .field .now) (at .loop .i) (at .loop .last) (at .loop .fine) (omega (arith, start .pre, c .loop-test .left)))
+    sym (at .loop .inv .1 ∙ follow-end (start .args .field .now) (at .loop .i) (at .loop .last) (at .loop .fine)
+    (omega (arith, start .pre, c .loop-test .left)))
 
 pub is-name-field-spec : {M : Type 1} → statement M
 is-name-field-spec =

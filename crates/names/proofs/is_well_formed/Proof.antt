@@ -31,7 +31,8 @@ is-letter-requires : tie.Need-is-letter-requires Inv-loop μ-loop
 is-letter-requires c κs = search needs
 
 returns-3 : tie.Need-returns-3 Inv-loop μ-loop
-returns-3 c = sym (formed-first (c .before .before .before .before .before .before .args .name .now) (sym (c .before .is-letter .ensures) ∙ not-true _ (c .if3 .taken)))
+returns-3 c = sym (formed-first (c .before .before .before .before .before .before .args .name .now) (sym (c .before .is-letter .ensures)
+    ∙ not-true _ (c .if3 .taken)))
 
 loop-holds : tie.Need-loop-holds Inv-loop μ-loop
 loop-holds c =
@@ -59,8 +60,11 @@ loop-less c = omega arith
 loop-again : tie.Need-loop-again Inv-loop μ-loop
 loop-again c =
     let at = c .before .before .before .before in
-    let passes = sym (c .before .is-letter-or-digit .ensures) ∙ not-false _ (c .if4 .left) in
-    (omega arith, at .loop .inv .1 ∙ letters-go-on (at .before .before .before .before .before .before .before .args .name .now) (at .loop .i) (omega arith) passes)
+    let passes = sym (c .before .is-letter-or-digit .ensures) ∙ not-false _ (c .if4 .left) in (
+      omega arith,
+      at .loop .inv .1 ∙ letters-go-on (at .before .before .before .before .before .before .before .args .name .now) (at .loop .i)
+          (omega arith) passes,
+    )
 
 returns-5 : tie.Need-returns-5 Inv-loop μ-loop
 returns-5 c =

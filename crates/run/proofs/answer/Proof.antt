@@ -40,7 +40,8 @@ returns : tie.Need-returns
 returns c = (
   c .before .before .before .before .before .before .before .before .reply .ensures .long,
   c .before .before .before .before .before
-      .before .before .before .reply .ensures .room ∙ c .before .before .before .before .before .before .before .before .before .before .before .before .before .before .pre .1,
+      .before .before .before .reply .ensures .room
+      ∙ c .before .before .before .before .before .before .before .before .before .before .before .before .before .before .pre .1,
 )
 
 pub answer-spec : {M : Type 1} → statement M

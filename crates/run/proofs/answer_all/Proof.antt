@@ -10,7 +10,8 @@ use Rattle.run.proofs.answer_all.Statement.{statement}
 use Rattle.run.proofs.answer_all.Tie as tie
 
 abbrev Inv-loop : tie.InvT-loop
-Inv-loop base₀ read₀ line₀ out₀ input₀ turns₀ base read line out input turns = ((length base ≡ base-length) × (length out ≡ 4096)) × ((length read ≡ 4096) × ((length line ≡ 128) × Within input))
+Inv-loop base₀ read₀ line₀ out₀ input₀ turns₀ base read line out input turns = ((length base ≡ base-length) × (length out ≡ 4096)) ×
+    ((length read ≡ 4096) × ((length line ≡ 128) × Within input))
 
 abbrev μ-loop : tie.MeasureT-loop
 μ-loop base₀ read₀ line₀ out₀ input₀ turns₀ base read line out input turns = turns
@@ -19,7 +20,13 @@ start-requires : tie.Need-start-requires Inv-loop μ-loop
 start-requires c κs = search needs
 
 loop-holds : tie.Need-loop-holds Inv-loop μ-loop
-loop-holds c = (c .before .before .before .before .before .pre .0, (c .before .before .before .before .before .pre .1 .0, (c .before .before .before .before .before .pre .1 .1, c .start .ensures)))
+loop-holds c = (
+  c .before .before .before .before .before .pre .0,
+  (
+    c .before .before .before .before .before .pre .1 .0,
+    (c .before .before .before .before .before .pre .1 .1, c .start .ensures),
+  ),
+)
 
 next-line-requires : tie.Need-next-line-requires Inv-loop μ-loop
 next-line-requires c κs = c .before .before .before .loop .inv .1
@@ -61,13 +68,19 @@ answer-requires : tie.Need-answer-requires Inv-loop μ-loop
 answer-requires c κs = c .before .before .before .before .before .before .before .before .before .before .before .before .loop .inv .0
 
 sub-turns : tie.Need-sub-turns Inv-loop μ-loop
-sub-turns c = omega (arith, c .before .before .before .before .before .before .before .before .before .before .before .before .before .before .before .before .loop-test .taken)
+sub-turns c =
+    let test = c .before .before .before .before .before .before .before .before .before .before .before .before .before .before .before .before .loop-test .taken in
+    omega arith
 
 loop-less : tie.Need-loop-less Inv-loop μ-loop
-loop-less c = omega (arith, c .before .before .before .before .before .before .before .before .before .before .before .before .before .before .before .before .loop-test .taken)
+loop-less c =
+    let test = c .before .before .before .before .before .before .before .before .before .before .before .before .before .before .before .before .loop-test .taken in
+    omega arith
 
 loop-again : tie.Need-loop-again Inv-loop μ-loop
-loop-again c = (c .before .before .before .before .answer .ensures, c .before .before .before .before .before .before .before .before .before .before .before .before .before .next-line .ensures)
+loop-again c =
+    let line = c .before .before .before .before .before .before .before .before .before .before .before .before .before .next-line .ensures in
+    (c .before .before .before .before .answer .ensures, line)
 
 same-length-5 : tie.Need-same-length-5 Inv-loop μ-loop
 same-length-5 c = search needs

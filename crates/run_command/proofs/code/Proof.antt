@@ -43,7 +43,8 @@ says-requires-3 c κs = search needs
 
 returns-4 : tie.Need-returns-4
 returns-4 c =
-    code-4 _ (sym (c .before .before .before .before .before .before .before .before .before .says .ensures) ∙ c .before .before .before .before .before .before .before .before .if1 .left)
+    code-4 _ (sym (c .before .before .before .before .before .before .before .before .before .says .ensures)
+    ∙ c .before .before .before .before .before .before .before .before .if1 .left)
     (sym (c .before .before .before .before .before .before .says2 .ensures) ∙ c .before .before .before .before .before .if2 .left)
     (sym (c .before .before .before .before .says-object .ensures) ∙ c .before .before .before .if3 .left)
     (sym (c .before .says3 .ensures) ∙ c .if4 .taken)
@@ -58,7 +59,8 @@ returns-5 : tie.Need-returns-5
 returns-5 c =
     code-5 _ (sym (c .before .before .before .before .before .before .before .before .before .before .before .before .says .ensures) ∙ c .before
     .before .before .before .before .before .before .before .before .before .before .if1 .left)
-    (sym (c .before .before .before .before .before .before .before .before .before .says2 .ensures) ∙ c .before .before .before .before .before .before .before .before .if2 .left)
+    (sym (c .before .before .before .before .before .before .before .before .before .says2 .ensures)
+    ∙ c .before .before .before .before .before .before .before .before .if2 .left)
     (sym (c .before .before .before .before .before .before .before .says-object .ensures) ∙ c .before .before .before .before .before .before .if3 .left)
     (sym (c .before .before .before .before .says3 .ensures) ∙ c .before .before .before .if4 .left)
     (sym (c .before .says4 .ensures) ∙ c .if5 .taken)

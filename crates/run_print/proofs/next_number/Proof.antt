@@ -17,7 +17,8 @@ number-requires : tie.Need-number-requires
 number-requires c κs = omega (arith, c .before .before .pre, length-set (c .before .before .args .out .now) (c .before .before .args .at) 32)
 
 same-length : tie.Need-same-length
-same-length c = c .before .before .number .ensures .long ∙ length-set (c .before .before .before .before .before .args .out .now) (c .before .before .before .before .before .args .at) 32
+same-length c = c .before .before .number .ensures .long ∙ length-set (c .before .before .before .before .before .args .out .now)
+    (c .before .before .before .before .before .args .at) 32
 
 returns : tie.Need-returns
 returns c = printed-next (printed-byte (c .before .before .before .before .before .args .out .now) (c .before .before .before .before .before .args

@@ -39,7 +39,8 @@ same-length c = search needs
 returns : tie.Need-returns
 returns c =
     number-printed _ _ _ _ _ _ (c .before .before .before .before .before .before .before .before .pre) (c .before .before .before .before .before
-    .before .before .before .fits .n .fits) (c .before .before .before .before .before .decimal .ensures .1 .0) (c .before .before .before .before .before .decimal .ensures .0 .1)
+    .before .before .before .fits .n .fits) (c .before .before .before .before .before .decimal .ensures .1 .0)
+    (c .before .before .before .before .before .decimal .ensures .0 .1)
     (c .before .before .before .before .before .decimal .ensures .1 .1) (c .before .before .write .ensures)
 
 pub number-spec : {M : Type 1} → statement M

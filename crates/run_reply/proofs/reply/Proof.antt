@@ -101,7 +101,8 @@ returns-7 c =
     .before .before .before .before .before .before .before .if1 .left) (c .before .before .before .before .before .before .before .before .if2
     .left) (c .before .before .before .before .before .before .before .if3 .left) (c .before .before .before .before .before .before .if4 .left)
     (c .before .before .before .before .before .if5 .left) (c .before .before .before .before .if6 .left)
-    (says-unreadable (c .before .before .before .before .before .before .before .before .before .before .before .before .before .before .pre .0) (c .before .before .unreadable .ensures))
+    (says-unreadable (c .before .before .before .before .before .before .before .before .before .before .before .before .before .before .pre .0)
+    (c .before .before .unreadable .ensures))
 
 pub reply-spec : {M : Type 1} → statement M
 reply-spec =

@@ -45,7 +45,12 @@ loop-again : tie.Need-loop-again Inv-loop μ-loop
 loop-again c = (c .before .part .ensures .next-within, omega (arith, c .before .before .before .loop .inv .1, ap length (c .before .part .ensures .names)))
 
 returns : tie.Need-returns Inv-loop μ-loop
-returns c = omega (arith, c .before .loop .inv .1, ap length (left-none (c .before .before .before .before .args .line .now) (c .before .loop .cursor) (c .loop-test .left)))
+returns c = omega (
+  arith,
+  c .before .loop .inv .1,
+  ap length (left-none (c .before .before .before .before .args .line .now) (c .before .loop .cursor)
+      (c .loop-test .left)),
+)
 
 pub count-spec : {M : Type 1} → statement M
 count-spec =

@@ -19,7 +19,8 @@ returns : tie.Need-returns
 returns c = keeps-room (c .before .args .line .now) (c .before .pre .0) (c .before .args .n) (c .before .args .c) (c .if1 .taken)
 
 returns-2 : tie.Need-returns-2
-returns-2 c = keeps-full (c .before .args .line .now) (c .before .pre .0) (c .before .args .n) (c .before .args .c) (c .before .pre .1) (omega (arith, c .if1 .left))
+returns-2 c = keeps-full (c .before .args .line .now) (c .before .pre .0) (c .before .args .n) (c .before .args .c) (c .before .pre .1)
+    (omega (arith, c .if1 .left))
 
 pub keep-spec : {M : Type 1} → statement M
 keep-spec = tie.close (tie.spec slice-write-line add-result same-length returns returns-2)

@@ -17,7 +17,8 @@ test-requires : tie.Need-test-requires
 test-requires c κs = omega (arith, c .application-sds .ensures .is, application-small (c .before .before .pre .0) _ (c .before .before .pre .1) .0)
 
 returns : tie.Need-returns
-returns c = fails-first _ (c .before .test .ensures ∙ ap (has (c .before .before .before .before .args .sdss)) (c .before .before .application-sds .ensures .is)) (c .if1 .taken)
+returns c = fails-first _ (c .before .test .ensures ∙ ap (has (c .before .before .before .before .args .sdss))
+    (c .before .before .application-sds .ensures .is)) (c .if1 .taken)
 
 application-to-requires : tie.Need-application-to-requires
 application-to-requires c κs = (

@@ -18,7 +18,8 @@ test-requires : tie.Need-test-requires
 test-requires c κs = omega (arith, c .end-sds .ensures .is, end-small (c .before .before .pre .0) _ (c .before .before .pre .1) .0)
 
 returns : tie.Need-returns
-returns c = fails-first _ (c .before .test .ensures ∙ ap (has (c .before .before .before .before .args .sdss)) (c .before .before .end-sds .ensures .is)) (c .if1 .taken)
+returns c = fails-first _ (c .before .test .ensures ∙ ap (has (c .before .before .before .before .args .sdss)) (c .before .before .end-sds .ensures .is))
+    (c .if1 .taken)
 
 end-side-requires : tie.Need-end-side-requires
 end-side-requires c κs = (

@@ -105,7 +105,8 @@ returns-2 c =
     let l = c .before .before .before .before .before .before .before .before .before .before .before .before .before .before .before .before .count .ensures in
     let m = c .before .before .before .before .before .before .before .before .before .before .before .before .before .before .before .count2 .ensures in
     let n = c .before .before .before .before .before .before .before .before .before .before .before .before .before .before .count3 .ensures in
-    let args = c .before .before .before .before .before .before .before .before .before .before .before .before .before .before .before .before .before .before .args in
+    let args =
+    c .before .before .before .before .before .before .before .before .before .before .before .before .before .before .before .before .before .before .args in
     three-put _ _ _ _ (omega
     (arith, c .before .before .before .before .before .before .before .before .before .before .before .before .before .if1 .left, l, m, n))
     (c .done .ensures ∙ (λ i. success (l i) (m i) (n i)))

@@ -12,13 +12,15 @@ attributes-requires : tie.Need-attributes-requires
 attributes-requires c κs = c .before .before .before .pre .0
 
 returns : tie.Need-returns
-returns c = attribute-scans _ _ _ _ _ (c .before .before .sources .ensures) _ (c .before .before .before .before .pre .1 .1 .0) (c .before .if1 .taken) (c .attributes .ensures)
+returns c = attribute-scans _ _ _ _ _ (c .before .before .sources .ensures) _ (c .before .before .before .before .pre .1 .1 .0) (c .before .if1 .taken)
+    (c .attributes .ensures)
 
 links-requires : tie.Need-links-requires
 links-requires c κs = c .before .before .before .before .pre .0
 
 returns-2 : tie.Need-returns-2
-returns-2 c = origin-scans _ _ _ _ _ (c .before .before .before .sources .ensures) _ (omega (arith, c .before .before .if1 .left)) (c .before .if2 .taken) (c .links .ensures)
+returns-2 c = origin-scans _ _ _ _ _ (c .before .before .before .sources .ensures) _ (omega (arith, c .before .before .if1 .left)) (c .before .if2 .taken)
+    (c .links .ensures)
 
 links-requires-2 : tie.Need-links-requires-2
 links-requires-2 c κs = c .before .before .before .before .pre .0

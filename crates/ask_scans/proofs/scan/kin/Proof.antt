@@ -14,7 +14,8 @@ children-of-requires : tie.Need-children-of-requires
 children-of-requires c κs = good-parental (c .before .before .before .pre .0)
 
 returns : tie.Need-returns
-returns c = λ w k. c .children-of .ensures k ∙ child-scan _ _ (c .before .before .before .before .pre .1 .0) (c .before .before .one .ensures) _ w _ (c .before .if1 .taken) k
+returns c = λ w k. c .children-of .ensures k ∙ child-scan _ _ (c .before .before .before .before .pre .1 .0) (c .before .before .one .ensures) _ w _
+    (c .before .if1 .taken) k
 
 descendants-of-requires : tie.Need-descendants-of-requires
 descendants-of-requires c κs = c .before .before .before .before .pre .0

@@ -13,7 +13,8 @@ add-requires : tie.Need-add-requires
 add-requires c κs = search needs
 
 returns : tie.Need-returns
-returns c = λ k. c .add .ensures k ∙ ap (λ x. eqb k (c .before .before .args .t) || x) (c .before .empty .ensures k) ∙ or-false (eqb k (c .before .before .args .t))
+returns c = λ k. c .add .ensures k ∙ ap (λ x. eqb k (c .before .before .args .t) || x) (c .before .empty .ensures k)
+    ∙ or-false (eqb k (c .before .before .args .t))
 
 pub one-spec : {M : Type 1} → statement M
 one-spec = tie.close (tie.spec empty-requires add-requires returns)

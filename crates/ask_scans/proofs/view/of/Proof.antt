@@ -63,7 +63,8 @@ refused-requires-2 : tie.Need-refused-requires-2
 refused-requires-2 c κs = search needs
 
 returns-2 : tie.Need-returns-2
-returns-2 c = not-viewed (come-stops (at-2 (c .before .before .before)) (sym (c .before .before .has-unknown .ensures) ∙ c .before .if2 .taken) (c .refused2 .ensures))
+returns-2 c = not-viewed (come-stops (at-2 (c .before .before .before)) (sym (c .before .before .has-unknown .ensures)
+    ∙ c .before .if2 .taken) (c .refused2 .ensures))
     (λ z. omega (arith, c .refused2 .ensures))
 
 refused-requires-3 : tie.Need-refused-requires-3
@@ -97,7 +98,8 @@ refused-requires-5 : tie.Need-refused-requires-5
 refused-requires-5 c κs = search needs
 
 returns-5 : tie.Need-returns-5
-returns-5 c = not-viewed (come-stops (at-7 (c .before .before .before)) (ap not (sym (c .before .before .is-of-kind .ensures)) ∙ c .before .if5 .taken) (c .refused5 .ensures))
+returns-5 c = not-viewed (come-stops (at-7 (c .before .before .before)) (ap not (sym (c .before .before .is-of-kind .ensures))
+    ∙ c .before .if5 .taken) (c .refused5 .ensures))
     (λ z. omega (arith, c .refused5 .ensures))
 
 has-repeated-requires : tie.Need-has-repeated-requires
@@ -109,7 +111,8 @@ refused-requires-6 : tie.Need-refused-requires-6
 refused-requires-6 c κs = search needs
 
 returns-6 : tie.Need-returns-6
-returns-6 c = not-viewed (come-stops (at-8 (c .before .before .before)) (sym (c .before .before .has-repeated .ensures) ∙ c .before .if6 .taken) (c .refused6 .ensures))
+returns-6 c = not-viewed (come-stops (at-8 (c .before .before .before)) (sym (c .before .before .has-repeated .ensures)
+    ∙ c .before .if6 .taken) (c .refused6 .ensures))
     (λ z. omega (arith, c .refused6 .ensures))
 
 returns-7 : tie.Need-returns-7

@@ -20,7 +20,7 @@ returns : tie.Need-returns
 returns c =
     let x = c .before .before .args in
     room-zero (x .base .now) (at applications (x .n)) (end applications) ((applications .room - x .n) * applications .width) (c .is-zero .result)
-        (omega arith) (c .is-zero .ensures)
+    (omega arith) (c .is-zero .ensures)
 
 pub no-application-from-spec : {M : Type 1} → statement M
 no-application-from-spec = tie.close (tie.spec mul-is-zero add-is-zero is-zero-requires returns)

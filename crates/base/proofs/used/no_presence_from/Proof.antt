@@ -20,7 +20,7 @@ returns : tie.Need-returns
 returns c =
     let x = c .before .before .args in
     room-zero (x .base .now) (at presences (x .n)) (end presences) ((presences .room - x .n) * presences .width) (c .is-zero .result) (omega arith)
-        (c .is-zero .ensures)
+    (c .is-zero .ensures)
 
 pub no-presence-from-spec : {M : Type 1} → statement M
 no-presence-from-spec = tie.close (tie.spec mul-is-zero add-is-zero is-zero-requires returns)

@@ -36,7 +36,8 @@ returns-2 : tie.Need-returns-2
 returns-2 c =
     let x = c .before .before .before .before .before .before in
     fine-name (part (x .args .base .now) (sds-at (x .args .d)) (limits .name)) (c .is-name-field .result)
-    (ap blank-field (sym (c .before .before .before .before .sds-field .ensures)) ∙ sym (c .before .before .before .is-blank-field .ensures) ∙ c .before .before .if1 .left)
+    (ap blank-field (sym (c .before .before .before .before .sds-field .ensures)) ∙ sym (c .before .before .before .is-blank-field .ensures)
+    ∙ c .before .before .if1 .left)
     (c .is-name-field .ensures ∙ ap name-field (c .before .sds-field2 .ensures))
 
 pub sds-field-fine-spec : {M : Type 1} → statement M

@@ -26,7 +26,8 @@ sds-field-fine-requires c κs = search needs
 returns : tie.Need-returns Inv-loop μ-loop
 returns c =
     let at = c .before .before .before in
-    decides-no (λ f. true≢false (sym (f (at .loop .d) (c .before .before .loop-test .taken)) ∙ sym (c .before .sds-field-fine .ensures) ∙ not-true _ (c .if1 .taken)))
+    decides-no (λ f. true≢false (sym (f (at .loop .d) (c .before .before .loop-test .taken)) ∙ sym (c .before .sds-field-fine .ensures)
+    ∙ not-true _ (c .if1 .taken)))
 
 add-d : tie.Need-add-d Inv-loop μ-loop
 add-d c = search needs

@@ -61,7 +61,8 @@ returns-6 c =
         some = omega (arith, c .before .before .before .before .before .before .before .before .before .before .if1 .left);
         sds = sym (c .before .before .before .before .before .before .before .before .before .presence-sds .ensures .is)
             ∙ c .before .before .before .before .before .before .before .before .if2 .left;
-        type = sym (c .before .before .before .before .before .before .before .presence-type .ensures .is) ∙ c .before .before .before .before .before .before .if3 .left;
+        type = sym (c .before .before .before .before .before .before .before .presence-type .ensures .is)
+            ∙ c .before .before .before .before .before .before .if3 .left;
         name = sym (c .before .before .before .before .before .presence-field .ensures) ∙ field-object
             (c .before .before .before .before .before .presence-field .result .now) (sym (c .before .before .before .is-equal .ensures) ∙ not-false _
             (c .before .before .if4 .left));

@@ -26,7 +26,8 @@ is-called-requires c κs = search needs
 
 returns : tie.Need-returns Inv-loop μ-loop
 returns c =
-    let found = called-first _ _ _ (c .before .before .before .loop .inv .1) (c .before .before .loop-test .taken) (sym (c .before .is-called .ensures) ∙ c .if1 .taken) in
+    let found = called-first _ _ _ (c .before .before .before .loop .inv .1) (c .before .before .loop-test .taken) (sym (c .before .is-called .ensures)
+    ∙ c .if1 .taken) in
     (found, omega (arith, c .before .before .loop-test .taken))
 
 add-d : tie.Need-add-d Inv-loop μ-loop

@@ -37,8 +37,10 @@ returns : tie.Need-returns
 returns c =
     import-done _ (same-length c ∙ c .before .before .before .before .before .before .before .before .before .before .before .before .before .before
     .before .before .before .before .pre .0) (c .before .before .answer .ensures) _ _ _ (c .before .before .before .before .before .before
-    .before .before .before .before .before .before .before .sds .ensures .0) (c .before .before .before .before .before .before .before .before .before .before .before .sds2 .ensures .0)
-    (c .before .before .before .before .before .before .before .before .before .before .word .ensures) (c .before .before .before .before .before .before .import .ensures)
+    .before .before .before .before .before .before .before .sds .ensures .0)
+    (c .before .before .before .before .before .before .before .before .before .before .before .sds2 .ensures .0)
+    (c .before .before .before .before .before .before .before .before .before .before .word .ensures)
+    (c .before .before .before .before .before .before .import .ensures)
 
 pub import-spec : {M : Type 1} → statement M
 import-spec =

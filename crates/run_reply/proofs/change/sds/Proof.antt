@@ -23,7 +23,8 @@ same-length-2 c = search needs
 
 returns : tie.Need-returns
 returns c = sds-done _ (same-length c ∙ c .before .before .before .before .before .before .before .before .before .before .before .before .pre .0) (c
-    .before .before .answer .ensures) _ (c .before .before .before .before .before .before .before .word .ensures) (c .before .before .before .before .before .before .new-sds .ensures)
+    .before .before .answer .ensures) _ (c .before .before .before .before .before .before .before .word .ensures)
+    (c .before .before .before .before .before .before .new-sds .ensures)
 
 pub sds-spec : {M : Type 1} → statement M
 sds-spec =

@@ -36,7 +36,8 @@ returns : tie.Need-returns
 returns c =
     desc-not-found _ _ _ _ (c .before .before .before .before .before .before .before .before .before .before .before .before .before .before .pre
     .0) (c .before .before .before .before .before .before .before .before .before .alone .ensures ∙ ap (λ (d : ℕ). d ∷ []) (c .before .before
-    .before .before .before .before .before .before .before .before .sds .ensures .0)) (c .before .before .before .before .before .before .before .word .ensures)
+    .before .before .before .before .before .before .before .before .sds .ensures .0))
+    (c .before .before .before .before .before .before .before .word .ensures)
     (c .before .before .before .before .before .before .find .ensures) (c .before .before .before .before .if1 .taken) (c .before .before .number .ensures)
 
 slice-aggregate-scan-object : tie.Need-slice-aggregate-scan-object

@@ -14,7 +14,9 @@ same-length : tie.Need-same-length
 same-length c = search needs
 
 returns : tie.Need-returns
-returns c = (c .before .before .before .fill .ensures .0, (c .before .before .before .before .before .before .before .pre .1 .0, c .before .before .before .fill .ensures .1))
+returns c =
+    let (long, read) = c .before .before .before .fill .ensures in
+    (long, (c .before .before .before .before .before .before .before .pre .1 .0, read))
 
 slice-reshare-prefix-gather : tie.Need-slice-reshare-prefix-gather
 slice-reshare-prefix-gather c = search needs

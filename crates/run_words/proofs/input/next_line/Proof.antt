@@ -15,7 +15,9 @@ abbrev μ-loop : tie.MeasureT-loop
 μ-loop read₀ line₀ at₀ turns₀ read line at turns = turns
 
 loop-holds : tie.Need-loop-holds Inv-loop μ-loop
-loop-holds c = (c .before .before .pre .0, (c .before .before .pre .1 .0, record { place = c .before .before .pre .1 .1 .place; few = c .before .before .pre .1 .1 .few; kept = omega arith }))
+loop-holds c =
+    let (long, wide, read) = c .before .before .pre in
+    (long, (wide, record { place = read .place; few = read .few; kept = omega arith }))
 
 sub-turns : tie.Need-sub-turns Inv-loop μ-loop
 sub-turns c = omega (arith, c .before .before .loop-test .taken)

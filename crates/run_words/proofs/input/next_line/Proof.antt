@@ -16,8 +16,8 @@ abbrev μ-loop : tie.MeasureT-loop
 
 loop-holds : tie.Need-loop-holds Inv-loop μ-loop
 loop-holds c =
-    let (long, wide, read) = c .before .before .pre in
-    (long, (wide, record { place = read .place; few = read .few; kept = omega arith }))
+    let x = c .before .before in
+    (x .pre .0, (x .pre .1 .0, record { place = x .pre .1 .1 .place; few = x .pre .1 .1 .few; kept = omega arith }))
 
 sub-turns : tie.Need-sub-turns Inv-loop μ-loop
 sub-turns c = omega (arith, c .before .before .loop-test .taken)

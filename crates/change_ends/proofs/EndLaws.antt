@@ -271,7 +271,8 @@ remove-tests : {b : List ℕ} {d : ℕ} {n m : Name} {no l o : ℕ} → Ends-tol
     → Left (remove-end side d n m (schema-of b)) (remove-rest side d l o (schema-of b))
     (done 0 0 0 (removed side d l o (schema-of b)))
 remove-tests {b} {d} {n} {m} told z side =
-    told-passes told z (λ l o. remove-rest side d l o (schema-of b)) (λ l o. done 0 0 0 (removed side d l o (schema-of b))) (remove-left side d n m (schema-of b))
+    told-passes told z (λ l o. remove-rest side d l o (schema-of b)) (λ l o. done 0 0 0 (removed side d l o (schema-of b)))
+    (remove-left side d n m (schema-of b))
 
 -- what the call goes on with where nothing refuses
 pub record Removable (b : List ℕ) (d : ℕ) (n m : Name) (l o row : ℕ) (side : Side) : Type 0 where
@@ -312,7 +313,8 @@ module _ (s : Schema) (d l o : ℕ) (side : Side) where
   unfolding both-ends any
   removed-pair r e =
       ap (with-ends s) (without-twice (is-end d l side o) (is-end d r (other-side side) o) (s .ends)
-      ∙ without-same (λ x. is-end d l side o x || is-end d r (other-side side) o x) (is-one-of (end-of d l side o ∷ end-of d r (other-side side) o ∷ [])) (s .ends)
+      ∙ without-same (λ x. is-end d l side o x || is-end d r (other-side side) o x) (is-one-of (end-of d l side o ∷ end-of d r (other-side side) o ∷ []))
+      (s .ends)
       (λ x i. ap (λ (t : Bool). is-end d l side o x || t) (sym (or-false (is-end d r (other-side side) o x)))))
       ∙ ap (λ (ls : List ℕ). with-ends s (without (is-one-of (end-of d l side o ∷ map (λ y. end-of d y (other-side side) o) ls)) (s .ends))) (sym e)
 

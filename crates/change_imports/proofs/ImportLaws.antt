@@ -141,7 +141,8 @@ module _ {b : List ℕ} {d t r : ℕ} (found : Presence-row b (presence-count b)
   own-long o = ap length o ∙ length-part b (presence-at r + name-offset) (limits .name) (omega (arith, sound-long s, row-room))
 
   -- the whole field of its name in the source is
-  pub own-filled : (n : Name) {own field : Name} → length n ≡ 0 → own ≡ part b (presence-at r + name-offset) (limits .name) → field ≡ written (replicate 16 0) 0 own
+  pub own-filled : (n : Name) {own field : Name} → length n ≡ 0 → own ≡ part b (presence-at r + name-offset) (limits .name)
+      → field ≡ written (replicate 16 0) 0 own
       → strip field ≡ filled (schema-of b) d t n
   own-filled n {own} z o w =
       ap strip (w ∙ written-over (replicate 16 0) [] own (sym (own-long o)) ∙ append-nil own ∙ o) ∙ row-name b d t found e ∙ rw (eq-eqb (length n) 0 z)

@@ -48,7 +48,8 @@ module _ {b : List ℕ} (s : Sound b) {t n : ℕ} (h : t < 128) (count : n ≡ g
   unfolding missing-parent not-present
   missing-here i u e = some-parent s h count (not-present (schema-of b) a) i u (ap not e)
 
-  pub missing-nowhere : ((i : ℕ) → i < n → present (schema-of b) a (getD b (type-at t + parents-offset + i) 0) ≡ true) → false ≡ missing-parent (schema-of b) a t
+  pub missing-nowhere : ((i : ℕ) → i < n → present (schema-of b) a (getD b (type-at t + parents-offset + i) 0) ≡ true)
+      → false ≡ missing-parent (schema-of b) a t
   unfolding missing-parent not-present
   missing-nowhere none = no-parent s h count (not-present (schema-of b) a) (λ i u. ap not (none i u))
 

@@ -1,5 +1,6 @@
 // The conditions under which the changing calls refuse, each decided.
 pub mod aimed;
+
 use base::Base;
 use rules::Limits;
 ghost use mathlib.Core.Path.{_≡_};

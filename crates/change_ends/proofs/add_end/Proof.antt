@@ -20,15 +20,19 @@ through-1 : (c : tie.Else1) → let x = c .before .before .before .before .befor
     let told = c .before .before .aimed-at .result in Through (x .base .now) (x .sds) (told .one) (told .two)
 through-1 c = goes-through (c .before .before .aimed-at .ensures) (c .if1 .left)
 
-free-2 : (c : tie.Else2) → let x = c .before .before .before .before .before .before .before .before .before .before .args in let told = c .before .before .before .before .before .aimed-at .result in
+free-2 : (c : tie.Else2) → let x = c .before .before .before .before .before .before .before .before .before .before .args in
+    let told = c .before .before .before .before .before .aimed-at .result in
     has-end (schema-of (x .base .now)) (x .sds) (told .one) (read-side (x .side)) (told .two) ≡ false
 free-2 c = sym (c .before .is-end .ensures) ∙ c .if2 .left
 
-addable-3 : (c : tie.Else3) → let x = c .before .before .before .before .before .before .before .before .before .before .before .before .before .before .before .args in let told = c .before .before .before .before .before .before .before .before .before .before .aimed-at .result in
-    Addable (x .base .now) (x .sds) (x .link .now) (x .object .now) (told .one) (told .two) (c .before .before .before .reverse-of .result) (read-side (x .side))
+addable-3 : (c : tie.Else3) → let x = c .before .before .before .before .before .before .before .before .before .before .before .before .before .before
+    .before .args in let told = c .before .before .before .before .before .before .before .before .before .before .aimed-at .result in
+    Addable (x .base .now) (x .sds) (x .link .now) (x .object .now) (told .one) (told .two) (c .before .before .before .reverse-of .result)
+    (read-side (x .side))
 addable-3 c =
     let first = c .before .before .before .before .before .before .before .before in
-    addable _ (first .before .before .aimed-at .ensures) (first .if1 .left) (free-2 (c .before .before .before .before .before)) (c .before .before .before .reverse-of .ensures)
+    addable _ (first .before .before .aimed-at .ensures) (first .if1 .left) (free-2 (c .before .before .before .before .before))
+    (c .before .before .before .reverse-of .ensures)
     (sym (c .before .is-full .ensures) ∙ c .if3 .left)
 
 aimed-at-requires : tie.Need-aimed-at-requires
@@ -46,8 +50,16 @@ returns c = begun-stops _ (c .before .before .before .aimed-at .ensures .told) (
 is-end-requires : tie.Need-is-end-requires
 is-end-requires c κs =
     let first = c .before in
-    let th = through-1 first in
-    (th .sound, (omega (arith, th .below), (omega (arith, th .link-below), (first .before .before .before .before .before .before .before .pre, omega (arith, th .object-below)))))
+    let th = through-1 first in (
+      th .sound,
+      (
+        omega (arith, th .below),
+        (
+          omega (arith, th .link-below),
+          (first .before .before .before .before .before .before .before .pre, omega (arith, th .object-below)),
+        ),
+      ),
+    )
 
 refused-requires-2 : tie.Need-refused-requires-2
 refused-requires-2 c κs = search needs
@@ -76,7 +88,8 @@ same-length-3 c = search needs
 returns-3 : tie.Need-returns-3
 returns-3 c =
     let first = c .before .before .before .before .before .before .before .before .before in
-    kept-refused (through-1 first .sound) (add-full _ (first .before .before .aimed-at .ensures) (first .if1 .left) (free-2 (c .before .before .before .before .before .before))
+    kept-refused (through-1 first .sound) (add-full _ (first .before .before .aimed-at .ensures) (first .if1 .left)
+    (free-2 (c .before .before .before .before .before .before))
     (c .before .before .before .before .reverse-of .ensures) (sym (c .before .before .is-full .ensures) ∙ c .before .if3 .taken)) (c .refused3 .ensures)
 
 put-end-requires : tie.Need-put-end-requires
@@ -86,7 +99,20 @@ put-end-requires c κs =
     let th = x .through in (
       sound-stored (th .sound),
       (
-        (th .outside, (omega (arith, th .below), (omega (arith, th .link-below), (past .before .before .before .before .before .before .before .before .before .before .before .before .before .before .before .pre, omega (arith, th .object-below))))),
+        (
+          th .outside,
+          (
+            omega (arith, th .below),
+            (
+              omega (arith, th .link-below),
+              (
+                past .before .before .before .before .before .before .before .before .before .before .before .before .before .before
+                    .before .pre,
+                omega (arith, th .object-below),
+              ),
+            ),
+          ),
+        ),
         (room-first _ (x .reversed) (x .room), x .free),
       ),
     )
@@ -118,7 +144,9 @@ put-end-requires-2 c κs =
         (th .outside, (omega (arith, th .below), (omega (arith, x .reversed .fits), (omega arith, omega (arith, th .object-below))))),
         (
           room-second _ (x .reversed) (x .room) _ _ _ out below,
-          second-free _ (x .reversed) (x .room) _ _ _ (past .before .before .before .before .before .before .before .before .before .before .before .before .before .before .before .pre) out below (th .sound) (x .free),
+          second-free _ (x .reversed) (x .room) _ _ _
+              (past .before .before .before .before .before .before .before .before .before .before .before .before .before .before .before .pre) out below
+              (th .sound) (x .free),
         ),
       ),
     )
@@ -134,7 +162,9 @@ returns-5 c =
     let past = c .before .before .before .before .before .before .before .before .before .before in
     let x = addable-3 past in
     kept-done (x .through .sound) (x .rule) (c .done2 .ensures)
-    (added-both _ (x .reversed) (x .room) _ _ _ (past .before .before .before .before .before .before .before .before .before .before .before .before .before .before .before .pre) (c .before .before .before .before .before .before .before .before .put-end .ensures)
+    (added-both _ (x .reversed) (x .room) _ _ _
+    (past .before .before .before .before .before .before .before .before .before .before .before .before .before .before .before .pre)
+    (c .before .before .before .before .before .before .before .before .put-end .ensures)
     (omega (arith, x .reversed .fits, c .before .before .before .before .before .if4 .left)) (c .before .before .before .put-end2 .ensures))
 
 pub add-end-spec : {M : Type 1} → statement M

@@ -14,7 +14,8 @@ use Rattle.change_imports.proofs.ImportLaws.{room-second, free-second, 
 use Rattle.change_imports.proofs.enter_both.Statement.{statement}
 use Rattle.change_imports.proofs.enter_both.Tie as tie
 
-names-1 : (c : tie.Else1) → let x = c .before .before .before .before .before .before .args in Two-names (schema-of (x .base .now)) (x .d) (x .name .now) (x .other .now)
+names-1 : (c : tie.Else1) → let x = c .before .before .before .before .before .before .args in
+    Two-names (schema-of (x .base .now)) (x .d) (x .name .now) (x .other .now)
 names-1 c = two-names _ _ _ _ (sym (c .before .are-taken .ensures) ∙ c .if1 .left)
 
 fits-2 : (c : tie.Else2) → presence-count (c .before .before .before .before .before .before .before .before .before .args .base .now) + 2 ≤ 512
@@ -31,7 +32,8 @@ same-length c = search needs
 
 returns : tie.Need-returns
 returns c =
-    kept-refused (c .before .before .before .before .before .before .before .pre .0) (stops (enter-left _ _ _ _ _) (sym (c .before .before .are-taken .ensures) ∙ c .before .if1 .taken)) (c .refused .ensures)
+    kept-refused (c .before .before .before .before .before .before .before .pre .0)
+    (stops (enter-left _ _ _ _ _) (sym (c .before .before .are-taken .ensures) ∙ c .before .if1 .taken)) (c .refused .ensures)
 
 presence-count-requires : tie.Need-presence-count-requires
 presence-count-requires c κs = sound-long (c .before .before .before .before .before .before .before .pre .0)
@@ -73,7 +75,14 @@ put-presence-requires-2 c κs =
       shows-stored out,
       (
         (it .outside, (omega (arith, it .small), omega (arith, it .below))),
-        (it .formed, (room-second _ _ _ _ out (fits-2 (c .before .before .before .before .before)), free-second _ _ _ _ out _ (names .apart) (names .other-free))),
+        (
+          it .formed,
+          (
+            room-second _ _ _ _ out (fits-2 (c .before .before .before .before .before)),
+            free-second _ _ _ _ out _ (names .apart)
+                (names .other-free),
+          ),
+        ),
       ),
     )
 
@@ -87,8 +96,10 @@ returns-3 : tie.Need-returns-3
 returns-3 c =
     let first = c .before .before .before .before .before .before .before .before .before .before .before .before in
     kept-done (first .before .before .before .before .before .before .pre .0)
-    (ends (passes (passes (enter-left _ _ _ _ _) (sym (first .before .are-taken .ensures) ∙ first .if1 .left)) (some-room _ 2 (fits-2 (c .before .before .before .before .before .before .before .before .before)))))
-    (c .done .ensures) (entered-both _ _ _ _ (c .before .before .before .before .before .before .before .put-presence .ensures) _ _ (c .before .before .before .put-presence2 .ensures))
+    (ends (passes (passes (enter-left _ _ _ _ _) (sym (first .before .are-taken .ensures) ∙ first .if1 .left))
+    (some-room _ 2 (fits-2 (c .before .before .before .before .before .before .before .before .before)))))
+    (c .done .ensures) (entered-both _ _ _ _ (c .before .before .before .before .before .before .before .put-presence .ensures) _ _
+    (c .before .before .before .put-presence2 .ensures))
 
 pub enter-both-spec : {M : Type 1} → statement M
 enter-both-spec =

@@ -34,7 +34,8 @@ slice-aggregate-write-2 : tie.Need-slice-aggregate-write-2
 slice-aggregate-write-2 c = search needs
 
 write-requires-2 : tie.Need-write-requires-2
-write-requires-2 c κs = let h = given-long (c .before .before .before .before .args .new .now) (c .before .before .before .before .pre .1 .1) (c .before .if1 .left) in omega arith
+write-requires-2 c κs =
+    let h = given-long (c .before .before .before .before .args .new .now) (c .before .before .before .before .pre .1 .1) (c .before .if1 .left) in omega arith
 
 returns-2 : tie.Need-returns-2
 returns-2 c =

@@ -5,7 +5,8 @@ use mathlib.Core.Path.{_≡_, ap, _∙_}
 use Rattle.rules.specs.03-Names.{well-formed}
 use Rattle.base.proofs.Back.{sound-good}
 use Rattle.base.proofs.TestedLaws.{tested-stops}
-use Rattle.change_imports.proofs.ImportLaws.{Importable, importable, import-left, import-one, import-both, reverse-below, reverse-there, filled-formed, cut-is}
+use Rattle.change_imports.proofs.ImportLaws.{Importable, importable, import-left, import-one, import-both}
+use Rattle.change_imports.proofs.ImportLaws.{reverse-below, reverse-there, filled-formed, cut-is}
 use Rattle.change_imports.proofs.import.Statement.{statement}
 use Rattle.change_imports.proofs.import.Tie as tie
 
@@ -54,7 +55,8 @@ enter-one-requires c κs =
     let x = c .before .before .before .before .before .before .before .before .before .before .before .before .before .before .before .before .before .args in
     let v = c .before .before .before .before .before .before .before .before .before .before .before .named-by .result in
     let r = ready-1 (c .before .before .before .before .before .before .before .before .before) in
-    let name = cut-is (c .before .before .before .before .before .name-length .ensures) ∙ c .before .before .before .before .before .before .before .filled .ensures in
+    let name = cut-is (c .before .before .before .before .before .name-length .ensures) ∙
+    c .before .before .before .before .before .before .before .filled .ensures in
     let formed = ap well-formed name ∙ filled-formed (sound-good (r .sound)) (x .source) (v .one) (x .new .now) (r .there) (r .formed) in
     (r .sound, record { small = r .small; outside = r .outside; below = r .below; formed = formed })
 
@@ -63,11 +65,14 @@ same-length-2 c = search needs
 
 returns-2 : tie.Need-returns-2
 returns-2 c =
-    import-one (ready-1 (c .before .before .before .before .before .before .before .before .before .before .before .before)) (alone-2 (c .before .before .before .before .before .before))
-    (cut-is (c .before .before .before .before .before .before .before .before .name-length .ensures) ∙ c .before .before .before .before .before .before .before .before .before .before .filled .ensures) (c .before .before .enter-one .ensures)
+    import-one (ready-1 (c .before .before .before .before .before .before .before .before .before .before .before .before))
+    (alone-2 (c .before .before .before .before .before .before))
+    (cut-is (c .before .before .before .before .before .before .before .before .name-length .ensures) ∙
+    c .before .before .before .before .before .before .before .before .before .before .filled .ensures) (c .before .before .enter-one .ensures)
 
 filled-requires-2 : tie.Need-filled-requires-2
-filled-requires-2 c κs = let r = ready-1 (c .before .before .before .before .before .before .before) in (r .sound, (reverse-there r (paired-2 (c .before)), r .formed-reverse))
+filled-requires-2 c κs =
+    let r = ready-1 (c .before .before .before .before .before .before .before) in (r .sound, (reverse-there r (paired-2 (c .before)), r .formed-reverse))
 
 slice-aggregate-name-length-2 : tie.Need-slice-aggregate-name-length-2
 slice-aggregate-name-length-2 c = search needs
@@ -101,8 +106,10 @@ enter-both-requires c κs =
     let r = ready-1 first in
     let e = paired-2 (c .before .before .before .before .before .before .before .before .before) in
     let good = sound-good (r .sound) in
-    let name = cut-is (c .before .before .before .before .before .before .before .before .before .before .before .name-length .ensures) ∙ c .before .before .before .before .before .before .before .before .before .before .before .before .before .filled .ensures in
-    let other = cut-is (c .before .before .before .before .before .name-length2 .ensures) ∙ c .before .before .before .before .before .before .before .filled2 .ensures in (
+    let name = cut-is (c .before .before .before .before .before .before .before .before .before .before .before .name-length .ensures) ∙
+    c .before .before .before .before .before .before .before .before .before .before .before .before .before .filled .ensures in
+    let other = cut-is (c .before .before .before .before .before .name-length2 .ensures) ∙
+    c .before .before .before .before .before .before .before .filled2 .ensures in (
       r .sound,
       (
         record {
@@ -127,8 +134,10 @@ returns-3 : tie.Need-returns-3
 returns-3 c =
     let back = c .before .before .before .before .before .before .before .before in
     let front = back .before .before .before .before .before .before in
-    import-both (ready-1 (front .before .before .before .before)) (paired-2 (c .before .before .before .before .before .before .before .before .before .before .before .before))
-    (cut-is (front .name-length .ensures) ∙ front .before .before .filled .ensures) (cut-is (back .name-length2 .ensures) ∙ back .before .before .filled2 .ensures)
+    import-both (ready-1 (front .before .before .before .before))
+    (paired-2 (c .before .before .before .before .before .before .before .before .before .before .before .before))
+    (cut-is (front .name-length .ensures) ∙ front .before .before .filled .ensures)
+    (cut-is (back .name-length2 .ensures) ∙ back .before .before .filled2 .ensures)
     (c .before .before .enter-both .ensures)
 
 pub import-spec : {M : Type 1} → statement M

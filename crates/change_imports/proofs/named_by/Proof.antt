@@ -46,20 +46,24 @@ at-7 : (c : tie.Else5) → let x = c .before .before .before .before .before .be
     Past (x .base .now) (first-refusals (x .target) (x .source) (x .name .now) (x .new .now) (x .new-reverse .now) (schema-of (x .base .now))) 7
 at-7 c = come-next (at-6 (c .before .before)) (name-there _ _ _ (bears-5 c))
 
-at-9 : (c : tie.Else6) → let x = c .before .before .before .before .before .before .before .before .before .before .before .before .before .before .before .before .args in
+at-9 : (c : tie.Else6) → let x = c .before .before .before .before .before .before .before .before .before .before .before .before .before .before .before
+    .before .args in
     Past (x .base .now) (first-refusals (x .target) (x .source) (x .name .now) (x .new .now) (x .new-reverse .now) (schema-of (x .base .now))) 9
 at-9 c =
     let x = c .before .before .before .before .before .before .before .before .before .before .before .before .before .before .before .before .args in
     come-next (at-7 (c .before .before .before))
-    (idle-is (x .new-reverse .now) (type-5 (c .before .before .before) .1) (c .before .before .reverse-of .ensures) (c .before .is-idle .ensures) ∙ c .if6 .left)
+    (idle-is (x .new-reverse .now) (type-5 (c .before .before .before) .1) (c .before .before .reverse-of .ensures)
+    (c .before .is-idle .ensures) ∙ c .if6 .left)
 
 at-10 : (c : tie.Else7) → let x = c .before .before .before .before .before .before .before .before .before .before .before .before .before .before
     .before .before .before .before .args in
     Past (x .base .now) (first-refusals (x .target) (x .source) (x .name .now) (x .new .now) (x .new-reverse .now) (schema-of (x .base .now))) 10
 at-10 c =
-    let x = c .before .before .before .before .before .before .before .before .before .before .before .before .before .before .before .before .before .before .args in
+    let x = c .before .before .before .before .before .before .before .before .before .before .before .before .before .before .before .before .before .before
+    .args in
     come-next (at-9 (c .before .before))
-    (of-named (present (schema-of (x .base .now)) (x .target)) (type-5 (c .before .before .before .before .before) .1) (c .before .is-present .ensures) ∙ c .if7 .left)
+    (of-named (present (schema-of (x .base .now)) (x .target)) (type-5 (c .before .before .before .before .before) .1)
+    (c .before .is-present .ensures) ∙ c .if7 .left)
 
 at-11 : (c : tie.Else8) → let x = c .before .before .before .before .before .before .before .before .before .before .before .before .before .before
     .before .before .before .before .before .before .args in
@@ -78,7 +82,9 @@ refused-requires : tie.Need-refused-requires
 refused-requires c κs = search needs
 
 returns : tie.Need-returns
-returns c = refused-by (come-spoiled (c .before .before .is-sound .ensures .fails (not-true _ (c .before .if1 .taken))) (c .refused .ensures)) (λ z. omega (arith, c .refused .ensures))
+returns c =
+    refused-by (come-spoiled (c .before .before .is-sound .ensures .fails (not-true _ (c .before .if1 .taken))) (c .refused .ensures))
+    (λ z. omega (arith, c .refused .ensures))
 
 is-one-unknown-requires : tie.Need-is-one-unknown-requires
 is-one-unknown-requires c κs = sound-long (at-2 c .sound)
@@ -87,7 +93,9 @@ refused-requires-2 : tie.Need-refused-requires-2
 refused-requires-2 c κs = search needs
 
 returns-2 : tie.Need-returns-2
-returns-2 c = refused-here (at-2 (c .before .before .before)) (sym (c .before .before .is-one-unknown .ensures) ∙ c .before .if2 .taken) (c .refused2 .ensures) (omega arith)
+returns-2 c =
+    refused-here (at-2 (c .before .before .before)) (sym (c .before .before .is-one-unknown .ensures) ∙ c .before .if2 .taken) (c .refused2 .ensures)
+    (omega arith)
 
 refused-requires-3 : tie.Need-refused-requires-3
 refused-requires-3 c κs = search needs
@@ -102,7 +110,9 @@ refused-requires-4 : tie.Need-refused-requires-4
 refused-requires-4 c κs = search needs
 
 returns-4 : tie.Need-returns-4
-returns-4 c = refused-here (at-4 (c .before .before .before)) (sym (c .before .before .is-one-malformed .ensures) ∙ c .before .if4 .taken) (c .refused4 .ensures) (omega arith)
+returns-4 c =
+    refused-here (at-4 (c .before .before .before)) (sym (c .before .before .is-one-malformed .ensures) ∙ c .before .if4 .taken) (c .refused4 .ensures)
+    (omega arith)
 
 type-in-requires : tie.Need-type-in-requires
 type-in-requires c κs = at-6 c .sound
@@ -138,7 +148,8 @@ refused-requires-7 c κs = search needs
 
 returns-7 : tie.Need-returns-7
 returns-7 c =
-    let x = c .before .before .before .before .before .before .before .before .before .before .before .before .before .before .before .before .before .before .before .args in
+    let x = c .before .before .before .before .before .before .before .before .before .before .before .before .before .before .before .before .before .before
+    .before .args in
     refused-here (at-9 (c .before .before .before))
     (of-named (present (schema-of (x .base .now)) (x .target)) (type-5 (c .before .before .before .before .before .before) .1)
     (c .before .before .is-present .ensures) ∙ c .before .if7 .taken)
@@ -162,7 +173,8 @@ returns-8 c =
 returns-9 : tie.Need-returns-9
 returns-9 c =
     let t = type-5 (c .before .before .before .before .before .before .before) in
-    passed-by (come-through (at-11 c)) (record { type = record { below = t .0; named = t .1 }; pair = c .before .before .before .before .before .before .reverse-of .ensures })
+    passed-by (come-through (at-11 c)) (record
+    { type = record { below = t .0; named = t .1 }; pair = c .before .before .before .before .before .before .reverse-of .ensures })
 
 pub named-by-spec : {M : Type 1} → statement M
 named-by-spec =

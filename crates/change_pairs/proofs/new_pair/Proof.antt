@@ -54,7 +54,8 @@ write-type-requires-2 c κs =
 
 put-presence-requires-2 : tie.Need-put-presence-requires-2
 put-presence-requires-2 c κs =
-    let p = c .before .before .before .before .before .before .before .before .before .before .before .before .before .before .before .before .before .places-for
+    let p = c .before .before .before .before .before .before .before .before .before .before .before .before .before .before .before .before .before
+    .places-for
     .ensures in
     let z = c .before .before .before .before .before .before .before .before .before .before .before .before .before .before .before .if1 .left in
     let x = pair-ready _ _ _ _ _ (p .told) z in
@@ -78,7 +79,8 @@ returns-2 c =
     .before .if1 .left in
     let x = pair-ready _ _ _ _ _ (p .told) z in
     pair-kept x (p .so z)
-    (paired-written (x .categories .0) (c .before .before .before .before .before .before .before .before .before .before .before .before .before .before .before .before .write-type .ensures))
+    (paired-written (x .categories .0) (c .before .before .before .before .before .before .before .before .before .before .before .before .before .before
+    .before .before .write-type .ensures))
     (c .before .before .before .before .before .before .before .before .before .before .before .before .put-presence .ensures)
     (paired-written (x .categories .1) (c .before .before .before .before .before .before .before .write-type2 .ensures))
     (tested-passes (p .told) z refl (new-pair-left _ _ _ _ _ _)) (c .done .ensures) (c .before .before .before .put-presence2 .ensures)

@@ -36,7 +36,8 @@ returns-2 : tie.Need-returns-2
 returns-2 c =
     let below : c .before .before .before .before .free-type .result < 128 = let h = c .before .before .before .if1 .left in omega arith in
     refused-here (come-first (c .before .before .before .before .before .before .pre))
-    (numbers-short _ 2 (no-room-for-two (c .before .before .before .before .free-type .ensures) below (c .before .before .free-type2 .ensures) (c .before .if2 .taken)))
+    (numbers-short _ 2 (no-room-for-two (c .before .before .before .before .free-type .ensures) below (c .before .before .free-type2 .ensures)
+    (c .before .if2 .taken)))
     (c .refused2 .ensures) (omega arith)
 
 presence-count-requires : tie.Need-presence-count-requires

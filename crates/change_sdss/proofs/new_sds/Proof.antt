@@ -108,7 +108,8 @@ same-length-5 c = search needs
 
 returns-5 : tie.Need-returns-5
 returns-5 c =
-    let x = c .before .before .before .before .before .before .before .before .before .before .before .before .before .before .before .before .before .before .args in
+    let x = c .before .before .before .before .before .before .before .before .before .before .before .before .before .before .before .before .before .before
+    .args in
     let d = c .before .before .before .before .before .before .free-sds .result in
     let number = free-number (c .before .before .before .before .before .before .free-sds .ensures) (c .before .before .before .before .before .if4 .left) in
     kept-done (sound-1 (c .before .before .before .before .before .before .before .before .before .before .before .before .before)) (ends (left-4

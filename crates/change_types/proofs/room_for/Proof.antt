@@ -65,7 +65,8 @@ returns-4 c =
     let h = c .if3 .left in
     let x = c .before .before .before .before .before .before .before .before .args in
     passed-by
-    (come-through (come-next (at-14 (c .before .before .before .before)) (both-fit _ 1 (room-for-one f below) (omega (arith, c .before .presence-count .ensures .is)))))
+    (come-through (come-next (at-14 (c .before .before .before .before))
+    (both-fit _ 1 (room-for-one f below) (omega (arith, c .before .presence-count .ensures .is)))))
     (record {
       free = free-1 (c .before .before .before .before);
       room = omega (arith, c .before .presence-count .ensures .is, presences-long (x .base .now));

@@ -25,7 +25,8 @@ same-length c = search needs
 
 returns : tie.Need-returns
 returns c =
-    gone _ _ (sym (c .before .before .before .before .before .before .is-elsewhere .ensures) ∙ not-true _ (c .before .before .before .before .before .if1 .taken))
+    gone _ _ (sym (c .before .before .before .before .before .before .is-elsewhere .ensures) ∙ not-true _
+    (c .before .before .before .before .before .if1 .taken))
     (unused-written (c .before .before .write-type .ensures))
 
 same-length-2 : tie.Need-same-length-2

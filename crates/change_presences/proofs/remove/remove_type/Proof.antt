@@ -28,7 +28,8 @@ take-out-requires : tie.Need-take-out-requires
 take-out-requires c κs = let th = through-1 (c .before) in (sound-stored (th .sound), th .once)
 
 drop-if-gone-requires : tie.Need-drop-if-gone-requires
-drop-if-gone-requires c κs = (shows-stored (c .before .before .before .before .before .take-out .ensures), through-1 (c .before .before .before .before .before .before .before) .below)
+drop-if-gone-requires c κs =
+    (shows-stored (c .before .before .before .before .before .take-out .ensures), through-1 (c .before .before .before .before .before .before .before) .below)
 
 done-requires : tie.Need-done-requires
 done-requires c κs = search needs
@@ -40,7 +41,8 @@ returns-2 : tie.Need-returns-2
 returns-2 c =
     let th = through-1 (c .before .before .before .before .before .before .before .before .before .before .before) in
     kept-done (th .sound) (th .rule) (c .done .ensures)
-    (removed-one _ _ (th .pair) (c .before .before .before .before .before .before .before .before .before .take-out .ensures) (c .before .before .before .before .before .if2 .taken) (c .before .before .before .drop-if-gone .ensures))
+    (removed-one _ _ (th .pair) (c .before .before .before .before .before .before .before .before .before .take-out .ensures)
+    (c .before .before .before .before .before .if2 .taken) (c .before .before .before .drop-if-gone .ensures))
 
 take-out-requires-2 : tie.Need-take-out-requires-2
 take-out-requires-2 c κs =
@@ -49,12 +51,19 @@ take-out-requires-2 c κs =
     (shows-stored out, reverse-held _ _ (th .pair) out (th .sound) (th .once) (omega (arith, th .pair .fits, c .before .if2 .left)))
 
 drop-if-gone-requires-2 : tie.Need-drop-if-gone-requires-2
-drop-if-gone-requires-2 c κs = (shows-stored (c .before .before .before .take-out2 .ensures), through-1 (c .before .before .before .before .before .before .before .before .before .before .before) .below)
+drop-if-gone-requires-2 c κs = (
+  shows-stored (c .before .before .before .take-out2 .ensures),
+  through-1
+      (c .before .before .before .before .before .before .before .before .before .before .before) .below,
+)
 
 drop-if-gone-requires-3 : tie.Need-drop-if-gone-requires-3
 drop-if-gone-requires-3 c κs =
-    let past = c .before .before .before .before .before .before .before .before .before in
-    (shows-stored (c .before .before .before .drop-if-gone2 .ensures), omega (arith, through-1 (past .before .before .before .before .before .before) .pair .fits, past .if2 .left))
+    let past = c .before .before .before .before .before .before .before .before .before in (
+      shows-stored (c .before .before .before .drop-if-gone2 .ensures),
+      omega
+          (arith, through-1 (past .before .before .before .before .before .before) .pair .fits, past .if2 .left),
+    )
 
 done-requires-2 : tie.Need-done-requires-2
 done-requires-2 c κs = search needs
@@ -68,7 +77,8 @@ returns-3 c =
     let th = through-1 (past .before .before .before .before .before .before) in
     kept-done (th .sound) (th .rule) (c .done2 .ensures)
     (removed-two _ _ (th .pair) (past .before .before .before .before .take-out .ensures) (omega (arith, th .pair .fits, past .if2 .left))
-    (c .before .before .before .before .before .before .before .before .before .before .before .take-out2 .ensures) (c .before .before .before .before .before .before .before .drop-if-gone2 .ensures) (c .before .before .before .drop-if-gone3 .ensures))
+    (c .before .before .before .before .before .before .before .before .before .before .before .take-out2 .ensures)
+    (c .before .before .before .before .before .before .before .drop-if-gone2 .ensures) (c .before .before .before .drop-if-gone3 .ensures))
 
 pub remove-type-spec : {M : Type 1} → statement M
 remove-type-spec =

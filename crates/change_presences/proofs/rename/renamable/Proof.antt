@@ -27,11 +27,13 @@ unfolding all
 at-11 c = come-on (named-1 (c .before .before) .told) (c .if1 .left) refl _
 
 -- it was tested of the type that was found
-another-2 : (c : tie.After-is-borne-by-another) → let x = c .before .before .before .before .before .before .before .before .args in let s = schema-of (x .base .now) in
+another-2 : (c : tie.After-is-borne-by-another) → let x = c .before .before .before .before .before .before .before .before .args in
+    let s = schema-of (x .base .now) in
     borne-by-another s (x .sds) (type-named s (x .sds) (x .name .now)) (x .new .now) ≡ c .is-borne-by-another .result
 another-2 c =
     let x = c .before .before .before .before .before .before .before .before .args in
-    ap (λ (y : ℕ). borne-by-another (schema-of (x .base .now)) (x .sds) y (x .new .now)) (sym (named-1 (c .before .before .before) .so (c .before .if1 .left) .named))
+    ap (λ (y : ℕ). borne-by-another (schema-of (x .base .now)) (x .sds) y (x .new .now))
+    (sym (named-1 (c .before .before .before) .so (c .before .if1 .left) .named))
     ∙ sym (c .is-borne-by-another .ensures)
 
 aimed-two-requires : tie.Need-aimed-two-requires
@@ -55,7 +57,8 @@ returns-2 c = refused-here (at-11 (c .before .before .before)) (another-2 (c .be
 returns-3 : tie.Need-returns-3
 returns-3 c =
     let first = c .before .before in
-    passed-as (first .if1 .left) (come-through (come-next (at-11 first) (another-2 (c .before) ∙ c .if2 .left))) (named-1 (first .before .before) .so (first .if1 .left))
+    passed-as (first .if1 .left) (come-through (come-next (at-11 first) (another-2 (c .before) ∙ c .if2 .left)))
+    (named-1 (first .before .before) .so (first .if1 .left))
 
 pub renamable-spec : {M : Type 1} → statement M
 renamable-spec =

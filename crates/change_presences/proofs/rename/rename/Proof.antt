@@ -58,7 +58,8 @@ returns-2 c =
     let s = th .aim .sound in
     let found = c .before .before .before .before .before .before .before .before .before .presence-row .ensures in
     kept-done s (th .rule) (c .done .ensures)
-    (put-again s found (row-there s found _ (th .there) (th .named)) (c .before .before .before .before .before .before .before .take-presence .ensures) _ (c .before .before .before .put-presence .ensures))
+    (put-again s found (row-there s found _ (th .there) (th .named)) (c .before .before .before .before .before .before .before .take-presence .ensures) _
+    (c .before .before .before .put-presence .ensures))
 
 pub rename-spec : {M : Type 1} → statement M
 rename-spec =

@@ -39,7 +39,8 @@ is-well-formed-requires-2 c κs = search needs
 returns-3 : tie.Need-returns-3
 returns-3 c =
     come-stops (at-4 (c .before .before .before .before))
-    (or-right (malformed (c .before .before .before .before .before .before .before .before .before .args .name .now)) _ (malformed-stops _ (sym (c .before .is-well-formed2 .ensures) ∙ not-true _ (c .if3 .taken)))) refl
+    (or-right (malformed (c .before .before .before .before .before .before .before .before .before .args .name .now)) _
+    (malformed-stops _ (sym (c .before .is-well-formed2 .ensures) ∙ not-true _ (c .if3 .taken)))) refl
 
 returns-4 : tie.Need-returns-4
 returns-4 c =

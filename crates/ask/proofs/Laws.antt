@@ -63,7 +63,7 @@ module _ (b : List ℕ) (d t : ℕ) where
           (ap (holds-type d t) (presence-is b r system-presence h) ∙ first-is .found h)
 
       pub start-is : presence-at r + name-offset ≡ name-start (schema-of b) (place (holds-type d t) ((schema-of b) .presences))
-      start-is = sym (name-start-is (schema-of b) (place (holds-type d t) ((schema-of b) .presences)) ∙ ap (λ (k : ℕ). 1280 + k * 18 + 1) row-is)
+      start-is = sym (name-start-is (schema-of b) (place (holds-type d t) ((schema-of b) .presences)) ∙ ap (λ (k : ℕ). presence-at k + name-offset) row-is)
 
       pub length-is : length (strip (part b (presence-at r + name-offset) (limits .name))) ≡ length (local-name (schema-of b) d t)
       length-is =

@@ -66,7 +66,7 @@ module _ {A : Type 0} {t : Table A} {of : Schema → List A} (p : Placed t of) (
           (ap (take left)
           (sym (drop-drop (m * w) (t .start) (picture s)) ∙ ap (drop (m * w)) from-start
           ∙ drop-append-le (m * w) (bytes-of t (of s)) (p .behind s)
-              (omega (arith, length-table w (t .row) (p .wide) (t .room) (of s), mul-le-mul-right w room))
+          (omega (arith, length-table w (t .row) (p .wide) (t .room) (of s), mul-le-mul-right w room))
           ∙ ap (λ (x : List ℕ). x ++ p .behind s) (table-rest w (t .read) (t .row) (p .wide) (t .room) (of s) room))
           ∙ take-at (replicate left 0) (p .behind s) left (zeros-long left))
 

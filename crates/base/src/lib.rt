@@ -223,7 +223,10 @@ pub fn end_link(base: &[u8], i: usize) -> usize
     requires { ⌜ (length (now base) ≡ base-length) × (i < limits .ends) ⌝ }
     ensures { λ r. ⌜ Reads (now (base .entry)) (end-at i + link-offset) r ⌝ }
 {
-    rows::byte(base, Base::ENDS_AT + i * Base::END_WIDTH + Base::LINK_OFFSET)
+    rows::byte(
+        base,
+        Base::ENDS_AT + i * Base::END_WIDTH + Base::LINK_OFFSET,
+    )
 }
 
 // 0 origin, 1 destination.
@@ -231,7 +234,10 @@ pub fn end_side(base: &[u8], i: usize) -> usize
     requires { ⌜ (length (now base) ≡ base-length) × (i < limits .ends) ⌝ }
     ensures { λ r. ⌜ Reads (now (base .entry)) (end-at i + side-offset) r ⌝ }
 {
-    rows::byte(base, Base::ENDS_AT + i * Base::END_WIDTH + Base::SIDE_OFFSET)
+    rows::byte(
+        base,
+        Base::ENDS_AT + i * Base::END_WIDTH + Base::SIDE_OFFSET,
+    )
 }
 
 pub fn end_object(base: &[u8], i: usize) -> usize

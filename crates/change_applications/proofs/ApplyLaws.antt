@@ -126,5 +126,5 @@ module _ (b : List ℕ) {k : ℕ} (c : Counted (application-count b) (limits .ap
   unfolding applications-full
   room h = le-ltb 256 (length ((schema-of b) .applications) + 1) (omega (arith, applications-long b, c .is))
 
-  pub room-left : k < 256 → length ((schema-of b) .applications) < 256
+  pub room-left : k < 256 → length ((schema-of b) .applications) < limits .applications
   room-left h = omega (arith, applications-long b, c .is)

@@ -205,11 +205,11 @@ module _ (side : Side) {b : List ℕ} {d : ℕ} {n m : Name} {no l o : ℕ} (tol
   addable e = record { through = goes-through told z; reversed = rev; free = free; room = e; rule = ends (passes full-left (sym (full-is rev) ∙ e)) }
 
 module _ (b : List ℕ) {l r : ℕ} (rev : Reverse-of (schema-of b) l r) (room : ends-full (schema-of b) (suc (length (one-or-none r))) ≡ false) where
-  pub room-first : length ((schema-of b) .ends) < 512
+  pub room-first : length ((schema-of b) .ends) < limits .ends
   unfolding ends-full
   room-first = let h = ltb-false 512 (length ((schema-of b) .ends) + suc (length (one-or-none r))) room in omega arith
 
-  room-both : r < 128 → suc (length ((schema-of b) .ends)) < 512
+  room-both : r < 128 → suc (length ((schema-of b) .ends)) < limits .ends
   unfolding ends-full
   room-both k = let h = ltb-false 512 (length ((schema-of b) .ends) + suc (length (one-or-none r))) room in omega (arith, ap length (one-is k))
 
@@ -220,7 +220,7 @@ module _ (b : List ℕ) {l r : ℕ} (rev : Reverse-of (schema-of b) l r) (room :
         (end-of d l side o ∷ map (λ y. end-of d y (other-side side) o) ls) ((schema-of b) .ends)))) (sym (rev .is ∙ none-is {r = r} (omega arith)))
 
     module _ (k : r < 128) where
-      pub room-second : length ((schema-of b₁) .ends) < 512
+      pub room-second : length ((schema-of b₁) .ends) < limits .ends
       room-second =
           omega (arith, ap (λ (s : Schema). length (s .ends)) (shows-schema out), put-long end-before (end-of d l side o) ((schema-of b) .ends), room-both k)
 

@@ -130,14 +130,14 @@ filled-formed {s} good d t new e f = go (blank new) refl
 pub given-filled : (s : Schema) (d t : ℕ) (n field : Name) → malformed-new n ≡ false → (length n ≡ 0 → ⊥)
     → field ≡ written (replicate 16 0) 0 n → strip field ≡ filled s d t n
 given-filled s d t n field e h w =
-    ap strip (w ∙ field-written [] [] n 16 0 refl (given-long n e h) ∙ append-nil (pad 16 n))
+    ap strip (w ∙ field-written [] [] n (limits .name) 0 refl (given-long n e h) ∙ append-nil (pad (limits .name) n))
     ∙ strip-pad n (given-formed n e h) ∙ rw (ne-eqb (length n) 0 h)
 
 module _ {b : List ℕ} {d t r : ℕ} (found : Presence-row b (presence-count b) d t r) (s : Sound b) (e : present (schema-of b) d t ≡ true) where
-  pub row-room : r < 512
+  pub row-room : r < limits .presences
   row-room = omega (arith, row-below b d t found e, sound-good s .presence-room, presences-long b)
 
-  pub own-long : {own : Name} → own ≡ part b (presence-at r + name-offset) (limits .name) → length own ≡ 16
+  pub own-long : {own : Name} → own ≡ part b (presence-at r + name-offset) (limits .name) → length own ≡ limits .name
   own-long o = ap length o ∙ length-part b (presence-at r + name-offset) (limits .name) (omega (arith, sound-long s, row-room))
 
   -- the whole field of its name in the source is
@@ -154,7 +154,7 @@ module _ (b : List ℕ) (more : ℕ) where
   unfolding presences-full
   no-room h = lt-ltb 512 (length ((schema-of b) .presences) + more) (omega (arith, presences-long b))
 
-  pub some-room : presence-count b + more ≤ 512 → presences-full (schema-of b) more ≡ false
+  pub some-room : presence-count b + more ≤ limits .presences → presences-full (schema-of b) more ≡ false
   unfolding presences-full
   some-room h = le-ltb 512 (length ((schema-of b) .presences) + more) (omega (arith, presences-long b))
 
@@ -172,7 +172,7 @@ module _ (b : List ℕ) (d : ℕ) (n : Name) (t : ℕ) {b₁ : List ℕ}
   entered-one = out .shown
 
   -- there is room for a second, and its name is still free
-  pub room-second : presence-count b + 2 ≤ 512 → length ((schema-of b₁) .presences) < 512
+  pub room-second : presence-count b + 2 ≤ limits .presences → length ((schema-of b₁) .presences) < limits .presences
   room-second h =
       omega (
         arith,

@@ -7,6 +7,7 @@ use mathlib.Core.Bool.{true, false, _&&_, _||_}
 use lib.Dec.{ltb, eqb}
 use lib.ListN.{length}
 use borrow.Author.Tests.{ltb-false, lt-ltb, le-ltb, eq-eqb, ne-eqb}
+use Rattle.rules.specs.02-Limits.{limits}
 use Rattle.rules.specs.declared.Answer.{Answer}
 use Rattle.rules.specs.01-Lists.{all, put}
 use Rattle.rules.specs.03-Names.{Name, well-formed}
@@ -111,9 +112,9 @@ module _ {b : List ℕ} {d : ℕ} {n m : Name} {c c′ t r : ℕ} (x : Pair-read
         let fields : (3 < 256) × ((c′ < 256) × (t < 256)) = (omega arith, (omega (arith, x .categories .1), omega (arith, f .below))) in
         (shows-stored forward, (f .reverse-below, (fields, omega arith)))
 
-    room-left : length ((schema-of b₂) .presences) < 512
+    room-left : length ((schema-of b₂) .presences) < limits .presences
     room-left =
-        shows-has (λ s. length (s .presences) < 512) forward
+        shows-has (λ s. length (s .presences) < limits .presences) forward
         (omega (arith, f .room, put-long presence-before (record { sds = d; name = n; type = t }) ((schema-of b) .presences)))
 
     reverse-free : bears (schema-of b₂) d m ≡ false
@@ -126,7 +127,7 @@ module _ {b : List ℕ} {d : ℕ} {n m : Name} {c c′ t r : ℕ} (x : Pair-read
     module _ {b₃ : List ℕ} (v : Becomes b₂ r (paired c′ t) b₃) where
       -- what its presence needs
       pub reverse-ready : Stored b₃ × (((d ≡ 0 → ⊥) × ((d < 256) × (r < 256)))
-          × ((well-formed m ≡ true) × ((length ((schema-of b₃) .presences) < 512) × (bears (schema-of b₃) d m ≡ false))))
+          × ((well-formed m ≡ true) × ((length ((schema-of b₃) .presences) < limits .presences) × (bears (schema-of b₃) d m ≡ false))))
       reverse-ready =
           let small : (d < 256) × (r < 256) = (omega (arith, x .aim .below), omega (arith, f .reverse-below)) in (
             shows-stored v,

@@ -9,7 +9,7 @@ use Rattle.base.specs.Back.{schema-of}
 
 -- t and r are the numbers that the forward type and its reverse take, and there is room for their presences
 pub record Two-free (b : List ℕ) (t r : ℕ) : Type 0 where
-  pub room : length ((schema-of b) .presences) + 2 ≤ 512
+  pub room : length ((schema-of b) .presences) + 2 ≤ limits .presences
   pub below : t < 128
   pub new : t ≡ new-type (schema-of b)
   pub reverse-below : r < 128

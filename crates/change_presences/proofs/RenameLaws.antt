@@ -127,7 +127,7 @@ module _ {b b₁ : List ℕ} (s : Sound b) {d t r : ℕ} (found : Presence-row b
   is-now = shows-schema (row-taken (held-row (sound-good s) found h) found (sound-stored s) out)
 
   -- there is room for it, and its name is free
-  pub room-then : length ((schema-of b₁) .presences) < 512
+  pub room-then : length ((schema-of b₁) .presences) < limits .presences
   room-then =
       omega (
         arith,

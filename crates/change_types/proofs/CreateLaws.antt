@@ -7,6 +7,7 @@ use mathlib.Core.Bool.{Bool, true, false}
 use lib.Dec.{ltb}
 use lib.ListN.{length, set}
 use borrow.Author.Tests.{lt-ltb, le-ltb}
+use Rattle.rules.specs.02-Limits.{limits}
 use Rattle.rules.specs.declared.Answer.{Answer}
 use Rattle.rules.specs.01-Lists.{put}
 use Rattle.rules.specs.03-Names.{Name, well-formed}
@@ -53,7 +54,7 @@ module _ (b : List ℕ) (more : ℕ) where
       or-right (ltb (length (free-types (schema-of b))) more) _
       (lt-ltb 512 (length ((schema-of b) .presences) + more) (omega (arith, presences-long b)))
 
-  pub both-fit : ltb (length (free-types (schema-of b))) more ≡ false → presence-count b + more ≤ 512 → types-full (schema-of b) more ≡ false
+  pub both-fit : ltb (length (free-types (schema-of b))) more ≡ false → presence-count b + more ≤ limits .presences → types-full (schema-of b) more ≡ false
   unfolding types-full presences-full
   both-fit e h = rw (e, le-ltb 512 (length ((schema-of b) .presences) + more) (omega (arith, presences-long b)))
 
@@ -63,7 +64,7 @@ module _ (b : List ℕ) (t : ℕ) (k : Kind) {b₁ : List ℕ} (w : Becomes b t 
   typed : schema-of b₁ ≡ with-types (schema-of b) (set ((schema-of b) .types) t k)
   typed = shows-schema w
 
-  pub room-typed : length ((schema-of b) .presences) < 512 → length ((schema-of b₁) .presences) < 512
+  pub room-typed : length ((schema-of b) .presences) < limits .presences → length ((schema-of b₁) .presences) < limits .presences
   room-typed h = omega (arith, ap (λ (x : Schema). length (x .presences)) typed)
 
   pub free-typed : bears (schema-of b) d n ≡ false → bears (schema-of b₁) d n ≡ false
@@ -96,7 +97,7 @@ module _ (d : ℕ) (n : Name) where
 module _ {b : List ℕ} {d : ℕ} {n : Name} {t : ℕ} (r : Ready b d n t) (k : Kind) {b₁ : List ℕ} (w : Becomes b t k b₁) where
   -- what its presence needs once it has its row
   pub presence-ready : Stored b₁ × (((d ≡ 0 → ⊥) × ((d < 256) × (t < 256)))
-      × ((well-formed n ≡ true) × ((length ((schema-of b₁) .presences) < 512) × (bears (schema-of b₁) d n ≡ false))))
+      × ((well-formed n ≡ true) × ((length ((schema-of b₁) .presences) < limits .presences) × (bears (schema-of b₁) d n ≡ false))))
   presence-ready =
       let small : (d < 256) × (t < 256) = (omega (arith, r .aim .below), omega (arith, r .room .below)) in
       (shows-stored w, ((r .aim .outside, small), (r .formed, (room-typed b t k w d n (r .room .room), free-typed b t k w d n (r .room .free)))))

@@ -4,6 +4,7 @@ use mathlib.Core.Path.{_≡_}
 use mathlib.Core.List.{List, _∷_, _++_}
 use mathlib.Core.Bool.{Bool, true, false}
 use lib.ListN.{length}
+use Rattle.rules.specs.02-Limits.{limits}
 use Rattle.rules.specs.03-Names.{Name, well-formed}
 use Rattle.rules.specs.04-Schema.{Schema, bears}
 use Rattle.rules.specs.09-Refusals.{Refusals, _when_, malformed}
@@ -23,7 +24,7 @@ one-refusals s d n unknown = aim-refusals s d (malformed n) ++ ((5 when unknown)
 -- what is so where none of the last holds: t is the number that the new type takes
 pub record Room (b : List ℕ) (d : ℕ) (n : Name) (t : ℕ) : Type 0 where
   pub free : bears (schema-of b) d n ≡ false
-  pub room : length ((schema-of b) .presences) < 512
+  pub room : length ((schema-of b) .presences) < limits .presences
   pub below : t < 128
   pub new : t ≡ new-type (schema-of b)
 

@@ -35,24 +35,24 @@ use Rattle.check_rows.specs.Named.{fine-field, Alone}
 -- ---- a field
 
 module _ (f : List ℕ) where
-  pub name-field-of : well-formed (strip f) ≡ true → pad 16 (strip f) ≡ f → name-field f ≡ true
+  pub name-field-of : well-formed (strip f) ≡ true → pad (limits .name) (strip f) ≡ f → name-field f ≡ true
   unfolding name-field
-  name-field-of w e = and-of (well-formed (strip f)) (same-bytes (pad 16 (strip f)) f) w (rw e (same-bytes-refl f))
+  name-field-of w e = and-of (well-formed (strip f)) (same-bytes (pad (limits .name) (strip f)) f) w (rw e (same-bytes-refl f))
 
   pub name-field-formed : name-field f ≡ true → well-formed (strip f) ≡ true
   unfolding name-field
-  name-field-formed e = and-both (well-formed (strip f)) (same-bytes (pad 16 (strip f)) f) e .0
+  name-field-formed e = and-both (well-formed (strip f)) (same-bytes (pad (limits .name) (strip f)) f) e .0
 
-  pub name-field-padded : name-field f ≡ true → pad 16 (strip f) ≡ f
+  pub name-field-padded : name-field f ≡ true → pad (limits .name) (strip f) ≡ f
   unfolding name-field
-  name-field-padded e = same-bytes-is (pad 16 (strip f)) f (and-both (well-formed (strip f)) (same-bytes (pad 16 (strip f)) f) e .1)
+  name-field-padded e = same-bytes-is (pad (limits .name) (strip f)) f (and-both (well-formed (strip f)) (same-bytes (pad (limits .name) (strip f)) f) e .1)
 
 -- a blank field of 16 bytes
-blank-zeros : (f : List ℕ) → length f ≡ 16 → blank-field f ≡ true → f ≡ pad 16 []
+blank-zeros : (f : List ℕ) → length f ≡ limits .name → blank-field f ≡ true → f ≡ pad (limits .name) []
 unfolding blank-field pad
 blank-zeros f l e = sym (same-bytes-is (replicate 16 0) f (rw l at e))
 
-zeros-blank : (f : List ℕ) → f ≡ pad 16 [] → blank-field f ≡ true
+zeros-blank : (f : List ℕ) → f ≡ pad (limits .name) [] → blank-field f ≡ true
 unfolding blank-field pad
 zeros-blank f e = rw e (same-bytes-refl (replicate 16 0))
 
@@ -62,7 +62,7 @@ used-name n u e = false≢true (rw e at u)
 -- ---- SDSs
 
 module _ (b : List ℕ) (long : length b ≡ base-length) where
-  field-long : (d : ℕ) → d < 16 → length (part b (sds-at d) (limits .name)) ≡ 16
+  field-long : (d : ℕ) → d < 16 → length (part b (sds-at d) (limits .name)) ≡ limits .name
   field-long d h = length-part b (sds-at d) (limits .name) (omega arith)
 
   -- a fine field is written back as it stands
@@ -71,7 +71,7 @@ module _ (b : List ℕ) (long : length b ≡ base-length) where
   fine-written d h e =
       let f = part b (sds-at d) (limits .name) in
       ⊎-elim
-      (λ q. let z = blank-zeros f (field-long d h) q in ap (pad 16) (ap strip z ∙ strip-blank) ∙ sym z)
+      (λ q. let z = blank-zeros f (field-long d h) q in ap (pad (limits .name)) (ap strip z ∙ strip-blank) ∙ sym z)
       (name-field-padded f)
       (or-cases (blank-field f) (name-field f) e)
 
@@ -96,7 +96,7 @@ module _ (b : List ℕ) (long : length b ≡ base-length) where
           or-right (blank-field f) (name-field f)
           (name-field-of f (rw (sds-is b d h) at (s .sdss .named d (rw (sds-is b d h) q))) (s .sds-fields d h))
       go false q =
-          or-left (blank-field f) (name-field f) (zeros-blank f (sym (s .sds-fields d h) ∙ ap (pad 16) (no-name (sds-shown b d) q)))
+          or-left (blank-field f) (name-field f) (zeros-blank f (sym (s .sds-fields d h) ∙ ap (pad (limits .name)) (no-name (sds-shown b d) q)))
         where
           no-name : (n : Name) → not (blank n) ≡ false → n ≡ []
           no-name [] e = refl
@@ -142,15 +142,15 @@ module _ (b : List ℕ) (long : length b ≡ base-length) where
       let same : d ≡ e = s .sdss .unique d e u v n in
       omega arith
 
-  pub system-of : Sdss-fine b → (f : List ℕ) → f ≡ part b (sds-at 0) (limits .name) → same-bytes f (pad 16 system-name) ≡ true
+  pub system-of : Sdss-fine b → (f : List ℕ) → f ≡ part b (sds-at 0) (limits .name) → same-bytes f (pad (limits .name) system-name) ≡ true
   unfolding sds-row
   system-of s f e =
-      let z : part b (sds-at 0) (limits .name) ≡ pad 16 system-name
-      = sym (s .sds-fields 0 (omega arith)) ∙ ap (pad 16) (sym (sds-is b 0 (omega arith)) ∙ s .sdss .system) in
-      rw (e, z) (same-bytes-refl (pad 16 system-name))
+      let z : part b (sds-at 0) (limits .name) ≡ pad (limits .name) system-name
+      = sym (s .sds-fields 0 (omega arith)) ∙ ap (pad (limits .name)) (sym (sds-is b 0 (omega arith)) ∙ s .sdss .system) in
+      rw (e, z) (same-bytes-refl (pad (limits .name) system-name))
 
   pub sdss-of : ((d : ℕ) → d < 16 → fine-field b d ≡ true) → ((d : ℕ) → d < 16 → Alone b d)
-      → (f : List ℕ) → f ≡ part b (sds-at 0) (limits .name) → same-bytes f (pad 16 system-name) ≡ true → Sdss-fine b
+      → (f : List ℕ) → f ≡ part b (sds-at 0) (limits .name) → same-bytes f (pad (limits .name) system-name) ≡ true → Sdss-fine b
   unfolding pad strip used-sds
   sdss-of fine a f e q = record {
     sds-fields = λ d h. fine-written d h (fine d h);
@@ -158,7 +158,7 @@ module _ (b : List ℕ) (long : length b ≡ base-length) where
       room = sdss-long b;
       named = λ d u. fine-named d (used-below b long d u) (fine d (used-below b long d u)) u;
       unique = unique fine a;
-      system = sds-is b 0 (omega arith) ∙ ap strip (sym e ∙ same-bytes-is f (pad 16 system-name) q);
+      system = sds-is b 0 (omega arith) ∙ ap strip (sym e ∙ same-bytes-is f (pad (limits .name) system-name) q);
     };
   }
 
@@ -231,10 +231,10 @@ module _ (b : List ℕ) (long : length b ≡ base-length) (i : ℕ) (h : i < lim
       name-field-of f w (append-cancel-right (pad (limits .name) (strip f)) f last rest)
 
 -- the field of the name that a fresh base has
-pub object-field : (f : List ℕ) → f ≡ pad 16 (system-presence .name) → same-bytes f (111 ∷ 98 ∷ 106 ∷ 101 ∷ 99 ∷ 116 ∷ replicate 10 0) ≡ true
+pub object-field : (f : List ℕ) → f ≡ pad (limits .name) (system-presence .name) → same-bytes f (111 ∷ 98 ∷ 106 ∷ 101 ∷ 99 ∷ 116 ∷ replicate 10 0) ≡ true
 unfolding pad
 object-field f e = rw e (same-bytes-refl (111 ∷ 98 ∷ 106 ∷ 101 ∷ 99 ∷ 116 ∷ replicate 10 0))
 
-pub field-object : (f : List ℕ) → same-bytes f (111 ∷ 98 ∷ 106 ∷ 101 ∷ 99 ∷ 116 ∷ replicate 10 0) ≡ true → f ≡ pad 16 (system-presence .name)
+pub field-object : (f : List ℕ) → same-bytes f (111 ∷ 98 ∷ 106 ∷ 101 ∷ 99 ∷ 116 ∷ replicate 10 0) ≡ true → f ≡ pad (limits .name) (system-presence .name)
 unfolding pad
 field-object f e = same-bytes-is f (111 ∷ 98 ∷ 106 ∷ 101 ∷ 99 ∷ 116 ∷ replicate 10 0) e

@@ -87,15 +87,23 @@ front-other p q e d s =
 
 presence-irreflexive : (p : Presence) → presence-before p p ≡ false
 unfolding presence-before
-presence-irreflexive p = rw (le-ltb (p .sds) (p .sds) (omega arith), eq-eqb (p .sds) (p .sds) refl, name-irreflexive (p .name), le-ltb (p .type) (p .type) (omega arith))
+presence-irreflexive p = rw (
+  le-ltb (p .sds) (p .sds) (omega arith),
+  eq-eqb (p .sds) (p .sds) refl,
+  name-irreflexive (p .name),
+  le-ltb (p .type) (p .type)
+      (omega arith),
+)
 
 -- the front of a row that is as it would be written
-row-front : (b : List ℕ) (i : ℕ) → presence-row (shown presences b i) ≡ row-of presences b i → part b (presence-at i) (by-name .key) ≡ front (presence-shown b i)
+row-front : (b : List ℕ) (i : ℕ) → presence-row (shown presences b i) ≡ row-of presences b i
+    → part b (presence-at i) (by-name .key) ≡ front (presence-shown b i)
 unfolding presence-row
 row-front b i e =
     let p = presence-shown b i in
     let w = limits .name in
-    sym (take-take (by-name .key) presence-width (drop (presence-at i) b) (omega arith)) ∙ ap (take (by-name .key)) (sym e ∙ ap presence-row (presence-read b i))
+    sym (take-take (by-name .key) presence-width (drop (presence-at i) b) (omega arith))
+    ∙ ap (take (by-name .key)) (sym e ∙ ap presence-row (presence-read b i))
     ∙ ap (λ (l : List ℕ). p .sds ∷ l) (take-at (pad w (p .name)) (p .type ∷ []) w (length-pad w (p .name)))
 
 module _ (b : List ℕ)

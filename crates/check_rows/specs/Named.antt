@@ -36,5 +36,5 @@ pub record System-first (b : List ℕ) (n : ℕ) : Type 0 where
   pub some : 0 < n
   pub sds : getD b (presence-at 0) 0 ≡ 0
   pub type : getD b (presence-at 0 + type-offset) 0 ≡ 0
-  pub name : part b (presence-at 0 + name-offset) (limits .name) ≡ pad 16 (system-presence .name)
+  pub name : part b (presence-at 0 + name-offset) (limits .name) ≡ pad (limits .name) (system-presence .name)
   pub next : 1 < n → getD b (presence-at 1) 0 ≡ 0 → ⊥

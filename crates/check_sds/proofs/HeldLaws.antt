@@ -79,7 +79,8 @@ module _ (b : List ℕ) (set : ℕ → Bool) (i : ℕ) where
   pub applied-to-out : (t : ℕ) → t ≡ getD b (application-at i + to-offset) 0 → set t ≡ false → Applied b set i → ⊥
   applied-to-out t e f x = true≢false (sym (applied-held x .0) ∙ ap set (sym e) ∙ f)
 
-  pub applied-of : (a t : ℕ) → a ≡ getD b (application-at i + attribute-offset) 0 → t ≡ getD b (application-at i + to-offset) 0 → is-attribute (kind-of (schema-of b) a) ≡ true
+  pub applied-of : (a t : ℕ) → a ≡ getD b (application-at i + attribute-offset) 0 → t ≡ getD b (application-at i + to-offset) 0
+      → is-attribute (kind-of (schema-of b) a) ≡ true
       → set a ≡ true → set t ≡ true → is-object (kind-of (schema-of b) t) || is-link (kind-of (schema-of b) t) ≡ true → Applied b set i
   applied-of a t e f k m n o = record {
     attribute = rw (← e) k;
@@ -173,7 +174,8 @@ module _ (b : List ℕ) (set : ℕ → Bool) (i : ℕ) where
   pub ended-object-out : (o : ℕ) → o ≡ getD b (end-at i + object-offset) 0 → set o ≡ false → Ended b set i → ⊥
   ended-object-out o e f x = true≢false (sym (ended-held (x .fits) .1) ∙ ap set (sym e) ∙ f)
 
-  module _ (l o : ℕ) (el : l ≡ getD b (end-at i + link-offset) 0) (eo : o ≡ getD b (end-at i + object-offset) 0) (kl : is-link (kind-of (schema-of b) l) ≡ true) where
+  module _ (l o : ℕ) (el : l ≡ getD b (end-at i + link-offset) 0) (eo : o ≡ getD b (end-at i + object-offset) 0)
+      (kl : is-link (kind-of (schema-of b) l) ≡ true) where
     ended-of : set l ≡ true → is-object (kind-of (schema-of b) o) ≡ true → set o ≡ true
         → ((c r : ℕ) → kind-of (schema-of b) l ≡ paired c r
         → has-end (schema-of b) ((end-shown b i) .sds) r (other-side ((end-shown b i) .side)) ((end-shown b i) .object) ≡ true)
@@ -207,6 +209,7 @@ module _ (b : List ℕ) (set : ℕ → Bool) (i : ℕ) where
       unfolding has-end
       ended-mirror v x =
           let pair = link-paired b l (link-below b l kl) kl v in
-          let m : has-end (schema-of b) ((end-shown b i) .sds) (getD b (type-at l + reverse-offset) 0) (other-side ((end-shown b i) .side)) ((end-shown b i) .object) ≡ true
+          let m : has-end (schema-of b) ((end-shown b i) .sds) (getD b (type-at l + reverse-offset) 0) (other-side ((end-shown b i) .side))
+          ((end-shown b i) .object) ≡ true
           = (rw (← el) at (x .mirrored)) (getD b (type-at l + value-offset) 0) (getD b (type-at l + reverse-offset) 0) pair in
           rw mirror-code at (has-row ends d r (other-side ((end-shown b i) .side)) o (rw (ed, er, eo) m))

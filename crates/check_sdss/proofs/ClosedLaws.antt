@@ -50,7 +50,8 @@ alike same P x = subst P (λ i t. same t i) x
 
 -- ---- the set that was gathered
 
-module _ {b : List ℕ} {n d p e : ℕ} (count : Counted (presence-count b) (limits .presences) n) (s : Split-at presences b n d p) (z : Split-at presences b n (d + 1) e)
+module _ {b : List ℕ} {n d p e : ℕ} (count : Counted (presence-count b) (limits .presences) n) (s : Split-at presences b n d p)
+    (z : Split-at presences b n (d + 1) e)
     {h : Held} (g : Gathered b p e h) where
   pub gathered-shows : h .once ≡ true → Shows b d (h .types)
   unfolding present
@@ -115,7 +116,8 @@ module _ {b : List ℕ} {n at : Places} {d : ℕ} (ready : Ready b n) (here : At
       let fits = se .fits in
       alike (λ t. sym (shows t)) (λ p. Ended b p i) (x .ends i (omega (arith, ready .ends .counted .is)) (range-in (here .ends) se i u l))
 
-  pub sds-closed : {p a e : ℕ} → Split-at presences b (n .presences) (d + 1) p → Split-at applications b (n .applications) (d + 1) a → Split-at ends b (n .ends) (d + 1) e
+  pub sds-closed : {p a e : ℕ} → Split-at presences b (n .presences) (d + 1) p → Split-at applications b (n .applications) (d + 1) a
+      → Split-at ends b (n .ends) (d + 1) e
       → Gathered b (at .presences) p h → h .once ≡ true
       → ((i : ℕ) → i < p → at .presences ≤ i → Closed-type b (has (h .types)) (type-in b i))
       → ((i : ℕ) → i < a → at .applications ≤ i → Applied b (has (h .types)) i)

@@ -168,7 +168,8 @@ ready-of {b} {n} p pres rest cp ca ce = record {
     sides = λ i h. written-side b i (rest .end-rows i (omega (arith, ce .is)));
   };
   presences-rise = rw (cp .is) (rise pres);
-  applications-rise = rw (ca .is) (things-rise applications-sort b (application-count b) (applications-written b (p .long)) (λ i h. tt) (rest .applications .rises));
+  applications-rise = rw (ca .is)
+      (things-rise applications-sort b (application-count b) (applications-written b (p .long)) (λ i h. tt) (rest .applications .rises));
   types = λ i h. used-below (presence-shown b i .type) (pres .typed (presence-shown b i) (presence-there b i (omega (arith, cp .is))));
 }
   where

@@ -1,7 +1,7 @@
 // SDS by SDS, with one set of the types that are in it: that these are closed, and that applications and ends stand on them.
 use base::Base;
-use type_set::TypeSet;
 use rules::Limits;
+use type_set::TypeSet;
 ghost use mathlib.Core.Path.{_≡_};
 ghost use mathlib.Core.Bool.{true};
 ghost use Prim.Native.Nat.{ℕ, _<_};

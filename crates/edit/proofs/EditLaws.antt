@@ -67,7 +67,7 @@ unlike {t = t} l k q a fit it none y i e =
 
 pub presence-built : (d t : ℕ) (n y : List ℕ) → d < 256 → t < 256 → length n ≤ limits .name
     → y ≡ written (set (set (replicate presence-width 0) 0 (d % 256)) type-offset (t % 256)) name-offset n
-        → y ≡ presence-row (record { sds = d; name = n; type = t })
+    → y ≡ presence-row (record { sds = d; name = n; type = t })
 unfolding presence-row
 presence-built d t n y h k l e =
     let d-is : d % 256 ≡ d = omega arith in

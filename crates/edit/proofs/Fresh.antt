@@ -21,5 +21,5 @@ pub fresh-done : {n : ℕ} {x y z : List ℕ} → n ≡ base-length → x ≡ re
     → z ≡ written (set y (types .start) 1) (presence-at 0 + name-offset) (bytes "object") → z ≡ picture fresh
 fresh-done l f g h =
     h ∙ ap (λ (m : List ℕ). written (set m (types .start) 1) (presence-at 0 + name-offset) (bytes "object"))
-        (g ∙ ap (λ (m : List ℕ). written m (sdss .start) (bytes "system")) (f ∙ ap (λ (n : ℕ). replicate n 0) l))
+    (g ∙ ap (λ (m : List ℕ). written m (sdss .start) (bytes "system")) (f ∙ ap (λ (n : ℕ). replicate n 0) l))
     ∙ fresh-bytes

@@ -109,7 +109,8 @@ module _ {b : List ℕ} (rows : Parental b) where
     pub lacks-parent : (i : ℕ) → i < getD b (type-at t + count-offset) 0 → p (getD b (type-at t + parents-offset + i) 0) ≡ false → Ready (schema-of b) p t → ⊥
     lacks-parent i l e w = false≢true (sym e ∙ w .parents _ (parent-at rows t h i l))
 
-    pub has-parents : object-in b t ≡ true → ((i : ℕ) → i < getD b (type-at t + count-offset) 0 → p (getD b (type-at t + parents-offset + i) 0) ≡ true) → Ready (schema-of b) p t
+    pub has-parents : object-in b t ≡ true → ((i : ℕ) → i < getD b (type-at t + count-offset) 0 → p (getD b (type-at t + parents-offset + i) 0) ≡ true)
+        → Ready (schema-of b) p t
     has-parents o f = record { object = o; parents = λ a by. let (i, l, e) = parent-place rows t h a by in rw e at (f i l) }
 
   -- where no type is its own ancestor every way up ends: l is the way up to t, no type is in it twice, and n more steps are too many

@@ -2,6 +2,7 @@
 ghost use mathlib.Core.Path.{_≡_};
 ghost use Prim.Native.Nat.{_<_};
 ghost use lib.ListN.{length};
+ghost use Rattle.rules.specs.02-Limits.{limits};
 ghost use Rattle.rules.specs.07-Picture.{Sound, base-length};
 ghost use Rattle.rules.specs.09-Refusals.{has-child, in-application, in-end, still-used};
 ghost use Rattle.base.specs.Back.{schema-of, presence-count, presence-shown, application-shown, end-shown};
@@ -39,7 +40,7 @@ pub fn has_child(base: &[u8], d: usize, t: usize) -> bool
 
 // Whether row i applies type t, or applies something to it, in SDS d.
 fn is_application_with(base: &[u8], i: usize, d: usize, t: usize) -> bool
-    requires { ⌜ (length (now base) ≡ base-length) × (i < 256) ⌝ }
+    requires { ⌜ (length (now base) ≡ base-length) × (i < limits .applications) ⌝ }
     ensures { λ r. ⌜ r ≡ application-with d t (application-shown (now (base .entry)) i) ⌝ }
 {
     if base::application_sds(base, i) != d {
@@ -70,7 +71,7 @@ pub fn in_application(base: &[u8], d: usize, t: usize) -> bool
 
 // Whether row i is an end of type t, or one at it, in SDS d.
 fn is_end_with(base: &[u8], i: usize, d: usize, t: usize) -> bool
-    requires { ⌜ (length (now base) ≡ base-length) × (i < 512) ⌝ }
+    requires { ⌜ (length (now base) ≡ base-length) × (i < limits .ends) ⌝ }
     ensures { λ r. ⌜ r ≡ end-with d t (end-shown (now (base .entry)) i) ⌝ }
 {
     if base::end_sds(base, i) != d {

@@ -87,7 +87,8 @@ module _ {b : List ℕ} (rows : Parental b) (t : ℕ) (h : t < 128) where
   abbrev ps : List ℕ
   ps = parents (schema-of b) t
 
-  left-first : (f : ℕ → Bool) (i : ℕ) → i < getD b (type-at t + count-offset) 0 → any f (drop i ps) ≡ f (getD b (type-at t + parents-offset + i) 0) || any f (drop (i + 1) ps)
+  left-first : (f : ℕ → Bool) (i : ℕ) → i < getD b (type-at t + count-offset) 0
+      → any f (drop i ps) ≡ f (getD b (type-at t + parents-offset + i) 0) || any f (drop (i + 1) ps)
   left-first f i l =
       any-left f ps i (omega (arith, parents-count rows t h))
       ∙ ap (λ (a : ℕ). f a || any f (drop (i + 1) ps)) (parents-place rows t h i l)
@@ -122,7 +123,8 @@ module _ {b : List ℕ} (rows : Parental b) (t : ℕ) (h : t < 128) where
     }
 
     module _ {i : ℕ} (so-far : Finds (schema-of b) t i p) where
-      passed : i < getD b (type-at t + count-offset) 0 → (x : Bool) → p (getD b (type-at t + parents-offset + i) 0) ≡ x → x || any p (drop (i + 1) ps) ≡ children-of (schema-of b) p t
+      passed : i < getD b (type-at t + count-offset) 0 → (x : Bool) → p (getD b (type-at t + parents-offset + i) 0) ≡ x
+          → x || any p (drop (i + 1) ps) ≡ children-of (schema-of b) p t
       passed l x e = sym (ap (λ (x : Bool). x || any p (drop (i + 1) ps)) e) ∙ sym (left-first p i l) ∙ so-far .left
 
       pub finds-here : i < getD b (type-at t + count-offset) 0 → p (getD b (type-at t + parents-offset + i) 0) ≡ true → true ≡ children-of (schema-of b) p t

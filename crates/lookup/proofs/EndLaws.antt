@@ -21,7 +21,8 @@ use Rattle.lookup.specs.Found.{End-at, End-found}
 
 -- the bytes of an end
 pub end-bytes : (b : List ℕ) (i : ℕ) → end-at i + end-width ≤ length b
-    → part b (end-at i) end-width ≡ getD b (end-at i) 0 ∷ getD b (end-at i + link-offset) 0 ∷ getD b (end-at i + side-offset) 0 ∷ getD b (end-at i + object-offset) 0 ∷ []
+    → part b (end-at i) end-width ≡ getD b (end-at i) 0 ∷ getD b (end-at i + link-offset) 0 ∷ getD b (end-at i + side-offset) 0 ∷ getD b
+    (end-at i + object-offset) 0 ∷ []
 end-bytes b i h =
     let at = end-at i in
     let two : at + 1 + 1 ≡ at + 2 = omega arith in

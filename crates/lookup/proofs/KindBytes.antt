@@ -231,7 +231,8 @@ used-byte {b} s t x h e = ap (λ (n : ℕ). not (eqb n 0)) (e ∙ sound-code s t
 
 -- the bytes of a link type that has a reverse, and of one that has none
 module _ (b : List ℕ) (t : ℕ) (h : t < 128) where
-  pub paired-reverse : (c r : ℕ) → kind-of (schema-of b) t ≡ paired c r → (getD b (type-at t + value-offset) 0 ≡ 4 → ⊥) × (r ≡ getD b (type-at t + reverse-offset) 0)
+  pub paired-reverse : (c r : ℕ) → kind-of (schema-of b) t ≡ paired c r
+      → (getD b (type-at t + value-offset) 0 ≡ 4 → ⊥) × (r ≡ getD b (type-at t + reverse-offset) 0)
   paired-reverse c r e =
       let three : getD b (type-at t) 0 ≡ 3 = eqb-true (getD b (type-at t) 0) 3 (link-byte b t (getD b (type-at t) 0) h refl ∙ ap is-link e) in
       let other : getD b (type-at t + value-offset) 0 ≡ 4 → ⊥ = λ f. apart (sym (shows-designation b t three f) ∙ sym (kind-is b t h) ∙ e) in
@@ -240,7 +241,8 @@ module _ (b : List ℕ) (t : ℕ) (h : t < 128) where
       apart : designation ≡ paired c r → ⊥
       apart q = let z : _≡_ {A = ℕ} 0 1 = cc in omega arith
 
-      reverse-same : paired c r ≡ paired (getD b (type-at t + value-offset) 0) (getD b (type-at t + reverse-offset) 0) → r ≡ getD b (type-at t + reverse-offset) 0
+      reverse-same : paired c r ≡ paired (getD b (type-at t + value-offset) 0) (getD b (type-at t + reverse-offset) 0)
+          → r ≡ getD b (type-at t + reverse-offset) 0
       reverse-same q = cc
 
   pub link-paired : is-link (kind-of (schema-of b) t) ≡ true → (getD b (type-at t + value-offset) 0 ≡ 4 → ⊥) → kind-of (schema-of b) t ≡ paired (getD b

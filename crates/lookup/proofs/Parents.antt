@@ -122,7 +122,8 @@ module _ {b : List ℕ} (rows : Parental b) where
         let l′ : i < length (parents-in (kind-shown b t)) = omega (arith, counted) in
         record { listed = rw (shown, ← parent-byte i l′) (place-in 0 (parents-in (kind-shown b t)) i l′) }
 
-    pub parent-place : (a : ℕ) → Parent (schema-of b) t a → (i : ℕ) × (i < getD b (type-at t + count-offset) 0) × (getD b (type-at t + parents-offset + i) 0 ≡ a)
+    pub parent-place : (a : ℕ) → Parent (schema-of b) t a
+        → (i : ℕ) × (i < getD b (type-at t + count-offset) 0) × (getD b (type-at t + parents-offset + i) 0 ≡ a)
     parent-place a by =
         let (i, l, e) = at-place 0 (rw shown at (by .listed)) in
         (i, omega (arith, counted), sym (parent-byte i l) ∙ e)

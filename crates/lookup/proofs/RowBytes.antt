@@ -57,7 +57,8 @@ module _ {b : List ℕ} (s : Sound b) where
       → (getD b (application-at i) 0 < 128) × ((getD b (application-at i + to-offset) 0 < 128) × (getD b (application-at i + attribute-offset) 0 < 128))
   application-small i h = both _ _ _ (sound-good s .application-present (application-shown b i) (application-there b i h))
 
-  pub end-small : (i : ℕ) → i < end-count b → (getD b (end-at i) 0 < 128) × ((getD b (end-at i + link-offset) 0 < 128) × (getD b (end-at i + object-offset) 0 < 128))
+  pub end-small : (i : ℕ) → i < end-count b
+      → (getD b (end-at i) 0 < 128) × ((getD b (end-at i + link-offset) 0 < 128) × (getD b (end-at i + object-offset) 0 < 128))
   end-small i h = both _ _ _ (sound-good s .end-present (end-shown b i) (end-there b i h))
 
   -- the byte of a side is its code

@@ -96,7 +96,8 @@ module _ {b : List ℕ} {r : ℕ} (f : Free-sds b r) where
 
   pub free-number : r < 16 → r ≡ new-sds-number (schema-of b)
   unfolding free-sdss
-  free-number h = rw (numbers-first (λ d. not (used-sds (schema-of b) d)) 0 16 r (omega arith) (omega arith) (λ k l u. ap not (f .used k u)) (ap not (f .free h)))
+  free-number h = rw (numbers-first (λ d. not (used-sds (schema-of b) d)) 0 16 r (omega arith) (omega arith) (λ k l u. ap not (f .used k u))
+      (ap not (f .free h)))
 
   pub free-none : 16 ≤ r → no-free-sds (schema-of b) ≡ true
   unfolding no-free-sds free-sdss

@@ -130,7 +130,7 @@ module _ {A : Type 0} (w : ℕ) (read : List ℕ → A) where
     table-rest (suc n) (x ∷ rs) l =
         let same : suc n - suc (length rs) ≡ n - length rs = omega arith in
         rw same (row-suc w (row x ++ table w row n rs) (length rs) ∙ ap (drop (length rs * w)) (drop-at (row x) (table w row n rs) w (wide x))
-            ∙ table-rest n rs (omega arith))
+        ∙ table-rest n rs (omega arith))
 
   -- the first rows look no further than their bytes
   pub rows-append : (m : ℕ) (l r : List ℕ) → m * w ≤ length l → rows w read m (l ++ r) ≡ rows w read m l
@@ -141,7 +141,7 @@ module _ {A : Type 0} (w : ℕ) (read : List ℕ → A) where
       let more : m * w ≤ length (drop w l) = rw (length-drop w l) (omega (arith, suc-mul m w)) in
       let here : read (take w (l ++ r)) ≡ read (take w l) = ap read (take-append-le w l r fits) in
       let rest : rows w read m (drop w (l ++ r)) ≡ rows w read m (drop w l) = ap (rows w read m) (drop-append-le w l r fits)
-          ∙ rows-append m (drop w l) r more in
+      ∙ rows-append m (drop w l) r more in
       λ i. here i ∷ rest i
 
 -- ---- how many rows are used

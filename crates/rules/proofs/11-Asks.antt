@@ -10,12 +10,14 @@ use mathlib.Core.Bool.{Bool, true, false, not, cond, _&&_, true≢false, false�
 use lib.Arith.{digits-mod, digits-div}
 use lib.ListN.{length, getD, take, drop}
 use lib.Pow.{shr-shr}
+use Rattle.rules.specs.Read.{name-offset}
+use Rattle.rules.specs.02-Limits.{limits}
 use Rattle.rules.specs.01-Lists.{any, all, first}
 use Rattle.rules.specs.03-Names.{Name}
 use Rattle.rules.specs.04-Schema.{Schema, Presence, system-presence, holds-type, present, local-name}
 use Rattle.rules.specs.05-Descent.{descends, members}
 use Rattle.rules.specs.06-Good.{Good}
-use Rattle.rules.specs.07-Picture.{sds-row, type-row, picture, name-start}
+use Rattle.rules.specs.07-Picture.{sds-row, type-row, picture, name-start, sds-width, type-width, presence-width, base-length}
 use Rattle.rules.specs.08-Working.{visible, shown}
 use Rattle.rules.specs.09-Refusals.{Outcome, answer-of, not-present}
 use Rattle.rules.specs.11-Asks.{place, name, name-refusals, one-if, marks, visible-descendant, object-scan-list}
@@ -63,15 +65,20 @@ local-at s d t e =
     let (u, f) = first-at (holds-type d t) (record { sds = 0; name = []; type = 0 }) system-presence (s .presences) e in
     (u, ap (λ (p : Presence). p .name) f)
 
-pub name-start-is : (s : Schema) (k : ℕ) → name-start s k ≡ 1280 + k * 18 + 1
+pub name-start-is : (s : Schema) (k : ℕ) → name-start s k ≡ limits .sdss * sds-width + limits .types * type-width + k * presence-width + name-offset
 unfolding name-start
-name-start-is s k = omega (arith, length-table 16 sds-row wide-sds 16 (s .sdss), length-table 8 type-row wide-type 128 (s .types))
+name-start-is s k = omega (
+  arith,
+  length-table sds-width sds-row wide-sds (limits .sdss) (s .sdss),
+  length-table type-width type-row wide-type
+      (limits .types) (s .types),
+)
 
 -- the stretch lies within the base
-pub name-within : {s : Schema} → Good s → (d t : ℕ) → (answer-of (name d t s)) .one + (answer-of (name d t s)) .two ≤ 13312
+pub name-within : {s : Schema} → Good s → (d t : ℕ) → (answer-of (name d t s)) .one + (answer-of (name d t s)) .two ≤ base-length
 unfolding name not-present all
 name-within {s} good d t =
-    verdict-keeps (λ (o : Outcome (List ℕ)). (answer-of o) .one + (answer-of o) .two ≤ 13312) (name-refusals d t s) _
+    verdict-keeps (λ (o : Outcome (List ℕ)). (answer-of o) .one + (answer-of o) .two ≤ base-length) (name-refusals d t s) _
     (λ r i. omega (arith, untold-at (name-refusals d t s) refl i))
     (λ w. let (u, f) = local-at s d t (shown (present s d t) (w .fails 6)) in
     let long = formed-long _ (good .presence-named _ (place-in system-presence (s .presences) (place (holds-type d t) (s .presences)) u)) .1 in

@@ -6,7 +6,8 @@ use mathlib.Core.Path.{sym, _∙_}
 use borrow.Author.Tests.{not-true, not-false}
 use Rattle.type_set.specs.Set.{has}
 use Rattle.lookup.proofs.KindBytes.{told-object, told-link, link-below}
-use Rattle.check_sds.proofs.HeldLaws.{row-no, row-yes, row-found, ended-no-link, ended-link-out, ended-no-object, ended-object-out, ended-alone, ended-both, ended-mirror}
+use Rattle.check_sds.proofs.HeldLaws.{row-no, row-yes, row-found, ended-no-link, ended-link-out}
+use Rattle.check_sds.proofs.HeldLaws.{ended-no-object, ended-object-out, ended-alone, ended-both, ended-mirror}
 use Rattle.check_sds.proofs.end_fine.Statement.{statement}
 use Rattle.check_sds.proofs.end_fine.Tie as tie
 
@@ -32,7 +33,8 @@ returns-2 : tie.Need-returns-2
 returns-2 c =
     let x = c .before .before .before .before .before .before in
     let l = c .before .before .before .before .end-link in
-    row-no (ended-link-out (x .args .base .now) (has (x .args .set)) (x .args .i) (l .result) (l .ensures .is) (sym (c .before .holds .ensures) ∙ not-true _ (c .if2 .taken)))
+    row-no (ended-link-out (x .args .base .now) (has (x .args .set)) (x .args .i) (l .result) (l .ensures .is)
+    (sym (c .before .holds .ensures) ∙ not-true _ (c .if2 .taken)))
 
 end-object-requires : tie.Need-end-object-requires
 end-object-requires c κs =
@@ -78,7 +80,8 @@ returns-5 c =
     (told-link (x .args .base .now) (c .before .before .before .before .before .before .before .before .before .before .before .end-link .result)
     (c .before .before .before .before .before .before .before .before .before .before .is-kind .ensures) ∙ not-false _
     (c .before .before .before .before .before .before .before .before .before .if1 .left)) (sym
-    (c .before .before .before .before .before .before .before .before .holds .ensures) ∙ not-false _ (c .before .before .before .before .before .before .before .if2 .left))
+    (c .before .before .before .before .before .before .before .before .holds .ensures)
+    ∙ not-false _ (c .before .before .before .before .before .before .before .if2 .left))
     (told-object (x .args .base .now) (c .before .before .before .before .before .before .end-object .result)
     (c .before .before .before .before .before .is-kind2 .ensures) ∙ not-false _ (c .before .before .before .before .if3 .left)) (sym
     (c .before .before .before .holds2 .ensures) ∙ not-false _ (c .before .before .if4 .left))

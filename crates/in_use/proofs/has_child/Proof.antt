@@ -4,6 +4,7 @@ use Prim.Native.Nat.{ℕ, _≤_, _<_, _-_}
 use mathlib.Core.Path.{_≡_, sym, _∙_}
 use mathlib.Core.Bool.{false}
 use borrow.Author.Count.{below-none, below-more}
+use Rattle.rules.specs.02-Limits.{limits}
 use Rattle.base.specs.Back.{schema-of, presence-shown}
 use Rattle.base.proofs.Kept.{sound-long}
 use Rattle.in_use.specs.Uses.{child-in}
@@ -12,7 +13,7 @@ use Rattle.in_use.proofs.has_child.Statement.{statement}
 use Rattle.in_use.proofs.has_child.Tie as tie
 
 abbrev Inv-loop : tie.InvT-loop
-Inv-loop base d t n i₀ i = (i ≤ n) × (n ≤ 512) × ((k : ℕ) → k < i → child-in (schema-of base) d t (presence-shown base k) ≡ false)
+Inv-loop base d t n i₀ i = (i ≤ n) × (n ≤ limits .presences) × ((k : ℕ) → k < i → child-in (schema-of base) d t (presence-shown base k) ≡ false)
 
 abbrev μ-loop : tie.MeasureT-loop
 μ-loop base d t n i₀ i = n - i

@@ -36,7 +36,11 @@ loop-holds : tie.Need-loop-holds Inv-loop μ-loop
 loop-holds c = (omega arith, gathers-none _ _ _ (c .empty .ensures))
 
 is-applied-requires : tie.Need-is-applied-requires Inv-loop μ-loop
-is-applied-requires c κs = (c .before .before .before .before .before .pre, omega (arith, c .before .before .before .application-count .ensures .is, c .loop-test .taken))
+is-applied-requires c κs = (
+  c .before .before .before .before .before .pre,
+  omega
+      (arith, c .before .before .before .application-count .ensures .is, c .loop-test .taken),
+)
 
 application-attribute-requires : tie.Need-application-attribute-requires Inv-loop μ-loop
 application-attribute-requires c κs = (
@@ -81,7 +85,8 @@ returns c =
     let x = c .before .before .before .before .before in
     let l = c .before .loop in
     let end : l .i ≡ application-count (x .args .base .now) = omega (arith, c .before .before .before .application-count .ensures .is) in
-    all-applications (x .args .base .now) (has (l .r)) (λ a. has (x .args .sdss) (a .sds) && has (x .args .types) (a .to)) (λ a. a .attribute) (rw end at (l .inv .1))
+    all-applications (x .args .base .now) (has (l .r)) (λ a. has (x .args .sdss) (a .sds) && has (x .args .types) (a .to)) (λ a. a .attribute)
+    (rw end at (l .inv .1))
 
 pub attributes-spec : {M : Type 1} → statement M
 attributes-spec =

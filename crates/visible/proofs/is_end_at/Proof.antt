@@ -25,7 +25,12 @@ end-object-requires c κs = (
 )
 
 test-requires : tie.Need-test-requires
-test-requires c κs = omega (arith, c .end-object .ensures .is, end-small (c .before .before .before .before .pre .0) _ (c .before .before .before .before .pre .1) .1 .1)
+test-requires c κs = omega (
+  arith,
+  c .end-object .ensures .is,
+  end-small (c .before .before .before .before .pre .0) _
+      (c .before .before .before .before .pre .1) .1 .1,
+)
 
 returns-2 : tie.Need-returns-2
 returns-2 c = passes-first (c .before .before .before .is-end .ensures) (c .before .before .if1 .left)

@@ -18,7 +18,11 @@ returns : tie.Need-returns
 returns c = fails-first _ (c .before .is-end .ensures) (c .if1 .taken)
 
 end-link-requires : tie.Need-end-link-requires
-end-link-requires c κs = (sound-long (c .before .before .before .pre .0), omega (arith, few-ends (c .before .before .before .args .base .now), c .before .before .before .pre .1))
+end-link-requires c κs = (
+  sound-long (c .before .before .before .pre .0),
+  omega
+      (arith, few-ends (c .before .before .before .args .base .now), c .before .before .before .pre .1),
+)
 
 returns-2 : tie.Need-returns-2
 returns-2 c = passes-first (c .before .before .is-end .ensures) (c .before .if1 .left)

@@ -38,7 +38,11 @@ loop-holds : tie.Need-loop-holds Inv-loop μ-loop
 loop-holds c = (omega arith, gathers-none _ _ _ (c .empty .ensures))
 
 is-end-at-requires : tie.Need-is-end-at-requires Inv-loop μ-loop
-is-end-at-requires c κs = (c .before .before .before .before .before .pre, omega (arith, c .before .before .before .end-count .ensures .is, c .loop-test .taken))
+is-end-at-requires c κs = (
+  c .before .before .before .before .before .pre,
+  omega
+      (arith, c .before .before .before .end-count .ensures .is, c .loop-test .taken),
+)
 
 end-link-requires : tie.Need-end-link-requires Inv-loop μ-loop
 end-link-requires c κs = (

@@ -38,7 +38,11 @@ loop-holds : tie.Need-loop-holds Inv-loop μ-loop
 loop-holds c = (omega arith, gathers-none _ _ _ (c .empty .ensures))
 
 is-end-of-requires : tie.Need-is-end-of-requires Inv-loop μ-loop
-is-end-of-requires c κs = (c .before .before .before .before .before .pre, omega (arith, c .before .before .before .end-count .ensures .is, c .loop-test .taken))
+is-end-of-requires c κs = (
+  c .before .before .before .before .before .pre,
+  omega
+      (arith, c .before .before .before .end-count .ensures .is, c .loop-test .taken),
+)
 
 end-object-requires : tie.Need-end-object-requires Inv-loop μ-loop
 end-object-requires c κs = (

@@ -23,8 +23,13 @@ key-at-requires : tie.Need-key-at-requires Inv-loop μ-loop
 key-at-requires c κs = omega (arith, c .before .pre .0)
 
 loop-holds : tie.Need-loop-holds Inv-loop μ-loop
-loop-holds c = (omega arith, omega arith, c .key-at .ensures, rising-one (c .before .before .args .base .now) (presences .start) (presences .width)
-    (by-name .key))
+loop-holds c = (
+  omega arith,
+  omega arith,
+  c .key-at .ensures,
+  rising-one (c .before .before .args .base .now) (presences .start) (presences .width)
+      (by-name .key),
+)
 
 add-loop : tie.Need-add-loop Inv-loop μ-loop
 add-loop c = omega (arith, c .before .before .before .pre .0)
@@ -46,7 +51,7 @@ returns c =
     let test = presence-test (at .loop .i) (x .pre .0) (x .pre .1) (c .before .before .before .loop-test .taken) (at .loop .inv .1) (λ j. bytes j .fits)
     (at .loop .inv .2) (c .before .before .key-at2 .ensures) (c .before .key-before .ensures) in
     decides-no (rising-not (x .args .base .now) (presences .start) (presences .width) (by-name .key) (at .loop .i) (at .loop .at) (x .args .n)
-        (at .loop .inv .1) (omega arith)
+    (at .loop .inv .1) (omega arith)
     (test ∙ not-true _ (c .if1 .taken)))
 
 add-i : tie.Need-add-i Inv-loop μ-loop

@@ -15,7 +15,8 @@ use Rattle.check_rows.proofs.named.alone_after.Statement.{statement}
 use Rattle.check_rows.proofs.named.alone_after.Tie as tie
 
 abbrev Inv-loop : tie.InvT-loop
-Inv-loop base d e₀ e = (d < e) × (e ≤ 16) × ((k : ℕ) → k < e → d < k → same-name (part base (sds-at d) (limits .name)) (part base (sds-at k) (limits .name)) ≡ true → ⊥)
+Inv-loop base d e₀ e = (d < e) × (e ≤ 16) ×
+    ((k : ℕ) → k < e → d < k → same-name (part base (sds-at d) (limits .name)) (part base (sds-at k) (limits .name)) ≡ true → ⊥)
 
 abbrev μ-loop : tie.MeasureT-loop
 μ-loop base d e₀ e = 16 - e
@@ -39,7 +40,8 @@ returns : tie.Need-returns Inv-loop μ-loop
 returns c =
     let at = c .before .before .before .before .before in
     let same = ap₂ same-name (sym (c .before .before .before .sds-field .ensures)) (sym (c .before .before .sds-field2 .ensures)) in
-    decides-no (λ f. f (at .loop .e) (c .before .before .before .before .loop-test .taken) (at .loop .inv .0) (same ∙ sym (c .before .is-same .ensures) ∙ c .if1 .taken))
+    decides-no (λ f. f (at .loop .e) (c .before .before .before .before .loop-test .taken) (at .loop .inv .0)
+    (same ∙ sym (c .before .is-same .ensures) ∙ c .if1 .taken))
 
 add-e-2 : tie.Need-add-e-2 Inv-loop μ-loop
 add-e-2 c = search needs

@@ -23,7 +23,8 @@ presence-field-requires c κs = search needs
 is-name-field-requires : tie.Need-is-name-field-requires
 is-name-field-requires c κs =
     let x = c .before .before in
-    ap length (c .presence-field .ensures) ∙ length-part (x .args .base .now) (presence-at (x .args .i) + name-offset) (limits .name) (omega (arith, x .pre .0, x .pre .1))
+    ap length (c .presence-field .ensures)
+    ∙ length-part (x .args .base .now) (presence-at (x .args .i) + name-offset) (limits .name) (omega (arith, x .pre .0, x .pre .1))
 
 returns : tie.Need-returns
 returns c =

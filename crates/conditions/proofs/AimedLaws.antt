@@ -1,7 +1,7 @@
 -- The refusals that the changing calls begin with, test by test; and what is so where none of them holds. Assumes nothing.
 use Prim.Native.Nat.{ℕ, _<_}
 use native.Mathlib.Omega.{arith}
-use mathlib.Core.Path.{_≡_, refl, sym, ap, _∙_, subst}
+use mathlib.Core.Path.{_≡_, refl, sym, _∙_, subst}
 use mathlib.Core.List.{List, [], _∷_, _++_}
 use mathlib.Core.Bool.{Bool, true, false, not, cond, _||_}
 use lib.Dec.{ltb, leb}
@@ -89,7 +89,7 @@ pub come-aimed : {b : List ℕ} (d : ℕ) {bad : Bool} {no : ℕ} → Tested b (
 unfolding all
 come-aimed d t z rest = come-on t z refl rest
 
-pub tested-as : {b : List ℕ} {rs : Refusals} {no no′ : ℕ} → no′ ≡ no → Tested b rs no 0 → Tested b rs no′ 0
+tested-as : {b : List ℕ} {rs : Refusals} {no no′ : ℕ} → no′ ≡ no → Tested b rs no 0 → Tested b rs no′ 0
 tested-as {b} {rs} e t = subst (λ (x : ℕ). Tested b rs x 0) (sym e) t
 
 -- refused, or else

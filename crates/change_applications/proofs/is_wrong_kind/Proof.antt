@@ -1,5 +1,4 @@
 -- Whether the types are of the wrong kinds: their codes, one after the other. Assumes nothing.
-use borrow.Author.Needs.{needs}
 use native.Mathlib.Omega.{arith}
 use Rattle.change_applications.proofs.ApplyLaws.{wrong-attribute, right-object, link-or-wrong}
 use Rattle.change_applications.proofs.is_wrong_kind.Statement.{statement}

@@ -1,5 +1,4 @@
 -- Whether another bears a name: the type found under it is compared. Assumes nothing.
-use borrow.Author.Needs.{needs}
 use Rattle.change_presences.proofs.RenameLaws.{another-none, another-some}
 use Rattle.change_presences.proofs.rename.is_borne_by_another.Statement.{statement}
 use Rattle.change_presences.proofs.rename.is_borne_by_another.Tie as tie

@@ -1,7 +1,6 @@
 -- The type of a name: what was told before, and else whether one is found. Assumes nothing.
 use borrow.Author.Needs.{needs}
 use native.Mathlib.Omega.{arith}
-use mathlib.Core.Path.{refl}
 use Rattle.conditions.proofs.AimedLaws.{refused-first, refused-here, passed-by, come-aimed, type-found, missing, there}
 use Rattle.base.proofs.TestedLaws.{come-next, come-through}
 use Rattle.conditions.proofs.aimed.named.Statement.{statement}

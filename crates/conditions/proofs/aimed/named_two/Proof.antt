@@ -4,7 +4,7 @@ use native.Mathlib.Omega.{arith}
 use Rattle.rules.specs.09-Refusals.{no-such-name}
 use Rattle.rules.proofs.Bools.{or-left, or-right}
 use Rattle.base.specs.Back.{schema-of}
-use Rattle.base.proofs.TestedLaws.{Past, come-next, come-through, tested-sound}
+use Rattle.base.proofs.TestedLaws.{Past, come-next, come-through}
 use Rattle.conditions.specs.Aimed.{two-refusals}
 use Rattle.conditions.proofs.AimedLaws.{refused-first, refused-here, passed-by, come-aimed, type-found, missing, there, neither}
 use Rattle.conditions.proofs.aimed.named_two.Statement.{statement}

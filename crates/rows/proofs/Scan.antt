@@ -13,7 +13,7 @@ use borrow.Author.Tests.{ltb-true, ltb-false, lt-ltb, le-ltb, eq-eqb, ne-eqb}
 use Rattle.rules.specs.01-Lists.{same-bytes, bytes-before}
 use Rattle.rules.proofs.01-Lists.{same-bytes-is, same-bytes-refl, before-transitive, before-first}
 use Rattle.name_fields.specs.Field.{blank-field}
-use Rattle.rows.specs.Rows.{part, Rising, Filled, Counted, Level, Split, filled}
+use Rattle.rows.specs.Rows.{part, row-at, Rising, Filled, Zero-first, Counted, Level, Split, filled}
 use Rattle.rows.specs.Decides.{Decides}
 use Rattle.rows.proofs.Rows.{part-byte, filled-is}
 use Rattle.rows.proofs.Decides.{decides-iff, decides-test}
@@ -102,6 +102,15 @@ module _ (b : List ℕ) (start stride w : ℕ) where
 -- a row whose first byte is not 0
 pub first-used : (b : List ℕ) (at w : ℕ) → 0 < w → (getD b at 0 ≡ 0 → ⊥) → part b at w ≡ replicate w 0 → ⊥
 first-used b at w h n e = n (rw (add-zero at) at (sym (part-byte b at w 0 h) ∙ ap (λ (l : List ℕ). getD l 0 0) e ∙ getD-replicate w 0 0 0 h))
+
+-- rows that are used, and behind them those that do not begin with 0
+pub used-past : {b : List ℕ} {start w n from r : ℕ} → 0 < w → Zero-first b start w n from r
+    → ((k : ℕ) → k < from → row-at b start w k ≡ replicate w 0 → ⊥) → (k : ℕ) → k < r → row-at b start w k ≡ replicate w 0 → ⊥
+used-past {b} {start} {w} {n} {from} {r} h z before k l = go (ltb k from) refl
+  where
+    go : (t : Bool) → ltb k from ≡ t → row-at b start w k ≡ replicate w 0 → ⊥
+    go true e = before k (ltb-true k from e)
+    go false e = first-used b (start + k * w) w h (z .others k (ltb-false k from e) l)
 
 pub counted : (b : List ℕ) (start w n r : ℕ) → Filled b start w n r → Counted (filled w n (drop start b)) n r
 counted b start w n r h = record {

@@ -35,6 +35,12 @@ pub record Filled (b : List ℕ) (start w n r : ℕ) : Type 0 where
   pub used : (k : ℕ) → k < r → row-at b start w k ≡ replicate w 0 → ⊥
   pub free : r < n → row-at b start w r ≡ replicate w 0
 
+-- r is the first of n rows, from row `from` on, that begins with 0, and n where none does
+pub record Zero-first (b : List ℕ) (start w n from r : ℕ) : Type 0 where
+  pub after : from ≤ r
+  pub fits : r ≤ n
+  pub others : (k : ℕ) → from ≤ k → k < r → getD b (start + k * w) 0 ≡ 0 → ⊥
+
 -- r is a count, and at most what there is room for
 pub record Counted (count most r : ℕ) : Type 0 where
   pub is : r ≡ count

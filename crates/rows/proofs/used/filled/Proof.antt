@@ -44,7 +44,8 @@ returns c =
     record {
       fits = at .loop .inv .0;
       used = at .loop .inv .1;
-      free = λ h. room-zero (x .base .now) (x .start + at .loop .k * x .width) _ (x .width) _ (omega arith) (c .before .is-zero .ensures) .holds (c .if1 .taken);
+      free = λ h. room-zero (x .base .now) (x .start + at .loop .k * x .width) _ (x .width) _ (omega arith) (c .before .is-zero .ensures) .holds
+          (c .if1 .taken);
     }
 
 add-zero-first : tie.Need-add-zero-first Inv-loop μ-loop
@@ -65,8 +66,9 @@ loop-again c =
     let x = p .args in (
       c .zero-first2 .ensures .fits,
       used-past (p .pre .1 .0) (c .zero-first2 .ensures)
-      (below-more _ _ (at .loop .inv .1)
-      (room-zero (x .base .now) (x .start + at .loop .k * x .width) _ (x .width) _ (omega arith) (c .before .before .is-zero .ensures) .fails (c .before .if1 .left))),
+          (below-more _ _ (at .loop .inv .1)
+          (room-zero (x .base .now) (x .start + at .loop .k * x .width) _ (x .width) _ (omega arith) (c .before .before .is-zero .ensures) .fails
+          (c .before .if1 .left))),
     )
 
 returns-2 : tie.Need-returns-2 Inv-loop μ-loop

@@ -5,7 +5,8 @@ ghost use lib.ListN.{length, replicate};
 ghost use Rattle.rows.specs.Rows.{part, Filled, Zero-first};
 ghost use Rattle.rows.specs.Decides.{Decides};
 
-// How many of n rows stand before the first unused one. Of the used ones one begins with 0, that of SDS 0: the others are passed by that byte.
+// How many of n rows stand before the first unused one. Of the used ones one begins with 0, that of SDS 0: the others are passed by
+// that byte.
 pub fn filled(base: &[u8], start: usize, width: usize, n: usize) -> usize
     requires { ⌜ ((k : ℕ) → k < n → start + k * width + width ≤ length (now base)) ⌝ }
     requires { ⌜ (0 < width) × (start + n * width < 65536) ⌝ }

@@ -1,7 +1,7 @@
 -- The find call, test by test. Assumes nothing.
 use Prim.Native.Nat.{ℕ}
 use native.Mathlib.Omega.{arith}
-use mathlib.Core.Path.{_≡_, refl, ap, _∙_}
+use mathlib.Core.Path.{_≡_, refl, ap}
 use mathlib.Core.List.{List, []}
 use mathlib.Core.Bool.{Bool, true, false, not}
 use Rattle.rules.specs.01-Lists.{first}

@@ -1,7 +1,6 @@
 -- "From what list was the statement drawn, and how would we know if the list were short?" What the contracts of the asking calls say
 -- to that, on every base that is sound and under every working schema. The contracts are the only premises.
 use Prim.Native.Nat.{ℕ, _≤_, _<_}
-use native.Mathlib.Omega.{arith}
 use mathlib.Core.Path.{_≡_, refl, sym, ap, _∙_}
 use mathlib.Core.Logic.{_↔_}
 use mathlib.Core.List.{List, [], _∷_, _++_}
@@ -17,7 +16,7 @@ use Rattle.rules.specs.07-Picture.{picture}
 use Rattle.rules.specs.08-Working.{visible}
 use Rattle.rules.specs.09-Refusals.{Outcome, Refusals, verdict, answer-of, no-object}
 use Rattle.rules.specs.09-Refusals.Outcome.{done}
-use Rattle.rules.specs.11-Asks.{object-scan-list, scan-object, scan-object-refusals, object-refusals, depth-of, visible-descendant, descendant-set}
+use Rattle.rules.specs.11-Asks.{object-scan-list, scan-object, scan-object-refusals, object-refusals, depth-of, descendant-set}
 use Rattle.rules.specs.12-Contracts.{entries, room, output-after, Listed, Answered}
 use Rattle.rules.proofs.Bools.{and-both}
 use Rattle.rules.proofs.05-Descent.{chain-short, depth-greatest, depth-reached}

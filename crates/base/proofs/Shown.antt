@@ -11,7 +11,7 @@ use Rattle.rules.specs.01-Lists.{_∈_}
 use Rattle.rules.specs.02-Limits.{limits}
 use Rattle.rules.specs.04-Schema.{Presence, Application, End, sds-name, kind-of}
 use Rattle.rules.specs.04-Schema.Kind.{unused, object, attribute, designation, paired}
-use Rattle.rules.specs.Read.{value-offset, reverse-offset, count-offset, parents-offset, name-offset, type-offset, to-offset, attribute-offset, link-offset}
+use Rattle.rules.specs.Read.{value-offset, reverse-offset, name-offset, type-offset, to-offset, attribute-offset, link-offset}
 use Rattle.rules.specs.Read.{side-offset, object-offset, strip, read-kind, read-presence, read-application, read-side, read-end}
 use Rattle.rows.specs.Rows.{part}
 use Rattle.rows.proofs.Rows.{part-byte, part-part, length-rows, rows-at, rows-there, rows-in}
@@ -89,13 +89,6 @@ module _ (b : List ℕ) where
 
     first-byte : getD (row-of types b t) 0 0 ≡ getD b (type-at t) 0
     first-byte = row-first types b t (omega arith)
-
-    pub shows-object : getD b (type-at t) 0 ≡ 1 → getD b (type-at t + count-offset) 0 ≤ 4
-        → kind-shown b t ≡ object (part b (type-at t + parents-offset) (getD b (type-at t + count-offset) 0))
-    unfolding read-kind
-    shows-object e h =
-        rw (first-byte, e, byte count-offset (omega arith))
-        (ap object (part-part b (type-at t) (types .width) parents-offset (getD b (type-at t + count-offset) 0) (omega arith)))
 
     pub shows-attribute : getD b (type-at t) 0 ≡ 2 → kind-shown b t ≡ attribute (getD b (type-at t + value-offset) 0)
     unfolding read-kind

@@ -27,7 +27,6 @@ use Rattle.base.proofs.Shown.{applications-long}
 use Rattle.base.proofs.StoredLaws.{sound-stored}
 use Rattle.edit.proofs.TakenLaws.{application-without}
 use Rattle.rules.specs.04-Schema.{kind-code}
-use Rattle.lookup.proofs.KindBytes.{told-object, told-attribute, told-link}
 use Rattle.change_applications.specs.Applying.{wrong-kind}
 use Rattle.conditions.specs.Aimed.{Both}
 use Rattle.conditions.proofs.ConditionLaws.{applied-row}
@@ -39,16 +38,16 @@ module _ (b : List ℕ) (a t : ℕ) {x : Bool} (e : x ≡ eqb (kind-code (kind-o
   unfolding no-attribute
   wrong-attribute q =
       sym (or-left (not (is-attribute (kind-of (schema-of b) a))) (no-object (schema-of b) t && no-link (schema-of b) t)
-      (ap not (told-attribute b a e) ∙ q))
+      (ap not (sym e) ∙ q))
 
   module _ (q : not x ≡ false) {y : Bool} (f : y ≡ eqb (kind-code (kind-of (schema-of b) t)) 1) where
     pub right-object : y ≡ true → false ≡ wrong-kind (schema-of b) a t
     unfolding no-attribute no-object
-    right-object p = rw (ap not (told-attribute b a e) ∙ q, told-object b t f ∙ p)
+    right-object p = rw (ap not (sym e) ∙ q, sym f ∙ p)
 
     pub link-or-wrong : y ≡ false → {z : Bool} → z ≡ eqb (kind-code (kind-of (schema-of b) t)) 3 → not z ≡ wrong-kind (schema-of b) a t
     unfolding no-attribute no-object no-link
-    link-or-wrong p g = rw (ap not (told-attribute b a e) ∙ q, told-object b t f ∙ p) (ap not (sym (told-link b t g)))
+    link-or-wrong p g = rw (ap not (sym e) ∙ q, sym f ∙ p) (ap not (g))
 
 -- of the types that were found, and so of those that are named
 pub wrong-named : {b : List ℕ} {d : ℕ} {a n : Name} {u t : ℕ} → Both b d a n u t → {r : Bool} → r ≡ wrong-kind (schema-of b) u t

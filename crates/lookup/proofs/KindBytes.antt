@@ -8,7 +8,7 @@ use lib.Dec.{ltb, eqb}
 use lib.ListN.{length, getD, take, drop, length-take, length-drop}
 use lib.Seq.{drop-drop, getD-drop}
 use borrow.Author.Tests.{ltb-true, ltb-false, eqb-true, eqb-false, ne-eqb}
-use Rattle.rules.specs.04-Schema.{Kind, kind-of, is-used, is-object, is-attribute, is-link}
+use Rattle.rules.specs.04-Schema.{Kind, kind-of, is-used, is-object, is-link}
 use Rattle.rules.specs.04-Schema.Kind.{unused, object, attribute, designation, paired}
 use Rattle.rules.specs.07-Picture.{Sound, pad, type-row, base-length, type-width}
 use Rattle.rules.specs.Read.{read-kind, count-offset, parents-offset, reverse-offset, value-offset}
@@ -137,38 +137,6 @@ used-code (attribute v) = refl
 used-code designation = refl
 used-code (paired c r) = refl
 
-object-code : (k : Kind) → eqb (kind-code k) 1 ≡ is-object k
-object-code unused = refl
-object-code (object ps) = refl
-object-code (attribute v) = refl
-object-code designation = refl
-object-code (paired c r) = refl
-
-attribute-code : (k : Kind) → eqb (kind-code k) 2 ≡ is-attribute k
-attribute-code unused = refl
-attribute-code (object ps) = refl
-attribute-code (attribute v) = refl
-attribute-code designation = refl
-attribute-code (paired c r) = refl
-
-link-code : (k : Kind) → eqb (kind-code k) 3 ≡ is-link k
-link-code unused = refl
-link-code (object ps) = refl
-link-code (attribute v) = refl
-link-code designation = refl
-link-code (paired c r) = refl
-
--- an answer to whether a type has the code, as one to its kind
-module _ (b : List ℕ) (t : ℕ) {r : Bool} where
-  pub told-object : r ≡ eqb (kind-code (kind-of (schema-of b) t)) 1 → is-object (kind-of (schema-of b) t) ≡ r
-  told-object e = sym (e ∙ object-code (kind-of (schema-of b) t))
-
-  pub told-attribute : r ≡ eqb (kind-code (kind-of (schema-of b) t)) 2 → is-attribute (kind-of (schema-of b) t) ≡ r
-  told-attribute e = sym (e ∙ attribute-code (kind-of (schema-of b) t))
-
-  pub told-link : r ≡ eqb (kind-code (kind-of (schema-of b) t)) 3 → is-link (kind-of (schema-of b) t) ≡ r
-  told-link e = sym (e ∙ link-code (kind-of (schema-of b) t))
-
 -- ---- and the byte tells the code, of each kind that is one: other bytes show none
 
 module _ (b : List ℕ) (t code : ℕ) (some : 0 < code) where
@@ -206,10 +174,10 @@ module _ (b : List ℕ) (t code : ℕ) (some : 0 < code) where
 
 module _ (b : List ℕ) (t x : ℕ) (h : t < 128) (e : x ≡ kind-byte b t) where
   pub object-byte : eqb x 1 ≡ is-object (kind-of (schema-of b) t)
-  object-byte = code-byte b t 1 (omega arith) (omega arith) x h e ∙ object-code (kind-of (schema-of b) t)
+  object-byte = code-byte b t 1 (omega arith) (omega arith) x h e
 
   pub link-byte : eqb x 3 ≡ is-link (kind-of (schema-of b) t)
-  link-byte = code-byte b t 3 (omega arith) (omega arith) x h e ∙ link-code (kind-of (schema-of b) t)
+  link-byte = code-byte b t 3 (omega arith) (omega arith) x h e
 
 -- a row that is as it would be written begins with the code
 written-code : (k : Kind) → getD (type-row k) 0 0 ≡ kind-code k

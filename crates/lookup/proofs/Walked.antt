@@ -73,9 +73,6 @@ module _ (b : List ℕ) where
     pub no-end : ((i : ℕ) → i < end-count b → test (end-shown b i) ≡ false) → false ≡ any test ((schema-of b) .ends)
     no-end = walk-none ((schema-of b) .ends) (end-shown b) (end-count b) (end-there b) (end-in b) test
 
-    pub first-end : {r : ℕ} → First-row (end-count b) (λ i. test (end-shown b i)) r → ltb r (end-count b) ≡ any test ((schema-of b) .ends)
-    first-end = walk-first ((schema-of b) .ends) (end-shown b) (end-count b) (end-there b) (end-in b) test
-
   -- ---- the row that says that type t is in SDS d
 
   module _ (d t : ℕ) where

@@ -1,7 +1,7 @@
 // The name in a field of a fixed width: its bytes, and zeros behind them.
 ghost use mathlib.Core.Path.{_≡_};
 ghost use lib.ListN.{length};
-ghost use Rattle.rules.specs.03-Names.{letter, well-formed};
+ghost use Rattle.rules.specs.03-Names.{letter};
 ghost use Rattle.name_fields.specs.Field.{name-field, blank-field, Stripped, may-follow};
 use rules::Limits;
 

@@ -6,8 +6,8 @@ use native.Mathlib.Omega.{arith}
 use mathlib.Core.Path.{_≡_, refl, sym, ap, _∙_}
 use mathlib.Core.List.{List, [], _∷_, _++_}
 use mathlib.Core.List.List·Memᴰ.{List·Memᴰ·head, List·Memᴰ·tail}
-use mathlib.Core.Bool.{true, not, cond, false≢true}
-use lib.Dec.{eqb, eqb·suc-zero}
+use mathlib.Core.Bool.{true, not}
+use lib.Dec.{eqb·suc-zero}
 use lib.ListN.{length, getD, take, drop, replicate, length-append, length-take, length-replicate}
 use lib.Seq.{take-at, drop-at, take-append-le, drop-append-add, drop-drop}
 use borrow.Author.Tests.{ne-eqb}

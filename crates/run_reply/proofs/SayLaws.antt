@@ -16,7 +16,7 @@ use Rattle.rules.specs.09-Refusals.{Outcome, answer-of}
 use Rattle.rules.specs.09-Refusals.Outcome.{refused, done}
 use Rattle.rules.specs.11-Asks.{scan-object, scan-object-refusals, object-scan-list}
 use Rattle.rules.specs.12-Contracts.{Kept, Listed, Answered, base-after, output-after, entries}
-use Rattle.rules.specs.14-Run.{Reply, decimal, printed, changed, asked, about-type, unreadable}
+use Rattle.rules.specs.14-Run.{Reply, decimal, changed, asked, about-type, unreadable}
 use Rattle.rules.proofs.05-Descent.{members-most}
 use Rattle.rules.proofs.09-Refusals.{Beyond, verdict-keeps, untold-at}
 use Rattle.base.specs.Back.{schema-of}

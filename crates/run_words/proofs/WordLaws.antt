@@ -1,9 +1,9 @@
 -- The words of a line, one after the other. Assumes nothing.
-use Prim.Native.Nat.{ℕ, zero, suc, _+_, _-_, _≤_, _<_}
+use Prim.Native.Nat.{ℕ, zero, suc, _+_, _-_, _≤_}
 use native.Mathlib.Omega.{arith}
 use mathlib.Core.Path.{_≡_, refl, sym, ap, _∙_}
 use mathlib.Core.List.{List, [], _∷_}
-use mathlib.Core.Bool.{Bool, true, false, _||_}
+use mathlib.Core.Bool.{Bool, true, false}
 use lib.Dec.{eqb}
 use lib.ListN.{length, getD, take, drop, length-take, length-drop, drop-of-length-le}
 use lib.Seq.{getD-drop}
@@ -15,7 +15,6 @@ use Rattle.names.specs.declared.Run.{Run}
 use Rattle.names.specs.declared.Part.{Part}
 use Rattle.names.specs.Run.{left, Started, Standing, Parted}
 use Rattle.names.proofs.Laws.{left-more, left-none}
-use Rattle.run_words.specs.declared.Word.{Word}
 use Rattle.run_words.specs.Words.{Word-at}
 
 -- ---- words put together again

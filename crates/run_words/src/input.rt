@@ -1,5 +1,4 @@
 // Standard input, line by line.
-ghost use Prim.Native.Nat.{_≤_};
 ghost use mathlib.Core.Path.{_≡_};
 ghost use lib.ListN.{length};
 ghost use Rattle.run_words.specs.Input.{Within};

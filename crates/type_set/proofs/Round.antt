@@ -1,16 +1,13 @@
 -- Laws of a round: of the loop that makes one, of what it holds, and of a round that adds nothing. Assumes nothing.
-use Prim.Native.Nat.{ℕ, _+_, _≤_, _<_}
+use Prim.Native.Nat.{ℕ, _+_, _<_}
 use native.Mathlib.Omega.{arith}
 use mathlib.Core.Path.{_≡_, refl, sym, ap, _∙_}
 use mathlib.Core.Logic.{_⊎_, inl, inr, ⊎-elim}
 use mathlib.Core.Bool.{Bool, true, false, _&&_, _||_, and-false, or-false}
 use lib.Dec.{eqb, ltb}
-use lib.ListN.{length}
 use borrow.Author.Tests.{eqb-false, eqb-true, le-ltb, lt-ltb, ltb-false, ltb-true}
-use Rattle.rules.specs.05-Descent.{members}
-use Rattle.rules.proofs.Bools.{or-cases, or-left, or-right, and-both, and-of}
+use Rattle.rules.proofs.Bools.{or-cases, or-right, and-both, and-of}
 use Rattle.type_set.specs.Round.{grow-to, grow}
-use Rattle.type_set.proofs.Members.{members-le, members-same}
 
 ltb-more : (k u : ℕ) → (k ≡ u → ⊥) → ltb k (u + 1) ≡ ltb k u
 ltb-more k u h = go (ltb k u) refl
@@ -50,23 +47,6 @@ module _ (m p : ℕ → Bool) where
   unfolding grow-to
   grow-cases k e = ⊎-elim inl (λ g. let (l, t) = and-both _ _ g in inr (ltb-true k 128 l, t)) (or-cases (p k) (ltb k 128 && m k) e)
 
-  pub grow-kept : (k : ℕ) → p k ≡ true → grow m p k ≡ true
-  unfolding grow-to
-  grow-kept k e = or-left (p k) (ltb k 128 && m k) e
-
   pub grow-taken : (k : ℕ) → k < 128 → m k ≡ true → grow m p k ≡ true
   unfolding grow-to
   grow-taken k l e = or-right (p k) (ltb k 128 && m k) (and-of _ _ (lt-ltb k 128 l) e)
-
-  -- ---- a set q that a round made of p
-
-  module _ (q : ℕ → Bool) (made : (k : ℕ) → q k ≡ grow m p k) where
-    kept : (k : ℕ) → p k ≡ true → q k ≡ true
-    kept k e = made k ∙ grow-kept k e
-
-    pub grow-count : length (members p) ≤ length (members q)
-    grow-count = members-le p q kept
-
-    -- with no more members than p it has those of p, so that the test takes nothing more
-    pub grow-done : length (members q) ≡ length (members p) → (k : ℕ) → k < 128 → m k ≡ true → p k ≡ true
-    grow-done e k l t = members-same p q kept (omega arith) k l (made k ∙ grow-taken k l t)

@@ -1,15 +1,13 @@
 -- `check_sds::application_fine` meets its contract: the tests are the fields of `Application-fits`. Assumes nothing.
 use borrow.Author.Needs.{needs}
 use native.Mathlib.Omega.{arith}
-use mathlib.Core.Path.{_≡_, sym, ap, _∙_}
-use mathlib.Core.Bool.{Bool, true, true≢false, _&&_, _||_}
+use mathlib.Core.Path.{sym, _∙_}
 use borrow.Author.Tests.{not-true, not-false}
 use Rattle.rules.specs.04-Schema.{kind-of, is-object, is-link}
-use Rattle.rules.proofs.Bools.{and-both, and-of, or-left, or-right, or-cases}
+use Rattle.rules.proofs.Bools.{or-left, or-right}
 use Rattle.type_set.specs.Set.{has}
 use Rattle.rows.proofs.Decides.{decides-yes, decides-no}
 use Rattle.base.specs.Back.{schema-of}
-use Rattle.lookup.proofs.KindBytes.{told-object, told-attribute, told-link}
 use Rattle.check_sds.proofs.HeldLaws.{applied-no-attribute, applied-attribute-out, applied-to-out, applied-of, applied-neither}
 use Rattle.check_sds.proofs.application_fine.Statement.{statement}
 use Rattle.check_sds.proofs.application_fine.Tie as tie
@@ -25,7 +23,7 @@ returns c =
     let x = c .before .before .before .before .args in
     decides-no (applied-no-attribute (x .base .now) (has (x .set)) (x .i) (c .before .before .application-attribute .result)
     (c .before .before .application-attribute .ensures .is)
-    (told-attribute (x .base .now) (c .before .before .application-attribute .result) (c .before .is-kind .ensures) ∙ not-true _ (c .if1 .taken)))
+    (sym (c .before .is-kind .ensures) ∙ not-true _ (c .if1 .taken)))
 
 holds-requires : tie.Need-holds-requires
 holds-requires c κs = search needs
@@ -61,12 +59,11 @@ returns-4 c =
     (c .before .before .before .before .before .before .before .before .before .application-attribute .result) to
     (c .before .before .before .before .before .before .before .before .before .application-attribute .ensures .is)
     (c .before .before .before .before .application-to .ensures .is)
-    (told-attribute (x .base .now) (c .before .before .before .before .before .before .before .before .before .application-attribute .result)
-    (c .before .before .before .before .before .before .before .before .is-kind .ensures) ∙ not-false _
+    (sym (c .before .before .before .before .before .before .before .before .is-kind .ensures) ∙ not-false _
     (c .before .before .before .before .before .before .before .if1 .left)) (sym (c .before .before .before .before .before .before .holds .ensures)
     ∙ not-false _ (c .before .before .before .before .before .if2 .left))
     (sym (c .before .before .before .holds2 .ensures) ∙ not-false _ (c .before .before .if3 .left))
-    (or-left (is-object (kind-of (schema-of b) to)) (is-link (kind-of (schema-of b) to)) (told-object b to (c .before .is-kind2 .ensures) ∙ c .if4 .taken)))
+    (or-left (is-object (kind-of (schema-of b) to)) (is-link (kind-of (schema-of b) to)) (sym (c .before .is-kind2 .ensures) ∙ c .if4 .taken)))
 
 is-kind-requires-3 : tie.Need-is-kind-requires-3
 is-kind-requires-3 c κs = (c .before .before .before .before .before .before .before .before .before .before .before .pre .0, (omega arith, omega arith))
@@ -80,16 +77,14 @@ returns-5 c =
           (c .before .before .before .before .before .before .before .before .before .before .application-attribute .result) to
           (c .before .before .before .before .before .before .before .before .before .before .application-attribute .ensures .is)
           (c .before .before .before .before .before .application-to .ensures .is)
-          (told-attribute (x .base .now)
-          (c .before .before .before .before .before .before .before .before .before .before .application-attribute .result)
-          (c .before .before .before .before .before .before .before .before .before .is-kind .ensures) ∙ not-false _
+          (sym (c .before .before .before .before .before .before .before .before .before .is-kind .ensures) ∙ not-false _
           (c .before .before .before .before .before .before .before .before .if1 .left)) (sym
           (c .before .before .before .before .before .before .before .holds .ensures)
           ∙ not-false _ (c .before .before .before .before .before .before .if2 .left))
           (sym (c .before .before .before .before .holds2 .ensures) ∙ not-false _ (c .before .before .before .if3 .left))
-          (or-right (is-object (kind-of (schema-of b) to)) (is-link (kind-of (schema-of b) to)) (told-link b to (c .is-kind3 .ensures) ∙ e));
+          (or-right (is-object (kind-of (schema-of b) to)) (is-link (kind-of (schema-of b) to)) (sym (c .is-kind3 .ensures) ∙ e));
       fails = λ e. applied-neither b (has (x .set)) (x .i) to (c .before .before .before .before .before .application-to .ensures .is)
-          (told-object b to (c .before .before .is-kind2 .ensures) ∙ c .before .if4 .left) (told-link b to (c .is-kind3 .ensures) ∙ e);
+          (sym (c .before .before .is-kind2 .ensures) ∙ c .before .if4 .left) (sym (c .is-kind3 .ensures) ∙ e);
     }
 
 pub application-fine-spec : {M : Type 1} → statement M

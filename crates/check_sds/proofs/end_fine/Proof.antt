@@ -5,7 +5,7 @@ use native.Mathlib.Omega.{arith}
 use mathlib.Core.Path.{sym, _∙_}
 use borrow.Author.Tests.{not-true, not-false}
 use Rattle.type_set.specs.Set.{has}
-use Rattle.lookup.proofs.KindBytes.{told-object, told-link, link-below}
+use Rattle.lookup.proofs.KindBytes.{link-below}
 use Rattle.check_sds.proofs.HeldLaws.{row-no, row-yes, row-found, ended-no-link, ended-link-out}
 use Rattle.check_sds.proofs.HeldLaws.{ended-no-object, ended-object-out, ended-alone, ended-both, ended-mirror}
 use Rattle.check_sds.proofs.end_fine.Statement.{statement}
@@ -24,7 +24,7 @@ returns c =
     let x = c .before .before .before .before in
     let l = c .before .before .end-link in
     row-no (ended-no-link (x .args .base .now) (has (x .args .set)) (x .args .i) (l .result) (l .ensures .is)
-    (told-link (x .args .base .now) (c .before .before .end-link .result) (c .before .is-kind .ensures) ∙ not-true _ (c .if1 .taken)))
+    (sym (c .before .is-kind .ensures) ∙ not-true _ (c .if1 .taken)))
 
 holds-requires : tie.Need-holds-requires
 holds-requires c κs = search needs
@@ -49,7 +49,7 @@ returns-3 c =
     let x = c .before .before .before .before .before .before .before .before .before in
     let o = c .before .before .end-object in
     row-no (ended-no-object (x .args .base .now) (has (x .args .set)) (x .args .i) (o .result) (o .ensures .is)
-    (told-object (x .args .base .now) (c .before .before .end-object .result) (c .before .is-kind2 .ensures) ∙ not-true _ (c .if3 .taken)))
+    (sym (c .before .is-kind2 .ensures) ∙ not-true _ (c .if3 .taken)))
 
 holds-requires-2 : tie.Need-holds-requires-2
 holds-requires-2 c κs = search needs
@@ -66,8 +66,7 @@ value-requires c κs =
     let x = c .before .before .before .before .before .before .before .before .before .before .before in (
       x .pre .0 .long,
       link-below (x .args .base .now) (c .before .before .before .before .before .before .before .before .before .end-link .result)
-          (told-link (x .args .base .now) (c .before .before .before .before .before .before .before .before .before .end-link .result)
-          (c .before .before .before .before .before .before .before .before .is-kind .ensures) ∙ not-false _
+          (sym (c .before .before .before .before .before .before .before .before .is-kind .ensures) ∙ not-false _
           (c .before .before .before .before .before .before .before .if1 .left)),
     )
 
@@ -77,13 +76,11 @@ returns-5 c =
     let l = c .before .before .before .before .before .before .before .before .before .before .before .end-link in
     let o = c .before .before .before .before .before .before .end-object in
     row-yes (x .pre .1) (ended-alone (x .args .base .now) (has (x .args .set)) (x .args .i) (l .result) (o .result) (l .ensures .is) (o .ensures .is)
-    (told-link (x .args .base .now) (c .before .before .before .before .before .before .before .before .before .before .before .end-link .result)
-    (c .before .before .before .before .before .before .before .before .before .before .is-kind .ensures) ∙ not-false _
+    (sym (c .before .before .before .before .before .before .before .before .before .before .is-kind .ensures) ∙ not-false _
     (c .before .before .before .before .before .before .before .before .before .if1 .left)) (sym
     (c .before .before .before .before .before .before .before .before .holds .ensures)
     ∙ not-false _ (c .before .before .before .before .before .before .before .if2 .left))
-    (told-object (x .args .base .now) (c .before .before .before .before .before .before .end-object .result)
-    (c .before .before .before .before .before .is-kind2 .ensures) ∙ not-false _ (c .before .before .before .before .if3 .left)) (sym
+    (sym (c .before .before .before .before .before .is-kind2 .ensures) ∙ not-false _ (c .before .before .before .before .if3 .left)) (sym
     (c .before .before .before .holds2 .ensures) ∙ not-false _ (c .before .before .if4 .left))
     (sym (c .before .value .ensures .is) ∙ c .if5 .taken))
 
@@ -103,9 +100,7 @@ reverse-requires c κs =
       x .pre .0 .long,
       link-below (x .args .base .now)
           (c .before .before .before .before .before .before .before .before .before .before .before .before .before .end-link .result)
-          (told-link (x .args .base .now)
-          (c .before .before .before .before .before .before .before .before .before .before .before .before .before .end-link .result)
-          (c .before .before .before .before .before .before .before .before .before .before .before .before .is-kind .ensures) ∙ not-false _
+          (sym (c .before .before .before .before .before .before .before .before .before .before .before .before .is-kind .ensures) ∙ not-false _
           (c .before .before .before .before .before .before .before .before .before .before .before .if1 .left)),
     )
 
@@ -135,9 +130,7 @@ returns-6 c =
     let x = c .before .before .before .before .before .before .before .before .before .before .before .before .before .before .before .before .before in
     let l = c .before .before .before .before .before .before .before .before .before .before .before .before .before .before .before .end-link in
     let o = c .before .before .before .before .before .before .before .before .before .before .end-object in
-    let kl = told-link (x .args .base .now)
-    (c .before .before .before .before .before .before .before .before .before .before .before .before .before .before .before .end-link .result)
-    (c .before .before .before .before .before .before .before .before .before .before .before .before .before .before .is-kind .ensures)
+    let kl = sym (c .before .before .before .before .before .before .before .before .before .before .before .before .before .before .is-kind .ensures)
     ∙ not-false _ (c .before .before .before .before .before .before .before .before .before .before .before .before .before .if1 .left) in
     row-found
     (ended-both (x .args .base .now) (has (x .args .set)) (x .args .i) (l .result) (o .result) (l .ensures .is) (o .ensures .is) kl (x .pre .0) (x .pre .1)
@@ -145,8 +138,7 @@ returns-6 c =
     (c .before .before .end-sds .ensures .is) (c .before .reverse .ensures .is) (c .before .before .before .end-side .ensures .is)
     (sym (c .before .before .before .before .before .before .before .before .before .before .before .before .holds .ensures) ∙ not-false _
     (c .before .before .before .before .before .before .before .before .before .before .before .if2 .left))
-    (told-object (x .args .base .now) (c .before .before .before .before .before .before .before .before .before .before .end-object .result)
-    (c .before .before .before .before .before .before .before .before .before .is-kind2 .ensures) ∙ not-false _
+    (sym (c .before .before .before .before .before .before .before .before .before .is-kind2 .ensures) ∙ not-false _
     (c .before .before .before .before .before .before .before .before .if3 .left)) (sym
     (c .before .before .before .before .before .before .before .holds2 .ensures) ∙ not-false _ (c .before .before .before .before .before .before .if4 .left)))
     (ended-mirror (x .args .base .now) (has (x .args .set)) (x .args .i) (l .result) (o .result) (l .ensures .is) (o .ensures .is) kl (x .pre .0) (x .pre .1)

@@ -1,7 +1,7 @@
 -- `check_sds::ends_fine` meets its contract: the loop keeps that each end passed is fine; where the next mirror is looked for
 -- first is of no matter. Assumes nothing.
 use borrow.Author.Needs.{needs}
-use Prim.Native.Nat.{ℕ, _+_, _≤_, _<_, _-_}
+use Prim.Native.Nat.{ℕ, _≤_, _<_, _-_}
 use native.Mathlib.Omega.{arith}
 use borrow.Author.Count.{below-more}
 use Rattle.type_set.specs.Set.{has}

@@ -1,12 +1,11 @@
 -- `check_sds::gather` meets its contract: the loop keeps that the set has the types passed and no others, and that each of them
 -- stood once. Assumes nothing.
 use borrow.Author.Needs.{needs}
-use Prim.Native.Nat.{ℕ, _+_, _≤_, _<_, _-_}
+use Prim.Native.Nat.{_≤_, _-_}
 use native.Mathlib.Omega.{arith}
-use mathlib.Core.Path.{_≡_, refl, sym, ap, _∙_}
-use mathlib.Core.Bool.{true, false, true≢false, false≢true}
+use mathlib.Core.Path.{sym, ap, _∙_}
+use mathlib.Core.Bool.{true≢false, false≢true}
 use Rattle.type_set.specs.Set.{has}
-use Rattle.check_sds.specs.Held.{type-in, Gathered}
 use Rattle.check_sds.proofs.HeldLaws.{Gathers, gathers-none, gathers-more}
 use Rattle.check_sds.proofs.gather.Statement.{statement}
 use Rattle.check_sds.proofs.gather.Tie as tie

@@ -1,9 +1,7 @@
 -- `check_sdss::closed_fine` meets its contract: every SDS is closed, no row is past the last SDS, and every used type is in one:
 -- that is `Sdss-closed`. Assumes nothing.
 use borrow.Author.Needs.{needs}
-use Prim.Native.Nat.{ℕ, _<_}
 use native.Mathlib.Omega.{arith}
-use mathlib.Core.Path.{_≡_, sym, _∙_}
 use borrow.Author.Tests.{not-true, not-false}
 use Rattle.rows.proofs.Decides.{decides-no}
 use Rattle.check_sdss.proofs.SdsLaws.{ready-of, closed-sds, application-below, end-below, sds-closed-all, none-left, one-left, byte-used, marked-used}

@@ -1,7 +1,7 @@
 -- `check_sdss::is_in_if_used` meets its contract: a type is used exactly where its row begins with a byte that is not 0.
 -- Assumes nothing.
 use borrow.Author.Needs.{needs}
-use mathlib.Core.Path.{_≡_, sym, _∙_}
+use mathlib.Core.Path.{sym, _∙_}
 use mathlib.Core.Bool.{true≢false}
 use Rattle.rows.proofs.Decides.{decides-yes}
 use Rattle.check_sdss.proofs.SdsLaws.{used-byte, byte-used}

@@ -2,10 +2,9 @@
 -- `Sds-closed`. Assumes nothing.
 use borrow.Author.Needs.{needs}
 use native.Mathlib.Omega.{arith}
-use mathlib.Core.Path.{_≡_, refl, sym, _∙_}
+use mathlib.Core.Path.{refl}
 use mathlib.Core.Bool.{true≢false}
 use borrow.Author.Tests.{not-true, not-false}
-use Rattle.check_sdss.specs.Sds.{Checks}
 use Rattle.check_sdss.proofs.ClosedLaws.{gathered-shows, gathered-twice, asked-types, asked-applications, asked-ends, sds-closed, checks-no}
 use Rattle.check_sdss.proofs.sds_fine.Statement.{statement}
 use Rattle.check_sdss.proofs.sds_fine.Tie as tie

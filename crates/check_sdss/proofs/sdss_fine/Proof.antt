@@ -3,11 +3,10 @@
 use borrow.Author.Needs.{needs}
 use Prim.Native.Nat.{_-_}
 use native.Mathlib.Omega.{arith}
-use mathlib.Core.Path.{_≡_, refl, sym, ap, _∙_}
-use mathlib.Core.Bool.{true≢false, false≢true}
+use mathlib.Core.Path.{_≡_, sym, _∙_}
+use mathlib.Core.Bool.{true≢false}
 use borrow.Author.Tests.{not-true, not-false}
 use Rattle.type_set.specs.Set.{has}
-use Rattle.check_sdss.specs.Sds.{Gone-through}
 use Rattle.check_sdss.proofs.ClosedLaws.{Passed, passed-none, passed-more}
 use Rattle.check_sdss.proofs.sdss_fine.Statement.{statement}
 use Rattle.check_sdss.proofs.sdss_fine.Tie as tie

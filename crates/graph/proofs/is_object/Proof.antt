@@ -1,7 +1,5 @@
 -- `graph::is_object` meets its contract: 1 is the code of the object types. Assumes nothing.
 use native.Mathlib.Omega.{arith}
-use mathlib.Core.Path.{sym}
-use Rattle.lookup.proofs.KindBytes.{told-object}
 use Rattle.graph.proofs.is_object.Statement.{statement}
 use Rattle.graph.proofs.is_object.Tie as tie
 
@@ -11,7 +9,7 @@ is-kind-requires c κs = (c .before .pre, (omega arith, omega arith))
 returns : tie.Need-returns
 returns c =
     let x = c .before .before .args in
-    sym (told-object (x .base .now) (x .t) (c .is-kind .ensures))
+    (c .is-kind .ensures)
 
 pub is-object-spec : {M : Type 1} → statement M
 is-object-spec = tie.close (tie.spec is-kind-requires returns)

@@ -3,7 +3,6 @@
 use native.Mathlib.Omega.{arith}
 use Prim.Native.Nat.{ℕ}
 use mathlib.Core.Path.{ap, _∙_}
-use lib.ListN.{drop}
 use Rattle.rules.specs.04-Schema.{is-parent}
 use Rattle.base.specs.Tables.{presences}
 use Rattle.base.proofs.Back.{rows-few}

@@ -1,13 +1,10 @@
 -- `ask_scans::lists::put` meets its contract: the count is the list's length, so the test of the room is that of `listing`; past
 -- it the list is put down. Assumes nothing.
 use borrow.Author.Needs.{needs}
-use Prim.Native.Nat.{ℕ, _+_, _*_, _≤_, _<_}
+use Prim.Native.Nat.{ℕ}
 use native.Mathlib.Omega.{arith}
-use mathlib.Core.Path.{_≡_, sym, ap, _∙_}
-use lib.ListN.{length, length-append}
-use Rattle.rules.specs.05-Descent.{members}
+use mathlib.Core.Path.{ap, _∙_}
 use Rattle.rules.specs.09-Refusals.{success}
-use Rattle.type_set.specs.Set.{has}
 use Rattle.ask_scans.proofs.ListLaws.{list-short, list-put}
 use Rattle.ask_scans.proofs.lists.put.Statement.{statement}
 use Rattle.ask_scans.proofs.lists.put.Tie as tie

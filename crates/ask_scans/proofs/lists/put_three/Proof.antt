@@ -1,10 +1,9 @@
 -- `ask_scans::lists::put_three` meets its contract: the counts are the lists' lengths, so the test of the room is that of
 -- `three-listing`; a list put down behind another goes on with it. Assumes nothing.
 use borrow.Author.Needs.{needs}
-use Prim.Native.Nat.{ℕ, _+_, _*_, _≤_, _<_}
 use native.Mathlib.Omega.{arith}
-use mathlib.Core.Path.{_≡_, sym, ap, _∙_}
-use lib.ListN.{length, length-append}
+use mathlib.Core.Path.{_∙_}
+use lib.ListN.{length-append}
 use Rattle.rules.specs.05-Descent.{members}
 use Rattle.rules.specs.09-Refusals.{success}
 use Rattle.type_set.specs.Set.{has}

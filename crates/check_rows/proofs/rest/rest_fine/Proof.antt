@@ -1,10 +1,9 @@
 -- `check_rows::rest::rest_fine` meets its contract: the tests, with the counts of used rows, find what `Rest-fine` asks and
 -- nothing else. Assumes nothing.
 use borrow.Author.Needs.{needs}
-use mathlib.Core.Path.{_≡_}
 use borrow.Author.Tests.{not-true, not-false}
 use Rattle.rows.proofs.Decides.{decides-no}
-use Rattle.check_rows.proofs.RestLaws.{Found, ends-counted, rest-found, found-rest}
+use Rattle.check_rows.proofs.RestLaws.{ends-counted, rest-found, found-rest}
 use Rattle.check_rows.proofs.rest.rest_fine.Statement.{statement}
 use Rattle.check_rows.proofs.rest.rest_fine.Tie as tie
 

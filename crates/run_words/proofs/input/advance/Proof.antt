@@ -1,9 +1,8 @@
 -- `run_words::input::advance` meets its contract: `fill` leaves a place within what was read; `gather` leaves one within what it
 -- is lent, and keeps at most 128 bytes. Assumes nothing.
 use borrow.Author.Needs.{needs}
-use Prim.Native.Nat.{_≤_}
 use native.Mathlib.Omega.{arith}
-use lib.ListN.{length, length-take}
+use lib.ListN.{length-take}
 use Rattle.run_words.proofs.input.advance.Statement.{statement}
 use Rattle.run_words.proofs.input.advance.Tie as tie
 

@@ -5,12 +5,11 @@ use mathlib.Core.List.{List}
 use lib.ListN.{length, set}
 use Rattle.rules.specs.declared.Answer.{Answer}
 use Rattle.rules.specs.03-Names.{Name}
-use Rattle.rules.specs.04-Schema.{Schema}
+use Rattle.rules.specs.04-Schema.{Schema, with-sdss}
 use Rattle.rules.specs.06-Good.{Good}
 use Rattle.rules.specs.07-Picture.{Sound, sds-row, picture, base-length}
 use Rattle.rules.specs.09-Refusals.{Outcome, telling, refusal, success, answer-of}
 use Rattle.rules.specs.09-Refusals.Outcome.{refused, done}
-use Rattle.rules.specs.04-Schema.{with-sdss}
 use Rattle.rules.specs.12-Contracts.{Kept, Listed, Answered, base-after, output-after}
 use Rattle.rows.specs.Table.{written}
 use Rattle.base.specs.Rows.{sds-at}

@@ -8,10 +8,9 @@ use lib.Seq.{drop-drop, length-take-le}
 use borrow.Rule.Slice.PartMut.{putMid}
 use Rattle.rules.specs.02-Limits.{limits}
 use Rattle.rules.specs.03-Names.{Name}
-use Rattle.rules.specs.04-Schema.{Schema}
+use Rattle.rules.specs.04-Schema.{Schema, with-sdss}
 use Rattle.rules.specs.06-Good.{Good}
 use Rattle.rules.specs.07-Picture.{sds-width, sds-row, picture}
-use Rattle.rules.specs.04-Schema.{with-sdss}
 use Rattle.rules.proofs.07-Picture.{length-pad}
 use Rattle.rows.specs.Table.{written}
 use Rattle.rows.proofs.Written.{field-written}

@@ -10,20 +10,17 @@ use lib.Dec.{ltb, eqb}
 use lib.ListN.{length, getD, set, length-append}
 use borrow.Author.Tests.{ltb-true, ltb-false, eq-eqb, ne-eqb}
 use Rattle.rules.specs.01-Lists.{bytes-before}
-use Rattle.rules.specs.04-Schema.{Schema}
+use Rattle.rules.specs.04-Schema.{Schema, with-sdss, with-types, with-presences, with-applications, with-ends}
 use Rattle.rules.specs.06-Good.{presence-before, application-before, end-before}
-use Rattle.rules.specs.07-Picture.{pad, presence-row, application-row, end-row, type-table, presence-table, application-table, end-table}
-use Rattle.rules.specs.07-Picture.{picture}
-use Rattle.rules.specs.04-Schema.{with-sdss, with-types, with-presences, with-applications, with-ends}
+use Rattle.rules.specs.07-Picture.{pad, presence-row, application-row, end-row, type-table, presence-table, application-table, end-table, picture}
 use Rattle.rules.specs.02-Limits.{limits}
 use Rattle.rules.proofs.03-Names.{pad-before}
-use Rattle.rules.proofs.07-Picture.{length-pad, length-table, wide-sds, wide-type, wide-presence, wide-application, wide-end}
-use Rattle.rules.proofs.07-Picture.{presence-back, application-back, end-back}
+use Rattle.rules.proofs.07-Picture.{length-pad, length-table, wide-sds, wide-type, wide-presence, wide-application, wide-end, presence-back}
+use Rattle.rules.proofs.07-Picture.{application-back, end-back}
 use Rattle.rows.specs.Table.{written}
 use Rattle.rows.proofs.TableLaws.{row-fits}
 use Rattle.rows.proofs.Written.{written-past, written-before, table-set}
-use Rattle.base.specs.Tables.{Table, Sorted, at, bytes-of, end, sdss, types, presences, applications, ends, by-name, by-application}
-use Rattle.base.specs.Tables.{by-end}
+use Rattle.base.specs.Tables.{Table, Sorted, at, bytes-of, end, sdss, types, presences, applications, ends, by-name, by-application, by-end}
 use Rattle.base.specs.Stored.{Ordered, Storable}
 
 -- ---- where a table stands in a picture

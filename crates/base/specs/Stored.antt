@@ -5,9 +5,8 @@ use mathlib.Core.List.{List, _∷_, _++_}
 use mathlib.Core.Bool.{true}
 use lib.ListN.{length, take, drop, set}
 use Rattle.rules.specs.01-Lists.{_∈_, rising}
-use Rattle.rules.specs.04-Schema.{Schema, Kind}
+use Rattle.rules.specs.04-Schema.{Schema, Kind, with-types}
 use Rattle.rules.specs.07-Picture.{pad, type-width, type-row, picture}
-use Rattle.rules.specs.04-Schema.{with-types}
 use Rattle.rules.specs.Read.{parents-offset, read-kind}
 use Rattle.base.specs.Tables.{Table, Sorted, Used, sdss, types, by-name, by-application, by-end}
 use Rattle.base.specs.Back.{schema-of}

@@ -10,13 +10,12 @@ use borrow.Author.Tests.{lt-ltb, le-ltb}
 use Rattle.rules.specs.01-Lists.{without, put}
 use Rattle.rules.specs.02-Limits.{limits}
 use Rattle.rules.specs.03-Names.{Name}
-use Rattle.rules.specs.04-Schema.{Schema, Application, kind-of, is-attribute, type-named, applied, is-application}
+use Rattle.rules.specs.04-Schema.{Schema, Application, kind-of, is-attribute, type-named, applied, is-application, with-applications, kind-code}
 use Rattle.rules.specs.06-Good.{application-before}
 use Rattle.rules.specs.07-Picture.{Sound, picture}
 use Rattle.rules.specs.09-Refusals.{_when_, Refusals, no-object, no-attribute, no-link, applications-full}
 use Rattle.rules.specs.09-Refusals.Outcome.{done}
 use Rattle.rules.specs.10-Changes.{application-refusals, apply, unapply}
-use Rattle.rules.specs.04-Schema.{with-applications}
 use Rattle.rules.proofs.Bools.{or-left}
 use Rattle.rules.proofs.09-Refusals.{Left}
 use Rattle.rows.specs.Rows.{Counted}
@@ -26,7 +25,6 @@ use Rattle.base.specs.Stored.{less-row, Shows}
 use Rattle.base.proofs.Shown.{applications-long}
 use Rattle.base.proofs.StoredLaws.{sound-stored}
 use Rattle.edit.proofs.TakenLaws.{application-without}
-use Rattle.rules.specs.04-Schema.{kind-code}
 use Rattle.change_applications.specs.Applying.{wrong-kind}
 use Rattle.conditions.specs.Aimed.{Both}
 use Rattle.conditions.proofs.ConditionLaws.{applied-row}

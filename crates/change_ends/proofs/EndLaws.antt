@@ -7,21 +7,18 @@ use mathlib.Core.Bool.{Bool, true, false, not, _||_, true≢false, or-false}
 use lib.Dec.{ltb}
 use lib.ListN.{length}
 use borrow.Author.Tests.{eq-eqb, ne-eqb, ltb-true, ltb-false, lt-ltb, le-ltb}
-use Rattle.rules.specs.01-Lists.{any, all, without, put}
+use Rattle.rules.specs.01-Lists.{any, all, without, put, put-all}
 use Rattle.rules.specs.02-Limits.{limits}
 use Rattle.rules.specs.03-Names.{Name}
-use Rattle.rules.specs.04-Schema.{Schema, Side, End, kind-of, is-link, is-object, reverse, with-reverse, type-named}
-use Rattle.rules.specs.04-Schema.{other-side, is-end, has-end}
-use Rattle.rules.specs.06-Good.{end-before}
+use Rattle.rules.specs.04-Schema.{Schema, Side, End, kind-of, is-link, is-object, reverse, with-reverse, type-named, other-side, is-end, has-end}
+use Rattle.rules.specs.04-Schema.{with-ends}
+use Rattle.rules.specs.06-Good.{end-before, Good}
 use Rattle.rules.specs.04-Schema.Kind.{paired}
 use Rattle.rules.specs.04-Schema.Side.{origin, destination}
-use Rattle.rules.specs.06-Good.{Good}
 use Rattle.rules.specs.07-Picture.{Sound, picture}
 use Rattle.rules.specs.09-Refusals.{_when_, Outcome, Refusals, verdict, no-link, no-object, ends-full}
 use Rattle.rules.specs.09-Refusals.Outcome.{refused, done}
 use Rattle.rules.specs.10-Changes.{both-ends, end-refusals, add-end, is-one-of, remove-end}
-use Rattle.rules.specs.04-Schema.{with-ends}
-use Rattle.rules.specs.01-Lists.{put-all}
 use Rattle.rules.proofs.Bools.{or-left, or-right}
 use Rattle.rules.proofs.01-Lists.{any-at, any-where}
 use Rattle.rules.proofs.Edits.{put-long, put-none, without-keeps, without-same, without-twice}

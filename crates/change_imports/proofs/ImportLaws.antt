@@ -9,17 +9,14 @@ use lib.ListN.{length, getD, take, replicate}
 use borrow.Author.Tests.{eq-eqb, ne-eqb, ltb-true, ltb-false, lt-ltb, le-ltb, le-leb, lt-leb, leb-false}
 use Rattle.rules.specs.02-Limits.{limits}
 use Rattle.rules.specs.declared.Answer.{Answer}
-use Rattle.rules.specs.01-Lists.{all, first, put}
+use Rattle.rules.specs.01-Lists.{all, first, put, put-all}
 use Rattle.rules.specs.03-Names.{Name, well-formed, blank, same-name}
-use Rattle.rules.specs.04-Schema.{Schema, Presence, used-sds, reverse, holds-type, holds-name, present, bears, type-named, local-name}
-use Rattle.rules.specs.06-Good.{presence-before}
-use Rattle.rules.specs.06-Good.{Good}
+use Rattle.rules.specs.04-Schema.{Schema, Presence, used-sds, reverse, holds-type, holds-name, present, bears, type-named, local-name, with-presences}
+use Rattle.rules.specs.06-Good.{presence-before, Good}
 use Rattle.rules.specs.07-Picture.{Sound, pad, picture, base-length}
 use Rattle.rules.specs.09-Refusals.{_when_, Outcome, verdict, unknown-sds, malformed, malformed-new, idle-reverse-name, names-taken, presences-full}
 use Rattle.rules.specs.09-Refusals.Outcome.{done}
 use Rattle.rules.specs.10-Changes.{filled, imported, import}
-use Rattle.rules.specs.04-Schema.{with-presences}
-use Rattle.rules.specs.01-Lists.{put-all}
 use Rattle.rules.specs.12-Contracts.{Kept}
 use Rattle.rules.proofs.Bools.{and-rest, or-neither}
 use Rattle.rules.proofs.Edits.{put-long, put-none, first-in}

@@ -6,13 +6,11 @@ use mathlib.Core.Bool.{true}
 use lib.ListN.{length}
 use Rattle.rules.specs.02-Limits.{limits}
 use Rattle.rules.specs.03-Names.{Name, well-formed}
-use Rattle.rules.specs.04-Schema.{Schema, Presence}
+use Rattle.rules.specs.04-Schema.{Schema, Presence, with-presences}
 use Rattle.rules.specs.06-Good.{presence-before}
-use Rattle.rules.specs.09-Refusals.{Outcome, Refusals, _when_, verdict}
-use Rattle.rules.specs.09-Refusals.{names-taken, presences-full}
+use Rattle.rules.specs.09-Refusals.{Outcome, Refusals, _when_, verdict, names-taken, presences-full}
 use Rattle.rules.specs.09-Refusals.Outcome.{done}
 use Rattle.rules.specs.10-Changes.{import-refusals}
-use Rattle.rules.specs.04-Schema.{with-presences}
 use Rattle.rules.specs.01-Lists.{put-all}
 use Rattle.base.specs.Tested.{until}
 

@@ -11,14 +11,13 @@ use Rattle.rules.specs.02-Limits.{limits}
 use Rattle.rules.specs.declared.Answer.{Answer}
 use Rattle.rules.specs.01-Lists.{all, put}
 use Rattle.rules.specs.03-Names.{Name, well-formed}
-use Rattle.rules.specs.04-Schema.{Schema, bears, holds-name}
+use Rattle.rules.specs.04-Schema.{Schema, bears, holds-name, with-presences}
 use Rattle.rules.specs.06-Good.{presence-before}
 use Rattle.rules.specs.04-Schema.Kind.{paired}
 use Rattle.rules.specs.07-Picture.{picture}
 use Rattle.rules.specs.09-Refusals.{Outcome, success, no-pair}
 use Rattle.rules.specs.09-Refusals.Outcome.{done}
 use Rattle.rules.specs.10-Changes.{with-type, with-pair, new-type, second-new-type, new-pair, new-pair-refusals}
-use Rattle.rules.specs.04-Schema.{with-presences}
 use Rattle.rules.specs.12-Contracts.{Kept}
 use Rattle.rules.proofs.Bools.{or-left, or-right, or-neither}
 use Rattle.rules.proofs.Edits.{put-long, put-none}

@@ -6,9 +6,8 @@ use mathlib.Core.Bool.{true}
 use lib.Dec.{eqb}
 use borrow.Author.Tests.{eqb-true, ltb-true}
 use Rattle.rules.specs.03-Names.{Name}
-use Rattle.rules.specs.04-Schema.{Schema, Presence, holds-type, present, bears, type-named}
+use Rattle.rules.specs.04-Schema.{Schema, Presence, holds-type, present, bears, type-named, with-presences}
 use Rattle.rules.specs.06-Good.{Good}
-use Rattle.rules.specs.04-Schema.{with-presences}
 use Rattle.rules.proofs.Bools.{and-both}
 use Rattle.rules.proofs.08-Working.{named-present}
 use Rattle.base.specs.Back.{schema-of, presence-count, presence-shown}

@@ -8,14 +8,13 @@ use lib.Dec.{eqb}
 use borrow.Author.Tests.{eqb-true}
 use Rattle.rules.specs.01-Lists.{_∈_, any, all, among, without}
 use Rattle.rules.specs.03-Names.{Name}
-use Rattle.rules.specs.04-Schema.{Schema, Presence, with-reverse, holds-type, present, type-named}
+use Rattle.rules.specs.04-Schema.{Schema, Presence, with-reverse, holds-type, present, type-named, with-presences}
 use Rattle.rules.specs.04-Schema.Kind.{unused}
 use Rattle.rules.specs.06-Good.{Good}
 use Rattle.rules.specs.07-Picture.{Sound, picture}
 use Rattle.rules.specs.09-Refusals.{Outcome, still-used}
 use Rattle.rules.specs.09-Refusals.Outcome.{done}
 use Rattle.rules.specs.10-Changes.{less-gone, remove-type, remove-type-refusals}
-use Rattle.rules.specs.04-Schema.{with-presences}
 use Rattle.rules.proofs.Bools.{and-both, or-first, or-next}
 use Rattle.rules.proofs.01-Lists.{any-at, any-where}
 use Rattle.rules.proofs.Edits.{without-in, without-keeps, without-same, without-twice}

@@ -10,14 +10,12 @@ use borrow.Author.Tests.{eqb-true, eq-eqb}
 use Rattle.rules.specs.01-Lists.{_∈_, any, all, without, put}
 use Rattle.rules.specs.02-Limits.{limits}
 use Rattle.rules.specs.03-Names.{Name, well-formed, same-name}
-use Rattle.rules.specs.04-Schema.{Schema, Presence, holds-type, holds-name, bears, type-named}
-use Rattle.rules.specs.06-Good.{presence-before}
-use Rattle.rules.specs.06-Good.{Good}
+use Rattle.rules.specs.04-Schema.{Schema, Presence, holds-type, holds-name, bears, type-named, with-presences}
+use Rattle.rules.specs.06-Good.{presence-before, Good}
 use Rattle.rules.specs.07-Picture.{Sound, picture}
 use Rattle.rules.specs.09-Refusals.{Outcome, borne-by-another}
 use Rattle.rules.specs.09-Refusals.Outcome.{done}
 use Rattle.rules.specs.10-Changes.{rename, rename-refusals}
-use Rattle.rules.specs.04-Schema.{with-presences}
 use Rattle.rules.proofs.Bools.{and-both, and-of}
 use Rattle.rules.proofs.01-Lists.{any-at, any-none}
 use Rattle.rules.proofs.Edits.{without-in}

@@ -3,8 +3,7 @@ use Prim.Native.Nat.{ℕ}
 use mathlib.Core.Path.{_≡_}
 use mathlib.Core.Bool.{true}
 use Rattle.rules.specs.01-Lists.{_∈_, without}
-use Rattle.rules.specs.04-Schema.{Schema, Presence, holds-type, present}
-use Rattle.rules.specs.04-Schema.{with-presences}
+use Rattle.rules.specs.04-Schema.{Schema, Presence, holds-type, present, with-presences}
 
 -- type t is in SDS d by one presence: the base is not sound any more when the second type of a pair is taken out
 pub record Held-once (s : Schema) (d t : ℕ) : Type 0 where

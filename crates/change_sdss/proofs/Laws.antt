@@ -4,11 +4,10 @@ use mathlib.Core.Path.{refl}
 use mathlib.Core.List.{[]}
 use lib.ListN.{set}
 use Rattle.rules.specs.03-Names.{Name}
-use Rattle.rules.specs.04-Schema.{Schema}
+use Rattle.rules.specs.04-Schema.{Schema, with-sdss}
 use Rattle.rules.specs.09-Refusals.{Outcome}
 use Rattle.rules.specs.09-Refusals.Outcome.{done}
 use Rattle.rules.specs.10-Changes.{new-sds, new-sds-refusals, new-sds-number, remove-sds, remove-sds-refusals}
-use Rattle.rules.specs.04-Schema.{with-sdss}
 use Rattle.rules.proofs.09-Refusals.{Left}
 
 -- SDS d gets the name n

@@ -11,14 +11,13 @@ use Rattle.rules.specs.02-Limits.{limits}
 use Rattle.rules.specs.declared.Answer.{Answer}
 use Rattle.rules.specs.01-Lists.{put}
 use Rattle.rules.specs.03-Names.{Name, well-formed}
-use Rattle.rules.specs.04-Schema.{Schema, Kind, bears}
+use Rattle.rules.specs.04-Schema.{Schema, Kind, bears, with-types, with-presences}
 use Rattle.rules.specs.06-Good.{presence-before}
 use Rattle.rules.specs.04-Schema.Kind.{attribute, designation}
 use Rattle.rules.specs.07-Picture.{picture}
 use Rattle.rules.specs.09-Refusals.{Outcome, verdict, success, malformed, unknown-value-kind, presences-full, types-full, free-types}
 use Rattle.rules.specs.09-Refusals.Outcome.{done}
 use Rattle.rules.specs.10-Changes.{with-type, new-type, new-attribute, new-designation}
-use Rattle.rules.specs.04-Schema.{with-types, with-presences}
 use Rattle.rules.specs.12-Contracts.{Kept}
 use Rattle.rules.proofs.Bools.{or-left, or-right}
 use Rattle.rules.proofs.09-Refusals.{Left}

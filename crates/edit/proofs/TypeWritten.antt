@@ -8,10 +8,9 @@ use mathlib.Core.List.List·Memᴰ.{List·Memᴰ·head, List·Memᴰ·tail}
 use lib.ListN.{length, set, length-set}
 use Rattle.rules.specs.01-Lists.{_∈_}
 use Rattle.rules.specs.02-Limits.{limits}
-use Rattle.rules.specs.04-Schema.{Schema, Kind}
+use Rattle.rules.specs.04-Schema.{Schema, Kind, with-types}
 use Rattle.rules.specs.04-Schema.Kind.{unused, object, attribute, designation, paired}
 use Rattle.rules.specs.07-Picture.{pad, type-width, type-row, picture}
-use Rattle.rules.specs.04-Schema.{with-types}
 use Rattle.rules.specs.Read.{parents-offset, read-kind}
 use Rattle.rules.proofs.07-Picture.{kind-back}
 use Rattle.rules.proofs.07-Picture.Fitting.{fits-unused, fits-object, fits-attribute, fits-designation, fits-paired}

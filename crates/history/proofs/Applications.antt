@@ -5,18 +5,15 @@ use mathlib.Core.List.{List, [], _∷_, List·Memᴰ·not-nil, List·Memᴰ·eq-
 use mathlib.Core.Bool.{Bool, true, false, not, _&&_, _||_, true≢false}
 use lib.ListN.{length}
 use borrow.Author.Tests.{not-false, ltb-false, eq-eqb}
-use Rattle.rules.specs.01-Lists.{_∈_, any, without, put}
+use Rattle.rules.specs.01-Lists.{_∈_, any, without, put, put-all}
 use Rattle.rules.specs.02-Limits.{limits}
 use Rattle.rules.specs.03-Names.{Name}
-use Rattle.rules.specs.04-Schema.{Schema, Kind, Presence, Application, kind-of, is-object, is-attribute, is-link, present, type-named}
-use Rattle.rules.specs.04-Schema.{applied, is-application}
-use Rattle.rules.specs.06-Good.{application-before}
-use Rattle.rules.specs.06-Good.{Good}
+use Rattle.rules.specs.04-Schema.{Schema, Kind, Presence, Application, kind-of, is-object, is-attribute, is-link, present, type-named, applied}
+use Rattle.rules.specs.04-Schema.{is-application, with-applications}
+use Rattle.rules.specs.06-Good.{application-before, Good}
 use Rattle.rules.specs.09-Refusals.{no-such-name, no-object, no-attribute, no-link, applications-full}
 use Rattle.rules.specs.09-Refusals.Outcome.{done}
 use Rattle.rules.specs.10-Changes.{apply, apply-refusals, unapply, unapply-refusals}
-use Rattle.rules.specs.04-Schema.{with-applications}
-use Rattle.rules.specs.01-Lists.{put-all}
 use Rattle.rules.specs.13-History.{next}
 use Rattle.rules.specs.Parts.{of-presences, Application-fits, Applications}
 use Rattle.rules.proofs.Bools.{or-neither, and-of}

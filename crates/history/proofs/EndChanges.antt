@@ -9,20 +9,17 @@ use mathlib.Core.Bool.{true, false, _&&_, _||_, true≢false}
 use lib.Dec.{eqb}
 use lib.ListN.{length, length-map}
 use borrow.Author.Tests.{not-false, ltb-false, eqb-true, eq-eqb}
-use Rattle.rules.specs.01-Lists.{_∈_, without}
+use Rattle.rules.specs.01-Lists.{_∈_, without, put-all}
 use Rattle.rules.specs.02-Limits.{limits}
 use Rattle.rules.specs.03-Names.{Name}
 use Rattle.rules.specs.04-Schema.{Schema, Kind, Presence, Side, End, kind-of, is-object, is-link, reverse-in, reverse, with-reverse, present}
-use Rattle.rules.specs.04-Schema.{type-named, has-end, is-end, side-code, other-side}
-use Rattle.rules.specs.06-Good.{end-before}
+use Rattle.rules.specs.04-Schema.{type-named, has-end, is-end, side-code, other-side, with-ends}
+use Rattle.rules.specs.06-Good.{end-before, Good}
 use Rattle.rules.specs.04-Schema.Kind.{paired}
 use Rattle.rules.specs.04-Schema.Side.{origin, destination}
-use Rattle.rules.specs.06-Good.{Good}
 use Rattle.rules.specs.09-Refusals.{no-such-name, no-object, no-link, ends-full}
 use Rattle.rules.specs.09-Refusals.Outcome.{done}
 use Rattle.rules.specs.10-Changes.{both-ends, is-one-of, add-end, add-end-refusals, remove-end, remove-end-refusals}
-use Rattle.rules.specs.04-Schema.{with-ends}
-use Rattle.rules.specs.01-Lists.{put-all}
 use Rattle.rules.specs.13-History.{next}
 use Rattle.rules.specs.Parts.{of-types, of-presences, of-ends, Types, End-fits, Ends}
 use Rattle.rules.proofs.Bools.{or-neither, and-both, and-of, fails}

@@ -10,12 +10,11 @@ use lib.ListN.{length}
 use Rattle.rules.specs.01-Lists.{_∈_, rising}
 use Rattle.rules.specs.02-Limits.{limits}
 use Rattle.rules.specs.03-Names.{Name}
-use Rattle.rules.specs.04-Schema.{Schema, Kind, Presence, kind-of, is-used, is-object, parents, parents-in, present}
+use Rattle.rules.specs.04-Schema.{Schema, Kind, Presence, kind-of, is-used, is-object, parents, parents-in, present, with-types, with-presences}
 use Rattle.rules.specs.04-Schema.Kind.{unused, object, attribute, designation, paired}
 use Rattle.rules.specs.05-Descent.{Parent, Descends}
 use Rattle.rules.specs.05-Descent.Descends.{by-parent, by-step}
 use Rattle.rules.specs.06-Good.{Good}
-use Rattle.rules.specs.04-Schema.{with-types, with-presences}
 use Rattle.rules.specs.Parts.{of-types, of-presences, Types, Presences}
 use Rattle.rules.proofs.05-Descent.{object-used}
 use Rattle.rules.proofs.Parts.{presence-there, parts-of, whole}

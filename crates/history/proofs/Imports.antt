@@ -7,20 +7,17 @@ use mathlib.Core.List.{List, [], _∷_, map, List·Memᴰ·not-nil}
 use mathlib.Core.Bool.{Bool, true, false, not, cond, _&&_, _||_, true≢false}
 use lib.ListN.{length, getD}
 use borrow.Author.Tests.{not-false, eq-eqb, ne-eqb}
-use Rattle.rules.specs.01-Lists.{first, put}
+use Rattle.rules.specs.01-Lists.{first, put, put-all}
 use Rattle.rules.specs.02-Limits.{limits}
 use Rattle.rules.specs.03-Names.{Name, well-formed, blank, same-name}
 use Rattle.rules.specs.04-Schema.{Schema, Kind, Presence, kind-of, is-used, reverse-in, reverse, with-reverse, parents, holds-type, present, bears}
-use Rattle.rules.specs.04-Schema.{type-named, local-name}
-use Rattle.rules.specs.06-Good.{presence-before}
+use Rattle.rules.specs.04-Schema.{type-named, local-name, with-presences}
+use Rattle.rules.specs.06-Good.{presence-before, Good}
 use Rattle.rules.specs.04-Schema.Kind.{paired}
 use Rattle.rules.specs.05-Descent.{Parent}
-use Rattle.rules.specs.06-Good.{Good}
 use Rattle.rules.specs.09-Refusals.{unknown-sds, system-sds, malformed, malformed-new, not-present, missing-parent, names-taken, presences-full}
 use Rattle.rules.specs.09-Refusals.Outcome.{done}
 use Rattle.rules.specs.10-Changes.{filled, imported, import, import-refusals}
-use Rattle.rules.specs.04-Schema.{with-presences}
-use Rattle.rules.specs.01-Lists.{put-all}
 use Rattle.rules.specs.13-History.{next}
 use Rattle.rules.specs.Parts.{of-types, of-presences}
 use Rattle.rules.proofs.Bools.{or-neither, fails}

@@ -13,9 +13,8 @@ use Rattle.rules.specs.01-Lists.{put}
 use Rattle.rules.specs.02-Limits.{limits}
 use Rattle.rules.specs.03-Names.{Name, same-name}
 use Rattle.rules.specs.04-Schema.{Schema, Kind, Presence, kind-of, is-used, present}
-use Rattle.rules.specs.06-Good.{presence-before}
+use Rattle.rules.specs.06-Good.{presence-before, Good}
 use Rattle.rules.specs.04-Schema.Kind.{unused, paired}
-use Rattle.rules.specs.06-Good.{Good}
 use Rattle.rules.specs.09-Refusals.{malformed, no-pair, free-types}
 use Rattle.rules.specs.09-Refusals.Outcome.{done}
 use Rattle.rules.specs.10-Changes.{new-type, second-new-type, with-pair, new-pair, new-pair-refusals}

@@ -9,20 +9,17 @@ use lib.Dec.{ltb}
 use lib.ListN.{length, getD, set, length-set, length-map}
 use lib.Seq.{getD-set-same}
 use borrow.Author.Tests.{not-true, not-false, ltb-false}
-use Rattle.rules.specs.01-Lists.{_∈_, any, repeated, rising, put}
+use Rattle.rules.specs.01-Lists.{_∈_, any, repeated, rising, put, put-all}
 use Rattle.rules.specs.02-Limits.{limits}
 use Rattle.rules.specs.03-Names.{Name, names-in}
-use Rattle.rules.specs.04-Schema.{Schema, Kind, Presence, kind-of, is-used, is-object, present}
-use Rattle.rules.specs.04-Schema.{type-named}
-use Rattle.rules.specs.06-Good.{presence-before}
+use Rattle.rules.specs.04-Schema.{Schema, Kind, Presence, kind-of, is-used, is-object, present, type-named}
+use Rattle.rules.specs.06-Good.{presence-before, Good}
 use Rattle.rules.specs.04-Schema.Kind.{unused, object, attribute, designation}
-use Rattle.rules.specs.06-Good.{Good}
-use Rattle.rules.specs.09-Refusals.{unknown-sds, system-sds, malformed, unknown-value-kind, not-1-to-4, no-such-name, no-object}
-use Rattle.rules.specs.09-Refusals.{names-taken, free-types, types-full}
+use Rattle.rules.specs.09-Refusals.{unknown-sds, system-sds, malformed, unknown-value-kind, not-1-to-4, no-such-name, no-object, names-taken}
+use Rattle.rules.specs.09-Refusals.{free-types, types-full}
 use Rattle.rules.specs.09-Refusals.Outcome.{done}
 use Rattle.rules.specs.10-Changes.{with-type, new-type, new-attribute, new-attribute-refusals, new-designation, new-designation-refusals}
 use Rattle.rules.specs.10-Changes.{parents-named, new-object, new-object-refusals}
-use Rattle.rules.specs.01-Lists.{put-all}
 use Rattle.rules.specs.13-History.{next}
 use Rattle.rules.proofs.Bools.{or-neither, fails}
 use Rattle.rules.proofs.01-Lists.{none-at, place-in, map-in, unrepeated}

@@ -9,12 +9,11 @@ use mathlib.Core.List.List·Memᴰ.{List·Memᴰ·head, List·Memᴰ·tail}
 use mathlib.Core.Bool.{Bool, true, false, not, cond, _&&_, _||_, false≢true}
 use lib.Dec.{ltb, eqb}
 use borrow.Author.Tests.{ltb-true, ltb-false, lt-ltb, eqb-true, eq-eqb}
-use Rattle.rules.specs.01-Lists.{_∈_, rising, without, put}
+use Rattle.rules.specs.01-Lists.{_∈_, rising, without, put, put-all}
 use Rattle.rules.specs.03-Names.{Name, name-before}
 use Rattle.rules.specs.04-Schema.{Side, side-code}
 use Rattle.rules.specs.06-Good.{presence-before, application-before, end-before}
 use Rattle.rules.specs.04-Schema.Side.{origin, destination}
-use Rattle.rules.specs.01-Lists.{put-all}
 use Rattle.rules.proofs.Bools.{or-cases, or-left, or-right, or-neither, and-both, and-of}
 use Rattle.rules.proofs.01-Lists.{Different}
 use Rattle.rules.proofs.03-Names.{name-transitive, name-connected}

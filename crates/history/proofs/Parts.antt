@@ -5,12 +5,11 @@ use mathlib.Core.Path.{_≡_, sym, _∙_}
 use mathlib.Core.List.{List}
 use mathlib.Core.Bool.{Bool, true}
 use lib.ListN.{length}
-use Rattle.rules.specs.01-Lists.{_∈_, without}
+use Rattle.rules.specs.01-Lists.{_∈_, without, put-all}
 use Rattle.rules.specs.03-Names.{Name}
-use Rattle.rules.specs.04-Schema.{Schema, Kind, Presence, Application, End, used-sds, kind-of, is-used, present}
+use Rattle.rules.specs.04-Schema.{Schema, Kind, Presence, Application, End, used-sds, kind-of, is-used, present, with-sdss, with-applications}
+use Rattle.rules.specs.04-Schema.{with-ends}
 use Rattle.rules.specs.06-Good.{Good}
-use Rattle.rules.specs.04-Schema.{with-sdss, with-applications, with-ends}
-use Rattle.rules.specs.01-Lists.{put-all}
 use Rattle.rules.specs.Parts.{of-sdss, of-types, of-presences, Sdss, Presence-rows, Once, Closed-under, Presences, Ordered, Applications, Ends}
 use Rattle.rules.proofs.01-Lists.{Different}
 use Rattle.rules.proofs.05-Descent.{object-used}

@@ -11,15 +11,14 @@ use lib.Seq.{getD-set-same, getD-set-other, set-out}
 use borrow.Author.Tests.{eqb-true, eqb-false, eq-eqb, leb-true, leb-false}
 use Rattle.rules.specs.01-Lists.{_∈_, any, among, without}
 use Rattle.rules.specs.03-Names.{Name}
-use Rattle.rules.specs.04-Schema.{Schema, Kind, Presence, Application, End, system-presence, kind-of, is-used, is-object}
-use Rattle.rules.specs.04-Schema.{parents, parents-in, is-parent, reverse, reverse-in, with-reverse, present, type-named}
+use Rattle.rules.specs.04-Schema.{Schema, Kind, Presence, Application, End, system-presence, kind-of, is-used, is-object, parents, parents-in}
+use Rattle.rules.specs.04-Schema.{is-parent, reverse, reverse-in, with-reverse, present, type-named, with-types, with-presences}
 use Rattle.rules.specs.04-Schema.Kind.{unused, object, attribute, paired}
 use Rattle.rules.specs.05-Descent.{Parent}
 use Rattle.rules.specs.06-Good.{Good}
 use Rattle.rules.specs.09-Refusals.{has-child, in-application, in-end, still-used}
 use Rattle.rules.specs.09-Refusals.Outcome.{done}
 use Rattle.rules.specs.10-Changes.{less-gone, remove-type, remove-type-refusals}
-use Rattle.rules.specs.04-Schema.{with-types, with-presences}
 use Rattle.rules.specs.13-History.{next}
 use Rattle.rules.specs.Parts.{of-types, of-presences, Types, Presences, Applications, Ends, Parts}
 use Rattle.rules.proofs.Bools.{or-left, or-right, or-neither, and-both, and-of, fails}

@@ -11,13 +11,11 @@ use borrow.Author.Tests.{not-false, eqb-true, eq-eqb, ne-eqb}
 use Rattle.rules.specs.01-Lists.{_∈_, first, without, put}
 use Rattle.rules.specs.02-Limits.{limits}
 use Rattle.rules.specs.03-Names.{Name, same-name}
-use Rattle.rules.specs.04-Schema.{Schema, Presence, system-presence, used-sds, holds-type, holds-name, present, bears, type-named}
-use Rattle.rules.specs.06-Good.{presence-before}
-use Rattle.rules.specs.06-Good.{Good}
+use Rattle.rules.specs.04-Schema.{Schema, Presence, system-presence, used-sds, holds-type, holds-name, present, bears, type-named, with-presences}
+use Rattle.rules.specs.06-Good.{presence-before, Good}
 use Rattle.rules.specs.09-Refusals.{unknown-sds, system-sds, malformed, borne-by-another}
 use Rattle.rules.specs.09-Refusals.Outcome.{done}
 use Rattle.rules.specs.10-Changes.{rename, rename-refusals}
-use Rattle.rules.specs.04-Schema.{with-presences}
 use Rattle.rules.specs.13-History.{next}
 use Rattle.rules.specs.Parts.{of-presences}
 use Rattle.rules.proofs.Bools.{or-neither, and-both, and-of, and-rest, fails}

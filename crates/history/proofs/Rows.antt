@@ -12,11 +12,9 @@ use borrow.Author.Tests.{eq-eqb}
 use Rattle.rules.specs.01-Lists.{_∈_, any, without, put}
 use Rattle.rules.specs.02-Limits.{limits}
 use Rattle.rules.specs.03-Names.{Name, well-formed, same-name}
-use Rattle.rules.specs.04-Schema.{Schema, Presence, system-presence, used-sds, holds-type, holds-name, present, bears}
-use Rattle.rules.specs.06-Good.{presence-before}
-use Rattle.rules.specs.06-Good.{Good}
+use Rattle.rules.specs.04-Schema.{Schema, Presence, system-presence, used-sds, holds-type, holds-name, present, bears, with-presences}
+use Rattle.rules.specs.06-Good.{presence-before, Good}
 use Rattle.rules.specs.09-Refusals.{unknown-sds, system-sds}
-use Rattle.rules.specs.04-Schema.{with-presences}
 use Rattle.rules.specs.Parts.{of-sdss, of-presences, Presence-rows}
 use Rattle.rules.proofs.Bools.{and-of}
 use Rattle.rules.proofs.01-Lists.{any-at}

@@ -12,12 +12,11 @@ use borrow.Author.Tests.{not-true, leb-false, ltb-true, ltb-false, eq-eqb}
 use Rattle.rules.specs.01-Lists.{_∈_, any}
 use Rattle.rules.specs.02-Limits.{limits}
 use Rattle.rules.specs.03-Names.{Name, well-formed, blank, same-name}
-use Rattle.rules.specs.04-Schema.{Schema, Presence, used-sds}
+use Rattle.rules.specs.04-Schema.{Schema, Presence, used-sds, with-sdss}
 use Rattle.rules.specs.06-Good.{Good}
 use Rattle.rules.specs.09-Refusals.{unknown-sds, sds-name-taken, holds-presence, free-sdss, no-free-sds}
 use Rattle.rules.specs.09-Refusals.Outcome.{done}
 use Rattle.rules.specs.10-Changes.{new-sds, new-sds-number, new-sds-refusals, remove-sds, remove-sds-refusals}
-use Rattle.rules.specs.04-Schema.{with-sdss}
 use Rattle.rules.specs.13-History.{next}
 use Rattle.rules.specs.Parts.{of-sdss, Sdss}
 use Rattle.rules.proofs.Bools.{or-neither, and-of}

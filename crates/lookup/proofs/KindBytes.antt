@@ -8,7 +8,7 @@ use lib.Dec.{ltb, eqb}
 use lib.ListN.{length, getD, take, drop, length-take, length-drop}
 use lib.Seq.{drop-drop, getD-drop}
 use borrow.Author.Tests.{ltb-true, ltb-false, eqb-true, eqb-false, ne-eqb}
-use Rattle.rules.specs.04-Schema.{Kind, kind-of, is-used, is-object, is-link}
+use Rattle.rules.specs.04-Schema.{Kind, kind-of, is-used, is-object, is-link, kind-code}
 use Rattle.rules.specs.04-Schema.Kind.{unused, object, attribute, designation, paired}
 use Rattle.rules.specs.07-Picture.{Sound, pad, type-row, base-length, type-width}
 use Rattle.rules.specs.Read.{read-kind, count-offset, parents-offset, reverse-offset, value-offset}
@@ -16,7 +16,6 @@ use Rattle.rows.specs.Rows.{part}
 use Rattle.rows.proofs.Rows.{part-byte}
 use Rattle.base.specs.Rows.{type-at}
 use Rattle.base.specs.Back.{schema-of, kind-shown}
-use Rattle.rules.specs.04-Schema.{kind-code}
 use Rattle.base.proofs.Back.{sound-canonical}
 use Rattle.base.proofs.Shown.{kind-is, kind-none, shows-attribute, shows-designation, shows-paired, shows-unused}
 

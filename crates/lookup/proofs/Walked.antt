@@ -7,10 +7,9 @@ use mathlib.Core.Bool.{Bool, true, false}
 use lib.Dec.{ltb, eqb}
 use lib.ListN.{getD}
 use borrow.Author.Tests.{ltb-true, ltb-false, eqb-true, eq-eqb}
-use Rattle.rules.specs.01-Lists.{_∈_, any}
+use Rattle.rules.specs.01-Lists.{_∈_, any, place}
 use Rattle.rules.specs.02-Limits.{limits}
 use Rattle.rules.specs.04-Schema.{Presence, Application, End, system-presence, holds-type, present, local-name}
-use Rattle.rules.specs.01-Lists.{place}
 use Rattle.rules.proofs.Bools.{and-both, and-of}
 use Rattle.rules.proofs.01-Lists.{any-at, any-none}
 use Rattle.rules.specs.Read.{strip, name-offset, type-offset}

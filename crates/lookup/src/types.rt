@@ -5,11 +5,10 @@ ghost use mathlib.Core.Path.{_≡_};
 ghost use Prim.Native.Nat.{_<_};
 ghost use lib.Dec.{eqb};
 ghost use lib.ListN.{length};
-ghost use Rattle.rules.specs.04-Schema.{kind-of};
+ghost use Rattle.rules.specs.04-Schema.{kind-of, kind-code};
 ghost use Rattle.rules.specs.07-Picture.{Sound, base-length};
 ghost use Rattle.base.specs.Back.{schema-of};
 ghost use Rattle.lookup.specs.Found.{Free-type};
-ghost use Rattle.rules.specs.04-Schema.{kind-code};
 
 // Whether type t is of the kind with that code: 1 object, 2 attribute, 3 link.
 pub fn is_kind(base: &[u8], t: usize, code: usize) -> bool

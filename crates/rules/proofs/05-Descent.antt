@@ -10,17 +10,15 @@ use mathlib.Core.Bool.{Bool, true, false, _||_, false≢true}
 use lib.Dec.{ltb, eqb}
 use lib.ListN.{length, getD, List·getD-eq-default}
 use borrow.Author.Tests.{ltb-false, ltb-true, eqb-true, eq-eqb}
-use Rattle.rules.specs.01-Lists.{_∈_, rising}
+use Rattle.rules.specs.01-Lists.{_∈_, rising, greatest}
 use Rattle.rules.specs.04-Schema.{Schema, Kind, kind-of, is-used, is-object, parents, parents-in}
 use Rattle.rules.specs.04-Schema.Kind.{unused, object, attribute, designation, paired}
 use Rattle.rules.specs.05-Descent.{Parent, Descends, Chain, climbs, descends, height, depth, members}
-use Rattle.rules.specs.01-Lists.{greatest}
 use Rattle.rules.specs.05-Descent.Descends.{by-parent, by-step}
 use Rattle.rules.specs.05-Descent.Chain.{at-root, up}
 use Rattle.rules.specs.06-Good.{Good}
 use Rattle.rules.proofs.Bools.{or-cases, or-left, or-right}
-use Rattle.rules.proofs.01-Lists.{any-at, any-where, numbers-in, numbers-of, numbers-rising, rising-once, Different, at-most}
-use Rattle.rules.proofs.01-Lists.{numbers-most}
+use Rattle.rules.proofs.01-Lists.{any-at, any-where, numbers-in, numbers-of, numbers-rising, rising-once, Different, at-most, numbers-most}
 
 -- descent over parents that were there
 pub descends-over : {s s′ : Schema} → ((t a : ℕ) → Parent s t a → Parent s′ t a) → {t a : ℕ} → Descends s t a → Descends s′ t a

@@ -10,8 +10,7 @@ use lib.ListN.{length, getD, replicate}
 use Rattle.rules.specs.01-Lists.{_∈_, any, all, rising}
 use Rattle.rules.specs.03-Names.{Name, letter, letter-or-digit, well-formed}
 use borrow.Author.Tests.{eqb-true}
-use Rattle.rules.specs.04-Schema.{Schema, Kind, Presence, fresh, system-presence, used-sds, kind-of, is-used, parents}
-use Rattle.rules.specs.04-Schema.{holds-type, present}
+use Rattle.rules.specs.04-Schema.{Schema, Kind, Presence, fresh, system-presence, used-sds, kind-of, is-used, parents, holds-type, present}
 use Rattle.rules.specs.04-Schema.Kind.{unused, object, attribute, paired}
 use Rattle.rules.specs.05-Descent.{Parent, Descends}
 use Rattle.rules.specs.05-Descent.Descends.{by-parent, by-step}

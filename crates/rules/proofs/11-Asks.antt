@@ -12,7 +12,7 @@ use lib.ListN.{length, getD, take, drop}
 use lib.Pow.{shr-shr}
 use Rattle.rules.specs.Read.{name-offset}
 use Rattle.rules.specs.02-Limits.{limits}
-use Rattle.rules.specs.01-Lists.{any, all, first}
+use Rattle.rules.specs.01-Lists.{any, all, first, place}
 use Rattle.rules.specs.03-Names.{Name}
 use Rattle.rules.specs.04-Schema.{Schema, Presence, system-presence, holds-type, present, local-name}
 use Rattle.rules.specs.05-Descent.{descends, members}
@@ -21,7 +21,6 @@ use Rattle.rules.specs.07-Picture.{sds-row, type-row, picture, name-star
 use Rattle.rules.specs.08-Working.{visible, shown}
 use Rattle.rules.specs.09-Refusals.{Outcome, answer-of, not-present}
 use Rattle.rules.specs.11-Asks.{name, name-refusals, one-if, marks, visible-descendant, object-scan-list}
-use Rattle.rules.specs.01-Lists.{place}
 use Rattle.rules.specs.13-History.{Whole-list}
 use Rattle.rules.proofs.05-Descent.{members-rising, descends-sound, descends-full}
 use Rattle.rules.proofs.01-Lists.{place-in}

@@ -2,13 +2,11 @@
 use mathlib.Core.Path.{_≡_, refl}
 use mathlib.Core.List.{_++_}
 use mathlib.Core.Bool.{true}
-use Rattle.rules.specs.01-Lists.{same-bytes, bytes-before, any, all, first, without, rising, put, put-all, place, repeated, numbers}
+use Rattle.rules.specs.01-Lists.{same-bytes, bytes-before, any, all, first, without, rising, put, put-all, place, repeated, numbers, greatest}
 use Rattle.rules.specs.03-Names.{letter, letter-or-digit, well-formed, same-name, name-before, parted, names-in}
-use Rattle.rules.specs.04-Schema.{fresh, used-sds, parents, is-parent, reverse, present, bears, type-named, local-name, applied}
-use Rattle.rules.specs.04-Schema.{has-end}
+use Rattle.rules.specs.04-Schema.{fresh, used-sds, parents, is-parent, reverse, present, bears, type-named, local-name, applied, has-end}
 use Rattle.rules.specs.06-Good.{presence-before, application-before, end-before}
 use Rattle.rules.specs.05-Descent.{climbs, descends, height, depth, members}
-use Rattle.rules.specs.01-Lists.{greatest}
 use Rattle.rules.specs.07-Picture.{pad, sds-row, type-row, table, name-start}
 use Rattle.rules.specs.08-Working.{listed-sdss, visible, applied-in, end-in, shown, upward}
 use Rattle.rules.specs.09-Refusals as Refusals

@@ -10,8 +10,7 @@ use lib.Dec.{eqb}
 use lib.ListN.{length, getD, set, take, drop}
 use lib.Seq.{getD-set-same, getD-set-other}
 use borrow.Author.Tests.{eqb-true, eqb-false}
-use Rattle.rules.specs.01-Lists.{_∈_, any, first, without, rising, put}
-use Rattle.rules.specs.01-Lists.{put-all}
+use Rattle.rules.specs.01-Lists.{_∈_, any, first, without, rising, put, put-all}
 use Rattle.rules.proofs.Bools.{or-neither, and-both, and-of}
 
 -- ---- one put in

@@ -6,17 +6,16 @@ use lib.Dec.{ltb, eqb}
 use lib.ListN.{length, getD, set}
 use Rattle.rules.specs.01-Lists.{any, among, repeated, without, put, put-all}
 use Rattle.rules.specs.03-Names.{Name, blank, names-in}
-use Rattle.rules.specs.04-Schema.{with-sdss, with-types, with-presences, with-applications, with-ends}
-use Rattle.rules.specs.04-Schema.{Schema, Kind, Presence, Side, End, reverse, with-reverse, present, type-named}
-use Rattle.rules.specs.04-Schema.{local-name, holds-type, applied, is-application, has-end, is-end, other-side}
-use Rattle.rules.specs.06-Good.{presence-before}
-use Rattle.rules.specs.06-Good.{application-before, end-before}
+use Rattle.rules.specs.04-Schema.{with-sdss, with-types, with-presences, with-applications, with-ends, Schema, Kind, Presence, Side, End}
+use Rattle.rules.specs.04-Schema.{reverse, with-reverse, present, type-named, local-name, holds-type, applied, is-application, has-end, is-end}
+use Rattle.rules.specs.04-Schema.{other-side}
+use Rattle.rules.specs.06-Good.{presence-before, application-before, end-before}
 use Rattle.rules.specs.04-Schema.Kind.{unused, object, attribute, designation, paired}
 use Rattle.rules.specs.04-Schema.Side.{origin, destination}
 use Rattle.rules.specs.09-Refusals.{Outcome, Refusals, _when_, verdict, unknown-sds, system-sds, malformed, malformed-new, unknown-value-kind}
-use Rattle.rules.specs.09-Refusals.{no-pair, not-1-to-4, no-such-name, no-object, no-attribute, no-link, idle-reverse-name}
-use Rattle.rules.specs.09-Refusals.{missing-parent, sds-name-taken, names-taken, borne-by-another, holds-presence, still-used}
-use Rattle.rules.specs.09-Refusals.{no-free-sds, presences-full, applications-full, ends-full, types-full, free-sdss, free-types}
+use Rattle.rules.specs.09-Refusals.{no-pair, not-1-to-4, no-such-name, no-object, no-attribute, no-link, idle-reverse-name, missing-parent}
+use Rattle.rules.specs.09-Refusals.{sds-name-taken, names-taken, borne-by-another, holds-presence, still-used, no-free-sds, presences-full}
+use Rattle.rules.specs.09-Refusals.{applications-full, ends-full, types-full, free-sdss, free-types}
 use Rattle.rules.specs.09-Refusals.Outcome.{done}
 
 -- ---- 2 "New SDS by name; remove SDS by number; it must hold no presence."

@@ -9,10 +9,9 @@ use lib.ListN.{length, getD}
 use Rattle.rules.specs.01-Lists.{_∈_, rising}
 use Rattle.rules.specs.02-Limits.{limits}
 use Rattle.rules.specs.03-Names.{Name, well-formed, same-name}
-use Rattle.rules.specs.04-Schema.{Schema, Kind, Presence, Application, End, system-name, system-presence, used-sds, kind-of}
-use Rattle.rules.specs.04-Schema.{is-used, is-object, is-attribute, is-link, present, has-end, other-side}
-use Rattle.rules.specs.06-Good.{presence-before}
-use Rattle.rules.specs.06-Good.{application-before, end-before}
+use Rattle.rules.specs.04-Schema.{Schema, Kind, Presence, Application, End, system-name, system-presence, used-sds, kind-of, is-used, is-object}
+use Rattle.rules.specs.04-Schema.{is-attribute, is-link, present, has-end, other-side}
+use Rattle.rules.specs.06-Good.{presence-before, application-before, end-before}
 use Rattle.rules.specs.04-Schema.Kind.{object, attribute, paired}
 use Rattle.rules.specs.05-Descent.{Parent, Descends}
 

@@ -9,8 +9,7 @@ use Rattle.base.proofs.Kept.{sound-long, kept-refused, kept-done}
 use Rattle.base.proofs.Shown.{presences-long}
 use Rattle.base.proofs.StoredLaws.{sound-stored, shows-stored}
 use Rattle.rules.proofs.NameTests.{Two-names, two-names}
-use Rattle.change_imports.proofs.ImportLaws.{enter-left, no-room, some-room}
-use Rattle.change_imports.proofs.ImportLaws.{room-second, free-second, entered-both}
+use Rattle.change_imports.proofs.ImportLaws.{enter-left, no-room, some-room, room-second, free-second, entered-both}
 use Rattle.change_imports.proofs.enter_both.Statement.{statement}
 use Rattle.change_imports.proofs.enter_both.Tie as tie
 

@@ -8,6 +8,7 @@ ghost use Prim.Native.Nat.{_<_};
 ghost use lib.ListN.{length};
 ghost use Rattle.rules.specs.03-Names.{names-in};
 ghost use Rattle.rules.specs.14-Run.{says-object};
+ghost use Rattle.rules.specs.14-Run.{says as Run·says};
 ghost use Rattle.run_command.specs.Command.{code-of, command-of};
 
 // Whether the line begins with the command and has as many words.

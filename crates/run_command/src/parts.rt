@@ -7,6 +7,7 @@ ghost use lib.ListN.{length, drop};
 ghost use Rattle.rules.specs.02-Limits.{limits};
 ghost use Rattle.rules.specs.03-Names.{names-in};
 ghost use Rattle.rules.specs.07-Picture.{base-length};
+ghost use Rattle.rules.specs.14-Run.{word as Run·word};
 ghost use Rattle.rules.specs.14-Run.{sds-word, joined};
 ghost use Rattle.base.specs.Back.{schema-of};
 

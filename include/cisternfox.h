@@ -1,24 +1,97 @@
 /* A keeper of schema definition sets (SDSs) over one lent base of bytes.
  *
  * Every function takes every input, a base with spoiled bytes included, and ends in an answer or a numbered refusal. A
- * refusal leaves all that was lent byte for byte as it was. Numbers are tested at their full width. Nothing is kept
- * between calls, and nothing is allocated.
+ * refusal leaves all that was lent byte for byte as it was. Where several numbers would apply, the lowest is told.
+ * Numbers are tested at their full width. Nothing is kept between calls, and nothing is allocated.
  *
- * What the host owes: a pointer of a length above 0 points to so many bytes, and one of length 0 to anything but NULL;
- * what a call may write, a base or an output, overlaps nothing else that is lent; no other thread writes what is lent
- * while a call runs. */
+ * What the host owes. A pointer of a length above 0 points to so many bytes; one of length 0 may be NULL. None needs to
+ * be aligned. What a call may write, a base or an output, overlaps nothing else that is lent, and no other thread reads
+ * or writes it while the call runs. A call that only asks writes no base, so any number of them may run at once on one
+ * base, each with an output of its own.
+ *
+ * Sound is not unspoiled. 1 tells that bytes are no base; but a byte that changes in storage can make another base that
+ * is sound, say one with another letter in a name. A host that stores bases keeps a checksum with each.
+ *
+ * Names of SDSs and of types are 1 to 16 bytes, letters A to Z and a to z, digits and underscores, the first a letter.
+ * They have a length and no byte 0 behind them, and are compared byte for byte. Where a call says that a name is
+ * malformed, an empty one is too. An SDS has a number from 0 to 15, a type one from 0 to 127. */
 #ifndef CISTERNFOX_H
 #define CISTERNFOX_H
 
 #include <stddef.h>
 #include <stdint.h>
 
-/* `no` is 0, done, or the number of the refusal; then the values that the call gives, in order. All others are 0. */
+#define CF_VERSION "0.1.0"
+
+/* What a base has room for, and its length in bytes. tests/c/test.c holds these to the library. */
+#define CF_BASE_LENGTH 13312
+#define CF_SDSS 16
+#define CF_TYPES 128
+#define CF_PRESENCES 512
+#define CF_APPLICATIONS 256
+#define CF_ENDS 512
+#define CF_PARENTS 4
+#define CF_NAME_LENGTH 16
+
+/* So many bytes of output are enough for every call: an entry has two, a list has each type once, and the three lists
+ * of a profile are of three kinds of types. */
+#define CF_OUTPUT_LENGTH (2 * CF_TYPES)
+
+/* What `no` in an answer says. A call's own comment says which of these it can answer, and what each means there. */
+enum cf_no {
+    CF_DONE = 0,
+    CF_NOT_SOUND = 1,       /* the base is not sound; of cf_fresh: the length is wrong */
+    CF_NO_SDS = 2,          /* no SDS has that number */
+    CF_SYSTEM = 3,          /* SDS 0, "system", never changes */
+    CF_MALFORMED = 4,       /* a name is malformed */
+    CF_UNKNOWN = 5,         /* a value kind, a category or a code is unknown, both categories are implicit, or the
+                               parents are not 1 to 4 */
+    CF_NO_TYPE = 6,         /* no type bears the name there, or the type is not there, or not visible */
+    CF_WRONG_KIND = 7,      /* a type is of the wrong kind, or has no reverse to be named */
+    CF_TWICE = 8,           /* a parent is named twice, or an SDS is listed twice */
+    CF_ALREADY = 9,         /* it is there, applied or that end already */
+    CF_PARENT_MISSING = 10, /* a parent of the type is not in the target */
+    CF_TAKEN = 11,          /* the name is taken, or the two names of a call are equal */
+    CF_IN_USE = 12,         /* what is to be removed is still used */
+    CF_NOT_THERE = 13,      /* there is no such application or end to take away */
+    CF_FULL = 14,           /* there is no room in the base */
+    CF_OUTPUT_SHORT = 15    /* the output has too little room */
+};
+
+/* `no` is a number of the above; then the values that the call gives, in order. All others are 0. */
 typedef struct {
     size_t no, one, two, three;
 } cf_answer;
 
-/* The length of a base in bytes. */
+#ifdef __cplusplus
+extern "C" {
+#endif
+
+/* What a number says, as a short sentence for people. */
+static inline const char *cf_words(size_t no)
+{
+    switch (no) {
+    case CF_DONE: return "done";
+    case CF_NOT_SOUND: return "the base is not sound";
+    case CF_NO_SDS: return "no SDS has that number";
+    case CF_SYSTEM: return "SDS 0 never changes";
+    case CF_MALFORMED: return "a name is malformed";
+    case CF_UNKNOWN: return "a kind, category or code is unknown, or the parents are not 1 to 4";
+    case CF_NO_TYPE: return "there is no such type there, or it is not visible";
+    case CF_WRONG_KIND: return "a type is of the wrong kind, or has no reverse to be named";
+    case CF_TWICE: return "a parent or an SDS is given twice";
+    case CF_ALREADY: return "it is there already";
+    case CF_PARENT_MISSING: return "a parent of the type is missing in the target";
+    case CF_TAKEN: return "the name is taken";
+    case CF_IN_USE: return "it is still used";
+    case CF_NOT_THERE: return "there is no such application or end";
+    case CF_FULL: return "there is no room in the base";
+    case CF_OUTPUT_SHORT: return "the output has too little room";
+    default: return "no such number";
+    }
+}
+
+/* The length of a base in bytes: CF_BASE_LENGTH, as the library that is linked has it. */
 size_t cf_base_length(void);
 
 /* Writes a fresh base over any bytes of the right length: SDS 0 "system", holding type 0 "object".
@@ -34,7 +107,8 @@ cf_answer cf_new_sds(uint8_t *base, size_t base_len, const uint8_t *name, size_t
 cf_answer cf_remove_sds(uint8_t *base, size_t base_len, size_t sds);
 
 /* Makes an object type in an SDS. Its parents are 1 to 4 object types, by their local names there in one run of bytes,
- * parted by one space. one: its number, the lowest unused.
+ * parted by one space: "template radio". An empty run is no parents, which is 5; a double, leading or trailing space
+ * makes an empty name, which is 4. one: its number, the lowest unused.
  * 1: the base is not sound; 2: no SDS has the number; 3: it is SDS 0; 4: a name is malformed; 5: the parents are not 1
  * to 4; 6: no type bears a parent's name there; 7: it is no object type; 8: a parent is named twice; 11: a type bears
  * the name in that SDS; 14: there is no room for a type or a presence. */
@@ -79,7 +153,8 @@ cf_answer cf_import(uint8_t *base, size_t base_len, size_t target, size_t source
 cf_answer cf_apply(uint8_t *base, size_t base_len, size_t sds, const uint8_t *attribute, size_t attribute_len,
                    const uint8_t *to, size_t to_len);
 
-/* Takes that away. 1, 2, 3, 4, 6, 7: as above; 13: it is not applied. */
+/* Takes that away.
+ * 1, 2, 3, 4, 6, 7: as for cf_apply; 13: it is not applied. */
 cf_answer cf_unapply(uint8_t *base, size_t base_len, size_t sds, const uint8_t *attribute, size_t attribute_len,
                      const uint8_t *to, size_t to_len);
 
@@ -91,15 +166,18 @@ cf_answer cf_unapply(uint8_t *base, size_t base_len, size_t sds, const uint8_t *
 cf_answer cf_apply_link(uint8_t *base, size_t base_len, size_t sds, const uint8_t *link, size_t link_len,
                         const uint8_t *object, size_t object_len);
 
-/* Takes both away. 1, 2, 3, 4, 6, 7: as above; 13: it is not that end. */
+/* Takes both away.
+ * 1, 2, 3, 4, 6, 7: as for cf_apply_link; 13: it is not that end. */
 cf_answer cf_unapply_link(uint8_t *base, size_t base_len, size_t sds, const uint8_t *link, size_t link_len,
                           const uint8_t *object, size_t object_len);
 
-/* The converse: the object type becomes a destination of the link type and an origin of its reverse. */
+/* The converse: the object type becomes a destination of the link type and an origin of its reverse, if it has one.
+ * 1, 2, 3, 4, 6, 7, 9, 14: as for cf_apply_link. */
 cf_answer cf_add_destination(uint8_t *base, size_t base_len, size_t sds, const uint8_t *link, size_t link_len,
                              const uint8_t *object, size_t object_len);
 
-/* Takes both away. 1, 2, 3, 4, 6, 7: as above; 13: it is not that end. */
+/* Takes both away.
+ * 1, 2, 3, 4, 6, 7: as for cf_apply_link; 13: it is not that end. */
 cf_answer cf_remove_destination(uint8_t *base, size_t base_len, size_t sds, const uint8_t *link, size_t link_len,
                                 const uint8_t *object, size_t object_len);
 
@@ -116,7 +194,7 @@ cf_answer cf_rename(uint8_t *base, size_t base_len, size_t sds, const uint8_t *n
                     const uint8_t *new_name, size_t new_name_len);
 
 /* Where the local name of a type in an SDS stands. one: its start in the base; two: its length. A later change of the
- * base may move it.
+ * base may move it, and it lies in the base: copy it before it is handed to a call that changes that base.
  * 1: the base is not sound; 2: no SDS has the number; 6: the type is not in that SDS. */
 cf_answer cf_name(const uint8_t *base, size_t base_len, size_t sds, size_t type);
 
@@ -125,7 +203,8 @@ cf_answer cf_name(const uint8_t *base, size_t base_len, size_t sds, size_t type)
  * is applied, an origin or a destination in a listed SDS counts.
  *
  * `output` takes a list: types in rising number, each once, an entry being two bytes, low byte first. Its room is
- * counted in whole entries, and what lies beyond the entries put down stays as it was. */
+ * counted in whole entries, and what lies beyond the entries put down stays as it was. CF_OUTPUT_LENGTH bytes are enough
+ * for every list. */
 
 /* Lists types by their relation to an object type. one: their count.
  * Code 0 is its children, 1 its descendants, 2 its parents, 3 its ancestors,
@@ -169,5 +248,9 @@ cf_answer cf_depth(const uint8_t *base, size_t base_len, const uint8_t *schema, 
  * SDS is listed twice. */
 cf_answer cf_descendant_set(const uint8_t *base, size_t base_len, const uint8_t *schema, size_t schema_len,
                             size_t type);
+
+#ifdef __cplusplus
+}
+#endif
 
 #endif

@@ -4,7 +4,7 @@
 #include <stdio.h>
 #include <string.h>
 
-enum { LENGTH = 13312, OUTPUT = 256, GUARD = 16 };
+enum { LENGTH = CF_BASE_LENGTH, OUTPUT = CF_OUTPUT_LENGTH, GUARD = 16 };
 
 static unsigned passed, failed;
 
@@ -226,7 +226,6 @@ static void a_base_with_links(void)
 
 static void a_fresh_base(void)
 {
-    EXPECT(cf_base_length() == LENGTH);
     memset(area, 0xa5, sizeof area);
     keep();
     ANSWERS(cf_fresh(base, LENGTH - 1), 1, 0, 0, 0);
@@ -625,6 +624,168 @@ static void asked_at_full_width(void)
     EXPECT(is_kept());
 }
 
+/* Names of three letters that rise with their numbers. */
+static const char *numbered(size_t number)
+{
+    static char name[4];
+    name[0] = (char)('a' + number / 676);
+    name[1] = (char)('a' + number / 26 % 26);
+    name[2] = (char)('a' + number % 26);
+    return name;
+}
+
+/* As many things of each kind as the header says, and not one more. */
+static void the_limits(void)
+{
+    size_t made;
+    EXPECT(cf_base_length() == CF_BASE_LENGTH);
+    fresh();
+    for (made = 1; new_sds(numbered(made)).no == CF_DONE; made++)
+        ;
+    EXPECT(made == CF_SDSS && new_sds("more").no == CF_FULL);
+    for (made = 1; NEW_ATTRIBUTE(1, numbered(made), 0).no == CF_DONE; made++)
+        ;
+    EXPECT(made == CF_TYPES && NEW_ATTRIBUTE(1, "more", 0).no == CF_FULL);
+    /* SDS 0 and SDS 1 have what is made so far */
+    size_t target = 2, type = 1;
+    for (; IMPORT(target, 1, numbered(type), "", "").no == CF_DONE; made++)
+        if (++type == CF_TYPES)
+            target++, type = 1;
+    EXPECT(made == CF_PRESENCES && IMPORT(target, 1, numbered(type), "", "").no == CF_FULL);
+
+    fresh();
+    new_sds("bus");
+    IMPORT(1, 0, "object", "", "");
+    for (size_t link = 0; link < 32; link++)
+        NEW_DESIGNATION(1, numbered(link));
+    for (size_t object = 32; object < 64; object++)
+        NEW_OBJECT(1, numbered(object), "object");
+    for (size_t attribute = 64; attribute < 80; attribute++)
+        NEW_ATTRIBUTE(1, numbered(attribute), 0);
+    for (made = 0; made < CF_APPLICATIONS; made++) {
+        char attribute[4];
+        memcpy(attribute, numbered(64 + made % 16), 4);
+        ANSWERS(APPLY(1, attribute, numbered(made / 16)), 0, 0, 0, 0);
+    }
+    EXPECT(APPLY(1, "acm", "object").no == CF_FULL);
+    for (made = 0; made < CF_ENDS; made++) {
+        char link[4];
+        memcpy(link, numbered(made % 32), 4);
+        ANSWERS(APPLY_LINK(1, link, numbered(32 + made / 32)), 0, 0, 0, 0);
+    }
+    EXPECT(APPLY_LINK(1, "aaa", "object").no == CF_FULL);
+    EXPECT(NEW_OBJECT(1, "few", "abg abh abi abj").no == CF_DONE && CF_PARENTS == 4);
+    EXPECT(NEW_OBJECT(1, "many", "abg abh abi abj abk").no == CF_UNKNOWN);
+    EXPECT(cf_new_sds(base, LENGTH, (const uint8_t *)"abcdefghijklmnopq", CF_NAME_LENGTH).no == CF_DONE);
+    EXPECT(cf_new_sds(base, LENGTH, (const uint8_t *)"qbcdefghijklmnopq", CF_NAME_LENGTH + 1).no == CF_MALFORMED);
+}
+
+/* Each number has words of its own. */
+static void words_for_numbers(void)
+{
+    for (size_t no = 0; no <= CF_OUTPUT_SHORT; no++) {
+        EXPECT(strcmp(cf_words(no), "no such number") != 0);
+        for (size_t other = 0; other < no; other++)
+            EXPECT(strcmp(cf_words(no), cf_words(other)) != 0);
+    }
+    EXPECT(strcmp(cf_words(CF_OUTPUT_SHORT + 1), "no such number") == 0);
+    EXPECT(strcmp(cf_words(SIZE_MAX), "no such number") == 0);
+}
+
+/* For every slice of every function: NULL with length 0 does what any other pointer with length 0 does. `none` stands
+ * for a slice that is read, `room` for one that may be written. */
+static const uint8_t *none;
+static uint8_t *room;
+
+static void point(int null)
+{
+    static uint8_t somewhere[1];
+    none = null ? NULL : somewhere;
+    room = null ? NULL : somewhere;
+    memcpy(base, before, LENGTH);
+}
+
+#define ALIKE(call) \
+    do { \
+        static uint8_t after[LENGTH]; \
+        point(0); \
+        cf_answer expected = call; \
+        memcpy(after, base, LENGTH); \
+        point(1); \
+        expect(__LINE__, #call " with NULL", same(call, expected) && memcmp(after, base, LENGTH) == 0); \
+    } while (0)
+
+static void null_with_length_0(void)
+{
+    a_base_with_links();
+    ALIKE(cf_fresh(room, 0));
+    ALIKE(cf_new_sds(room, 0, TEXT("bus")));
+    ALIKE(cf_remove_sds(room, 0, 1));
+    ALIKE(cf_new_object(room, 0, 1, TEXT("unit"), TEXT("top")));
+    ALIKE(cf_new_attribute(room, 0, 1, TEXT("unit"), 0));
+    ALIKE(cf_new_designation(room, 0, 1, TEXT("unit")));
+    ALIKE(cf_new_pair(room, 0, 1, TEXT("unit"), TEXT("of"), 0, 0));
+    ALIKE(cf_import(room, 0, 2, 1, TEXT("nine"), TEXT("ten"), TEXT("")));
+    ALIKE(cf_apply(room, 0, 1, TEXT("five"), TEXT("top")));
+    ALIKE(cf_unapply(room, 0, 1, TEXT("five"), TEXT("low")));
+    ALIKE(cf_apply_link(room, 0, 1, TEXT("nine"), TEXT("top")));
+    ALIKE(cf_unapply_link(room, 0, 1, TEXT("nine"), TEXT("low")));
+    ALIKE(cf_add_destination(room, 0, 1, TEXT("nine"), TEXT("low")));
+    ALIKE(cf_remove_destination(room, 0, 1, TEXT("nine"), TEXT("top")));
+    ALIKE(cf_remove_type(room, 0, 1, TEXT("six")));
+    ALIKE(cf_rename(room, 0, 1, TEXT("six"), TEXT("ten")));
+    ALIKE(cf_name(none, 0, 1, TOP));
+    ALIKE(cf_scan_object(none, 0, SCHEMA("\1"), TOP, 0, output, OUTPUT));
+    ALIKE(cf_scan_link(none, 0, SCHEMA("\1"), NINE, 0, output, OUTPUT));
+    ALIKE(cf_profile(none, 0, SCHEMA("\1"), TOP, output, OUTPUT));
+    ALIKE(cf_find(none, 0, SCHEMA("\1"), TEXT("top")));
+    ALIKE(cf_depth(none, 0, SCHEMA("\1"), TOP));
+    ALIKE(cf_descendant_set(none, 0, SCHEMA("\1"), TOP));
+
+    ALIKE(cf_new_sds(base, LENGTH, none, 0));
+    ALIKE(cf_new_object(base, LENGTH, 1, none, 0, TEXT("top")));
+    ALIKE(cf_new_object(base, LENGTH, 1, TEXT("unit"), none, 0));
+    ALIKE(cf_new_attribute(base, LENGTH, 1, none, 0, 0));
+    ALIKE(cf_new_designation(base, LENGTH, 1, none, 0));
+    ALIKE(cf_new_pair(base, LENGTH, 1, none, 0, TEXT("of"), 0, 0));
+    ALIKE(cf_new_pair(base, LENGTH, 1, TEXT("has"), none, 0, 0, 0));
+    ALIKE(cf_import(base, LENGTH, 2, 1, none, 0, TEXT("ten"), TEXT("")));
+    ALIKE(cf_import(base, LENGTH, 2, 1, TEXT("nine"), none, 0, TEXT("")));
+    ALIKE(cf_import(base, LENGTH, 2, 1, TEXT("nine"), TEXT("ten"), none, 0));
+    ALIKE(cf_import(base, LENGTH, 2, 1, TEXT("nine"), none, 0, none, 0));
+    ALIKE(cf_apply(base, LENGTH, 1, none, 0, TEXT("top")));
+    ALIKE(cf_apply(base, LENGTH, 1, TEXT("five"), none, 0));
+    ALIKE(cf_unapply(base, LENGTH, 1, none, 0, TEXT("low")));
+    ALIKE(cf_unapply(base, LENGTH, 1, TEXT("five"), none, 0));
+    ALIKE(cf_apply_link(base, LENGTH, 1, none, 0, TEXT("top")));
+    ALIKE(cf_apply_link(base, LENGTH, 1, TEXT("nine"), none, 0));
+    ALIKE(cf_unapply_link(base, LENGTH, 1, none, 0, TEXT("low")));
+    ALIKE(cf_unapply_link(base, LENGTH, 1, TEXT("nine"), none, 0));
+    ALIKE(cf_add_destination(base, LENGTH, 1, none, 0, TEXT("low")));
+    ALIKE(cf_add_destination(base, LENGTH, 1, TEXT("nine"), none, 0));
+    ALIKE(cf_remove_destination(base, LENGTH, 1, none, 0, TEXT("top")));
+    ALIKE(cf_remove_destination(base, LENGTH, 1, TEXT("nine"), none, 0));
+    ALIKE(cf_remove_type(base, LENGTH, 1, none, 0));
+    ALIKE(cf_rename(base, LENGTH, 1, none, 0, TEXT("ten")));
+    ALIKE(cf_rename(base, LENGTH, 1, TEXT("six"), none, 0));
+    ALIKE(cf_find(base, LENGTH, SCHEMA("\1"), none, 0));
+
+    /* an empty list of SDSs; and an output of length 0, for lists that have entries and for one that has none */
+    ALIKE(cf_scan_object(base, LENGTH, none, 0, TOP, 0, output, OUTPUT));
+    ALIKE(cf_scan_object(base, LENGTH, SCHEMA("\1"), TOP, 0, room, 0));
+    ALIKE(cf_scan_object(base, LENGTH, SCHEMA("\2"), TOP, 4, room, 0));
+    ALIKE(cf_scan_link(base, LENGTH, none, 0, NINE, 0, output, OUTPUT));
+    ALIKE(cf_scan_link(base, LENGTH, SCHEMA("\1"), NINE, 0, room, 0));
+    ALIKE(cf_scan_link(base, LENGTH, SCHEMA("\1"), SEVEN, 4, room, 0));
+    ALIKE(cf_profile(base, LENGTH, none, 0, TOP, output, OUTPUT));
+    ALIKE(cf_profile(base, LENGTH, SCHEMA("\1"), TOP, room, 0));
+    ALIKE(cf_profile(base, LENGTH, SCHEMA("\0"), 0, room, 0));
+    ALIKE(cf_find(base, LENGTH, none, 0, TEXT("top")));
+    ALIKE(cf_depth(base, LENGTH, none, 0, TOP));
+    ALIKE(cf_descendant_set(base, LENGTH, none, 0, TOP));
+    EXPECT(is_guarded());
+}
+
 static void a_spoiled_base_asked(void)
 {
     a_base_with_links();
@@ -663,6 +824,9 @@ int main(void)
     refusals_in_order();
     asked_at_full_width();
     a_spoiled_base_asked();
+    the_limits();
+    words_for_numbers();
+    null_with_length_0();
     printf("c: %u passed, %u failed\n", passed, failed);
     return failed == 0 ? 0 : 1;
 }

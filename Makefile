@@ -1,0 +1,19 @@
+# Each target calls a script. `make help` lists them.
+PREFIX ?= /usr/local
+
+build:
+	@bash scripts/build
+demo:
+	@bash scripts/demo
+session:
+	@bash scripts/session
+check:
+	@bash .ci/run
+bench:
+	@bash tests/run bench
+install:
+	@bash scripts/install '$(PREFIX)' '$(DESTDIR)'
+help:
+	@sed -n 's/^# make /make /p' scripts/* .ci/run tests/run
+
+.PHONY: build demo session check bench install help

@@ -104,11 +104,6 @@ pub fn start(words: &[String]) -> Result<(Requests, Replies), String> {
 }
 
 impl Requests {
-    /// The places in `CALLS` of the calls that the library has.
-    pub fn calls(&self) -> Vec<usize> {
-        (0..CALLS.len()).filter(|&call| self.functions[call].is_some()).collect()
-    }
-
     /// Asks for the call, one of those, to be made so many times.
     pub fn write(&mut self, call: &Call, lent: &Lent, times: usize) -> std::io::Result<()> {
         let (numbers, slices) = call.inputs();
@@ -185,10 +180,6 @@ impl Library {
         let (requests, replies) = start(words)?;
         let (expected, to_compare) = sync_channel(AHEAD);
         Ok(Library { requests, expected, comparing: spawn(move || replies.compare(to_compare)) })
-    }
-
-    pub fn calls(&self) -> Vec<usize> {
-        self.requests.calls()
     }
 
     /// Has the call made on what is lent before, and the answer and what it leaves compared. Fails when the process

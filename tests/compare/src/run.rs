@@ -9,10 +9,6 @@ use crate::random::{Caller, Mode, Random};
 use crate::schema::Schema;
 use crate::spoil::{spoiled, WAYS};
 
-/// As long as a library lacks calls, the keeper alone makes so many before each call that is compared, so that bases
-/// get rich all the same.
-const LED: usize = 3;
-
 pub struct Run {
     caller: Caller,
     /// The present base, which is sound, and its schema.
@@ -20,8 +16,6 @@ pub struct Run {
     pub schema: Schema,
     /// Without one the keeper's own answers are checked, and that is all.
     library: Option<Library>,
-    /// The calls that are compared, as places in `CALLS`.
-    calls: Vec<usize>,
     /// Where the run is, in words.
     place: String,
     pub counts: Counts,
@@ -30,9 +24,8 @@ pub struct Run {
 impl Run {
     pub fn new(library: Option<Library>) -> Run {
         let schema = Schema::fresh();
-        let calls = library.as_ref().map_or((0..CALLS.len()).collect(), Library::calls);
         let (caller, base) = (Caller::new(0), to_bytes(&schema));
-        Run { caller, base, schema, library, calls, place: String::new(), counts: Counts::new() }
+        Run { caller, base, schema, library, place: String::new(), counts: Counts::new() }
     }
 
     /// A history of so many calls and so many on spoiled bases, spread over it. It depends on nothing but the numbers.
@@ -62,9 +55,9 @@ impl Run {
         self.check_base()
     }
 
-    /// The next call that is compared, on the present base.
+    /// The next call, on the present base.
     pub fn step(&mut self) -> Result<(), String> {
-        let call = self.next_call();
+        let call = self.caller.call(&self.schema);
         let before = self.lent(self.base.clone(), &call);
         let mut after = before.clone();
         let answer = apply_to(&mut self.schema, &mut after.base, &mut after.output, &call);
@@ -92,7 +85,7 @@ impl Run {
         if self.caller.random.one_in(10) {
             self.on_any_bytes(base.clone(), &Call::Fresh)?;
         }
-        let telling: Vec<usize> = self.calls.iter().copied().filter(|&call| call != Call::Fresh.index()).collect();
+        let telling: Vec<usize> = (0..CALLS.len()).filter(|&call| call != Call::Fresh.index()).collect();
         let call = self.caller.any_of(&self.schema, &telling);
         let (answer, after) = self.on_any_bytes(base, &call)?;
         self.counts.spoiled[way][usize::from(answer[0] == 1)] += 1;
@@ -101,28 +94,6 @@ impl Run {
         }
         self.place = place;
         Ok(())
-    }
-
-    /// Calls that are not compared lead on to it.
-    fn next_call(&mut self) -> Call {
-        let mut base_is_old = false;
-        let mut call = self.caller.call(&self.schema);
-        for _ in 0..LED {
-            if self.calls.contains(&call.index()) {
-                break;
-            }
-            if !call.asks() {
-                base_is_old |= call.on(&mut self.schema, 0).no == 0;
-            }
-            call = self.caller.call(&self.schema);
-        }
-        if base_is_old {
-            self.base = to_bytes(&self.schema);
-        }
-        match self.calls.contains(&call.index()) {
-            true => call,
-            false => self.caller.any_of(&self.schema, &self.calls),
-        }
     }
 
     fn on_any_bytes(&mut self, base: Vec<u8>, call: &Call) -> Result<([usize; 4], Lent), String> {

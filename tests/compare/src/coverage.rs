@@ -80,11 +80,14 @@ impl Counts {
         }
     }
 
-    /// How many pairs of a call and a number that it can answer came up too seldom, of the calls that were made.
-    pub fn seldom(&self) -> usize {
-        let made = CALLS.iter().zip(&self.answered).filter(|(_, counts)| **counts != [0; 16]);
-        let numbers = made.flat_map(|(call, counts)| call.refusals.iter().chain(&[0]).map(|&no| counts[no]));
-        numbers.filter(|&count| count < OFTEN).count()
+    /// The pairs of a call and a number that it can answer that came up too seldom, in words.
+    pub fn seldom(&self) -> Vec<String> {
+        let mut seldom = Vec::new();
+        for (call, counts) in CALLS.iter().zip(&self.answered) {
+            let numbers = [0].iter().chain(call.refusals).filter(|&&no| counts[no] < OFTEN);
+            seldom.extend(numbers.map(|no| format!("{} {no}", call.name)));
+        }
+        seldom
     }
 
     pub fn print(&self) {
@@ -105,7 +108,7 @@ impl Counts {
         print!("{:<19}", "call");
         (0..16).for_each(|no| print!("{no:>6}"));
         println!("{:>8}", "done");
-        for (call, counts) in CALLS.iter().zip(&self.answered).filter(|(_, counts)| **counts != [0; 16]) {
+        for (call, counts) in CALLS.iter().zip(&self.answered) {
             print!("{:<19}", call.name);
             for (no, count) in counts.iter().enumerate() {
                 match no == 0 || call.refusals.contains(&no) {
@@ -114,8 +117,12 @@ impl Counts {
                 }
             }
             let on_sound = counts.iter().sum::<usize>() - counts[1];
-            println!("{:>7.0}%", 100.0 * counts[0] as f64 / on_sound as f64);
+            println!("{:>7.0}%", 100.0 * counts[0] as f64 / on_sound.max(1) as f64);
         }
-        println!("pairs of a call and a number that came up less than {OFTEN} times: {}", self.seldom());
+        let seldom = self.seldom();
+        println!("pairs of a call and a number that came up less than {OFTEN} times: {}", seldom.len());
+        if !seldom.is_empty() {
+            println!("    {}", seldom.join(", "));
+        }
     }
 }

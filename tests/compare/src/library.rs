@@ -64,8 +64,8 @@ impl Area {
 /// The end of the process that takes requests.
 pub struct Requests {
     input: BufWriter<ChildStdin>,
-    /// For each of `CALLS` the place of its function among those that the library has.
-    functions: [Option<usize>; CALLS.len()],
+    /// For each of `CALLS` the place of its function among those that are served.
+    functions: [usize; CALLS.len()],
 }
 
 /// The end of the process that gives replies.
@@ -95,22 +95,31 @@ pub fn start(words: &[String]) -> Result<(Requests, Replies), String> {
     if served.next() != Some(&LENGTH.to_string()) {
         return Err(format!("a base has {LENGTH} bytes, but not in the library: {line:?}"));
     }
-    let names: Vec<&str> = served.collect();
-    let functions = CALLS.each_ref().map(|call| names.iter().position(|name| *name == call.name));
-    if functions.iter().flatten().count() < names.len() {
-        return Err(format!("a function that is no call: {line:?}"));
-    }
+    let functions = places_in(&served.collect::<Vec<_>>())?;
     Ok((Requests { input, functions }, Replies { output, process }))
 }
 
+/// For each of `CALLS` the place of its name, where the names are those of all calls and no others.
+fn places_in(names: &[&str]) -> Result<[usize; CALLS.len()], String> {
+    if let Some(name) = names.iter().find(|name| CALLS.iter().all(|call| call.name != **name)) {
+        return Err(format!("the library has {name}, which is no call"));
+    }
+    let mut places = [0; CALLS.len()];
+    for (place, call) in places.iter_mut().zip(&CALLS) {
+        let found = names.iter().position(|name| *name == call.name);
+        *place = found.ok_or_else(|| format!("the library lacks {}", call.name))?;
+    }
+    Ok(places)
+}
+
 impl Requests {
-    /// Asks for the call, one of those, to be made so many times.
+    /// Asks for the call to be made so many times.
     pub fn write(&mut self, call: &Call, lent: &Lent, times: usize) -> std::io::Result<()> {
         let (numbers, slices) = call.inputs();
         let area = Area::of(lent, slices);
-        let function = self.functions[call.index()].expect("a call that the library has");
         let parts = area.parts.iter().flat_map(|part| [part.start, part.len()]);
-        let head = [function, times].into_iter().chain(numbers).chain(parts).chain([area.bytes.len()]);
+        let head =
+            [self.functions[call.index()], times].into_iter().chain(numbers).chain(parts).chain([area.bytes.len()]);
         for word in head {
             self.input.write_all(&(word as u64).to_le_bytes())?;
         }
@@ -207,7 +216,18 @@ impl Library {
 
 #[cfg(test)]
 mod tests {
-    use super::{Area, Lent};
+    use super::{places_in, Area, Lent};
+    use crate::calls::CALLS;
+
+    #[test]
+    fn every_call_is_served_and_nothing_else() {
+        let mut names = CALLS.map(|call| call.name).to_vec();
+        names.reverse();
+        assert_eq!(places_in(&names), Ok(std::array::from_fn(|call| CALLS.len() - 1 - call)));
+        assert_eq!(places_in(&names[1..]), Err(format!("the library lacks {}", names[0])));
+        names.push("other");
+        assert_eq!(places_in(&names), Err("the library has other, which is no call".into()));
+    }
 
     /// Whatever byte of an area is another afterwards, that is a difference.
     #[test]

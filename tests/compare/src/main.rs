@@ -131,7 +131,7 @@ fn main() -> ExitCode {
     let spoiled: usize = counts.spoiled.as_flattened().iter().sum();
     let calls = counts.answered.as_flattened().iter().sum::<usize>() - spoiled;
     println!("compare: {calls} calls, {spoiled} spoiled bases, {} differences", differences.len());
-    if differences.is_empty() && (options.calls < LONG || counts.seldom() == 0) {
+    if differences.is_empty() && (options.calls < LONG || counts.seldom().is_empty()) {
         ExitCode::SUCCESS
     } else {
         ExitCode::FAILURE

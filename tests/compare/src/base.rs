@@ -1,5 +1,5 @@
-//! A schema as bytes of a base: section 2 of the design. One schema has one base, and a base is sound exactly when it
-//! is that of a good schema.
+//! A schema as bytes of a base, as `docs/LAYOUT.md` lays it out. One schema has one base, and a base is sound exactly
+//! when it is that of a good schema.
 #![forbid(unsafe_code)]
 
 use crate::schema::{

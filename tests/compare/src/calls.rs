@@ -1,4 +1,4 @@
-//! The calls as values, and a keeper over a lent base and output as the C functions of section 6 of the design are.
+//! The calls as values, and a keeper over a lent base and output, as the functions of `include/cisternfox.h` are.
 #![forbid(unsafe_code)]
 
 use crate::base::{from_bytes, to_bytes, LENGTH};

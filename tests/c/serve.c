@@ -1,5 +1,5 @@
-/* Makes calls of the library for the comparison (tests/compare), which is a process of its own: the archive is x86-64
- * code, so on another machine this program alone runs under an emulator.
+/* Makes calls of the library for the benchmark and, where the comparison (tests/compare) cannot link the archive, for
+ * that: the archive is x86-64 code, so on another machine this program alone runs under an emulator.
  *
  * It writes one line, the length of a base and the names of the functions below, and then answers requests until its
  * input ends. A request is a `struct request`, then one area of bytes that holds all that the call is lent. A reply is

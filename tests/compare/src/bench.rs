@@ -4,8 +4,9 @@
 
 use crate::base::{is_sound, to_bytes};
 use crate::calls::{apply, Call, Text};
-use crate::library::{start, Lent, Replies, Requests};
+use crate::library::{Area, Lent};
 use crate::schema::Schema;
+use crate::served::{start, Replies, Requests};
 use crate::sqlite::{Answered, Sqlite};
 use std::cell::RefCell;
 use std::hint::black_box;
@@ -263,12 +264,12 @@ impl Server {
         let mut round = || {
             requests.write(call, lent, CALLS)?;
             requests.flush()?;
-            replies.read_to(call, lent)
+            replies.read(Area::of(call, lent).bytes.len())
         };
         let reply = round().map_err(|fault| fault.to_string())?;
-        match reply.answer == expected {
+        match reply.found.answer == expected {
             true => Ok(reply.nanoseconds as f64),
-            false => Err(format!("answer {:?} to {call:?}, not {expected:?}", reply.answer)),
+            false => Err(format!("answer {:?} to {call:?}, not {expected:?}", reply.found.answer)),
         }
     }
 

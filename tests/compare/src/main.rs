@@ -1,12 +1,15 @@
 //! Makes random calls by the keeper written from the documents alone and by the library, and compares call by call,
 //! byte by byte: answer, base, output, and the guards around what is lent.
 //!
-//! `compare [--calls N] [--spoiled N] [--seed S] -- PROGRAM..`
+//! `compare [--calls N] [--spoiled N] [--seed S] [-- PROGRAM..]`
 //! `compare bench SQLITE -- PROGRAM..`
 //! `compare cases STDIN STDOUT`
 //!
-//! PROGRAM and its words start the process that serves the library (`tests/c/serve.c`), SQLITE is the program that
-//! asks SQLite (`tests/c/sqlite.c`). STDIN holds the lines of `crates/cases`, STDOUT what they print.
+//! PROGRAM and its words start the process that serves the library (`tests/c/serve.c`); without one the library is the
+//! one linked (`build.rs`). A call that crashes ends the comparison where the library is linked; served, it is named.
+//! SQLITE is the program that asks SQLite (`tests/c/sqlite.c`). STDIN holds the lines of `crates/cases`, STDOUT what
+//! they print.
+#![deny(unsafe_code)]
 
 mod base;
 mod bench;
@@ -15,16 +18,20 @@ mod cases;
 mod coverage;
 mod keeper;
 mod library;
+#[cfg(linked)]
+#[allow(unsafe_code)]
+mod linked;
 mod random;
 mod run;
 mod schema;
+mod served;
 mod spoil;
 mod sqlite;
 #[cfg(test)]
 mod tests;
 
 use coverage::Counts;
-use library::Library;
+use library::library;
 use run::Run;
 use std::io::{stderr, IsTerminal};
 use std::process::ExitCode;
@@ -66,7 +73,7 @@ fn run(options: &Options, program: &[String]) -> Result<(Counts, Vec<String>), S
     let begun = AtomicUsize::new(0);
     let shows_progress = stderr().is_terminal();
     let work = || {
-        let mut run = Run::new(Some(Library::start(program)?));
+        let mut run = Run::new(Some(library(program)?));
         loop {
             let number = begun.fetch_add(1, Ordering::Relaxed);
             if number >= histories {
@@ -114,8 +121,8 @@ fn main() -> ExitCode {
             return bench::bench(sqlite, program);
         }
     }
-    let Some(options) = options(&arguments[..at]).filter(|_| !program.is_empty()) else {
-        eprintln!("compare [--calls N] [--spoiled N] [--seed S] -- PROGRAM..");
+    let Some(options) = options(&arguments[..at]) else {
+        eprintln!("compare [--calls N] [--spoiled N] [--seed S] [-- PROGRAM..]");
         eprintln!("compare bench SQLITE -- PROGRAM..\ncompare cases STDIN STDOUT");
         return ExitCode::from(2);
     };

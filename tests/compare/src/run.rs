@@ -4,7 +4,7 @@
 use crate::base::{from_bytes, is_sound, to_bytes, LENGTH};
 use crate::calls::{apply, apply_to, Call, CALLS};
 use crate::coverage::Counts;
-use crate::library::{Lent, Library};
+use crate::library::{Expected, Lent, Library};
 use crate::random::{Caller, Mode, Random};
 use crate::schema::Schema;
 use crate::spoil::{spoiled, WAYS};
@@ -15,14 +15,14 @@ pub struct Run {
     base: Vec<u8>,
     pub schema: Schema,
     /// Without one the keeper's own answers are checked, and that is all.
-    library: Option<Library>,
+    library: Option<Box<dyn Library>>,
     /// Where the run is, in words.
     place: String,
     pub counts: Counts,
 }
 
 impl Run {
-    pub fn new(library: Option<Library>) -> Run {
+    pub fn new(library: Option<Box<dyn Library>>) -> Run {
         let schema = Schema::fresh();
         let (caller, base) = (Caller::new(0), to_bytes(&schema));
         Run { caller, base, schema, library, place: String::new(), counts: Counts::new() }
@@ -114,7 +114,10 @@ impl Run {
         check(call, before, answer, after).map_err(|fault| format!("{}: keeper {fault}: {call:?}", self.place))?;
         self.counts.answered[call.index()][answer[0]] += 1;
         match &mut self.library {
-            Some(library) => library.compare(&self.place, call, before, answer, after),
+            Some(library) => {
+                let (place, call, after) = (self.place.clone(), call.clone(), after.clone());
+                library.compare(before, Expected { place, call, answer, after })
+            }
             None => Ok(()),
         }
     }
@@ -129,7 +132,7 @@ impl Run {
 
     /// What was counted, and every difference in words.
     pub fn finish(self) -> Result<(Counts, Vec<String>), String> {
-        let differences = self.library.map_or(Ok(Vec::new()), Library::finish)?;
+        let differences = self.library.map_or(Ok(Vec::new()), |library| library.finish())?;
         Ok((self.counts, differences))
     }
 }

@@ -1,8 +1,9 @@
-//! The check of soundness, three of the asking calls and each changing call timed, side by side: the library, the
-//! independent keeper and, for the asking calls, SQLite.
+//! The check of soundness, some of the asking calls and each changing call timed, side by side: the library, the
+//! independent keeper and, for three of the asking calls, SQLite.
 #![forbid(unsafe_code)]
 
 use crate::base::{is_sound, to_bytes};
+use crate::bases::{chain, full, short, typical, worst};
 use crate::calls::{apply, Call, Text};
 use crate::library::{Area, Lent};
 use crate::schema::Schema;
@@ -19,9 +20,6 @@ use std::time::Instant;
 const ROUNDS: usize = 60;
 const CALLS: usize = 100;
 
-/// The working schema of every question.
-const LIST: [u8; 2] = [1, 2];
-
 /// `sqlite` and `program` are the programs that ask SQLite and serve the library, built for the machine at hand.
 pub fn bench(sqlite: &str, program: &[String]) -> ExitCode {
     match tables(sqlite, program) {
@@ -37,23 +35,33 @@ fn tables(sqlite: &str, program: &[String]) -> Result<(), String> {
     let server = Server::start(program)?;
     let machine = std::env::consts::ARCH;
     println!("ns a call, the best of {ROUNDS} rounds of {CALLS}, on {machine}; all built for release\n");
-    println!("{:<9}{:<12}{:>8}{:>8}{:>8}{:>16}", "base", "", "library", "keeper", "memcmp", "library/keeper");
-    for (base, schema) in [("fresh", Schema::fresh()), ("typical", typical()), ("full", full())] {
+    println!(
+        "{:<9}{:<12}{:>8}{:>8}{:>8}{:>16}{:>16}",
+        "base", "", "library", "keeper", "memcmp", "library/keeper", "library/memcmp"
+    );
+    let bases =
+        [("typical", typical()), ("full", full()), ("chain", chain()), ("short", short()), ("worst", worst())];
+    for (base, schema) in [("fresh", Schema::fresh())].iter().chain(&bases) {
         show_progress(base);
-        let [library, keeper, memcmp] = check(&server, &to_bytes(&schema))?;
+        let [library, keeper, memcmp] = check(&server, &to_bytes(schema))?;
         show_progress("");
-        println!("{base:<9}{:<12}{library:>8.0}{keeper:>8.0}{memcmp:>8.0}{:>16.2}", "check", library / keeper);
+        println!(
+            "{base:<9}{:<12}{library:>8.0}{keeper:>8.0}{memcmp:>8.0}{:>16.2}{:>16.1}",
+            "check",
+            library / keeper,
+            library / memcmp
+        );
     }
     println!(
         "\n{:<9}{:<12}{:>8}{:>8}{:>8}{:>8}{:>8}{:>16}{:>16}",
         "base", "", "library", "check", "keeper", "held", "SQLite", "library/keeper", "library/SQLite"
     );
-    for (base, schema) in [("typical", typical()), ("full", full())] {
-        let mut sqlite = Sqlite::start(sqlite, &schema, &LIST)?;
-        for (number, (what, call, about)) in questions(&schema).into_iter().enumerate() {
+    for (base, schema) in &bases {
+        let mut sqlite = Sqlite::start(sqlite, schema, &working_schema(schema))?;
+        for (number, (what, call, about)) in questions(schema).into_iter().enumerate() {
             show_progress(&format!("{base} {what}"));
             let mut ask = || sqlite.ask(number, CALLS, &about);
-            let [library, check, keeper, held, sqlite] = question(&server, &schema, &call, &mut ask)?;
+            let [library, check, keeper, held, sqlite] = question(&server, schema, &call, &mut ask)?;
             show_progress("");
             println!(
                 "{base:<9}{what:<12}{library:>8.0}{:>7.0}%{keeper:>8.0}{held:>8.0}{sqlite:>8.0}{:>16.2}{:>16.2}",
@@ -64,12 +72,28 @@ fn tables(sqlite: &str, program: &[String]) -> Result<(), String> {
         }
     }
     println!(
+        "\n{:<9}{:<12}{:>8}{:>8}{:>8}{:>8}{:>16}",
+        "base", "", "library", "check", "keeper", "held", "library/keeper"
+    );
+    for (base, schema) in bases.iter().filter(|(base, _)| ["typical", "full", "chain"].contains(base)) {
+        for (what, call) in upward(schema) {
+            show_progress(&format!("{base} {what}"));
+            let [library, check, keeper, held] = each_on(&server, schema, &call)?;
+            show_progress("");
+            println!(
+                "{base:<9}{what:<12}{library:>8.0}{:>7.0}%{keeper:>8.0}{held:>8.0}{:>16.2}",
+                100.0 * check / library,
+                library / keeper
+            );
+        }
+    }
+    println!(
         "\n{:<21}{:>8}{:>8}{:>8}{:>8}{:>16}",
         "typical", "library", "check", "keeper", "held", "library/keeper"
     );
     for (what, schema, call) in changes() {
         show_progress(what);
-        let [library, check, keeper, held] = change(&server, &schema, &call)?;
+        let [library, check, keeper, held] = each_on(&server, &schema, &call)?;
         show_progress("");
         // fresh alone makes no check
         let share = if check < library { format!("{:.0}%", 100.0 * check / library) } else { "-".into() };
@@ -88,17 +112,35 @@ fn show_progress(what: &str) {
     }
 }
 
-/// The descendants of a type high up, the profile of the lowest one and a name of many: in the order in which SQLite
-/// numbers them, each with what it is about.
-fn questions(schema: &Schema) -> [(&'static str, Call, String); 3] {
+/// SDSs 1 and 2, where there are both: the working schema of every question.
+fn working_schema(schema: &Schema) -> Vec<u8> {
+    [1, 2].into_iter().filter(|&sds| schema.sdss.contains_key(&sds.into())).collect()
+}
+
+/// The object type with the longest way up.
+fn lowest(schema: &Schema) -> usize {
     let objects = schema.types.keys().copied().filter(|&ty| schema.is_object(ty));
-    let low = objects.max_by_key(|&ty| schema.longest_way_up(ty)).expect("there is type 0");
-    let (high, name) = (1, "object_type_30");
-    let list = LIST.to_vec();
+    objects.max_by_key(|&ty| schema.longest_way_up(ty)).expect("there is type 0")
+}
+
+/// The descendants of the type right below type 0, the profile of the lowest one and a name of many: in the order in
+/// which SQLite numbers them, each with what it is about.
+fn questions(schema: &Schema) -> [(&'static str, Call, String); 3] {
+    let high = schema.descendants(0).into_iter().find(|&ty| schema.longest_way_up(ty) == 1).expect("a child");
+    let (low, name, list) = (lowest(schema), "object_type_30", working_schema(schema));
     [
         ("descendants", Call::ScanObject { schema: list.clone(), ty: high, code: 1 }, high.to_string()),
         ("profile", Call::Profile { schema: list.clone(), ty: low }, low.to_string()),
         ("find", Call::Find { schema: list, name: name.into() }, name.into()),
+    ]
+}
+
+/// What the lowest type has above it.
+fn upward(schema: &Schema) -> [(&'static str, Call); 2] {
+    let (low, list) = (lowest(schema), working_schema(schema));
+    [
+        ("ancestors", Call::ScanObject { schema: list.clone(), ty: low, code: 3 }),
+        ("depth", Call::Depth { schema: list, ty: low }),
     ]
 }
 
@@ -197,23 +239,23 @@ fn changes() -> Vec<(&'static str, Schema, Call)> {
     ]
 }
 
-/// The call by the library, a check by it, and the call by the keeper, over bytes and over what it holds. Each finds
-/// the base as it was.
-fn change(server: &Server, schema: &Schema, call: &Call) -> Result<[f64; 4], String> {
-    let lent = Lent { base: to_bytes(schema), output: Vec::new() };
-    let reply = call.on(&mut schema.clone(), 0);
+/// The call, which is done, by the library, a check by it, and the call by the keeper, over bytes and over what it
+/// holds. Each finds the base as it was.
+fn each_on(server: &Server, schema: &Schema, call: &Call) -> Result<[f64; 4], String> {
+    let reply = call.on(&mut schema.clone(), usize::MAX);
     assert_eq!(reply.no, 0, "{call:?}");
-    let (mut base, mut held) = (lent.base.clone(), schema.clone());
+    let lent = Lent { base: to_bytes(schema), output: vec![0; 2 * reply.list.len()] };
+    let (mut base, mut output, mut held) = (lent.base.clone(), lent.output.clone(), schema.clone());
     side_by_side([
         &mut || server.time(call, &lent, [reply.no, reply.one, reply.two, reply.three]),
         &mut || server.time_check(&lent.base),
         &mut || {
             let again = |base: &mut Vec<u8>| base.copy_from_slice(&lent.base);
-            Ok(time_each(&mut base, again, |base| _ = black_box(apply(black_box(base), &mut [], call))))
+            Ok(time_each(&mut base, again, |base| _ = black_box(apply(black_box(base), &mut output, call))))
         },
         &mut || {
             let again = |held: &mut Schema| *held = schema.clone();
-            Ok(time_each(&mut held, again, |held| _ = black_box(call.on(black_box(held), 0))))
+            Ok(time_each(&mut held, again, |held| _ = black_box(call.on(black_box(held), usize::MAX))))
         },
     ])
 }
@@ -280,84 +322,14 @@ impl Server {
     }
 }
 
-/// 3 SDSs, 100 types.
-fn typical() -> Schema {
-    grown(2, [50, 25, 24], [140, 60, 60])
-}
-
-fn full() -> Schema {
-    let limits = [Schema::PRESENCES, Schema::APPLICATIONS, Schema::ENDS];
-    grown(Schema::SDSS - 1, [60, 27, 40], limits)
-}
-
-/// A schema of so many SDSs beside SDS 0, so many object, attribute and link types in the first of them, the link
-/// types in pairs, and presences, applications and ends up to the limits.
-fn grown(sdss: usize, [objects, attributes, links]: [usize; 3], limits: [usize; 3]) -> Schema {
-    let [presences, applications, ends] = limits;
-    let mut s = Schema::fresh();
-    for sds in 1..=sdss {
-        s.new_sds(format!("sds{sds}").as_bytes());
-        s.import(sds, 0, b"object", b"", b"");
-    }
-    // Several parents, and long ways up.
-    let object = |n: usize| if n == 0 { "object".to_string() } else { format!("object_type_{n}") };
-    let attribute = |n: usize| format!("attribute_{n}");
-    let link = |n: usize| format!("link_{n}");
-    for n in 1..=objects {
-        let parents = if n < 3 { object(n / 2) } else { [object(n / 2), object(n - 1)].join(" ") };
-        s.new_object(1, object(n).as_bytes(), parents.as_bytes());
-    }
-    for n in 0..attributes {
-        s.new_attribute(1, attribute(n).as_bytes(), n % 6);
-    }
-    for n in 0..links / 2 {
-        s.new_pair(1, link(n).as_bytes(), format!("reverse_{n}").as_bytes(), n % 3, 3);
-    }
-    // Parents come before their children, and the last place goes to a type without a reverse.
-    for sds in 2..=sdss {
-        for name in (1..=objects).map(object).chain((0..attributes).map(attribute)).chain((0..links / 2).map(link))
-        {
-            if s.presence_count() < presences {
-                s.import(sds, 1, name.as_bytes(), b"", b"");
-            }
-        }
-    }
-    for sds in 1..=sdss {
-        for n in 0..objects {
-            for to in 0..attributes {
-                if s.application_count() < applications {
-                    s.apply(sds, attribute((n + to) % attributes).as_bytes(), object(to).as_bytes());
-                }
-            }
-            for to in 0..links / 2 {
-                if s.end_count() < ends {
-                    s.apply_link(sds, link((n + to) % (links / 2)).as_bytes(), object(to).as_bytes());
-                }
-            }
-        }
-    }
-    s
-}
-
 #[cfg(test)]
 mod tests {
-    use super::{changes, full, typical};
-    use crate::base::{is_sound, to_bytes};
-    use crate::schema::Schema;
+    use super::changes;
 
     #[test]
     fn every_change_is_done() {
         for (what, schema, call) in changes() {
             assert_eq!(call.on(&mut schema.clone(), 0).no, 0, "{what}");
         }
-    }
-
-    #[test]
-    fn a_typical_and_a_full_base() {
-        let sizes =
-            |s: &Schema| (s.sdss.len(), s.types.len(), [s.presence_count(), s.application_count(), s.end_count()]);
-        assert_eq!(sizes(&typical()), (3, 100, [140, 60, 60]));
-        assert_eq!(sizes(&full()), (16, 128, [512, 256, 512]));
-        assert!(is_sound(&to_bytes(&typical())) && is_sound(&to_bytes(&full())));
     }
 }

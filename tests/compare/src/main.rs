@@ -12,6 +12,7 @@
 #![deny(unsafe_code)]
 
 mod base;
+mod bases;
 mod bench;
 mod calls;
 mod cases;

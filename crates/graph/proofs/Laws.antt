@@ -19,15 +19,15 @@ use Rattle.rules.specs.Read.{count-offset, parents-offset}
 use Rattle.rules.proofs.Bools.{or-cases, or-left, or-right}
 use Rattle.rules.proofs.01-Lists.{Different}
 use Rattle.rules.specs.Parts.{Acyclic}
-use Rattle.rules.proofs.05-Descent.{past, descends-over, members-at-most, members-most}
+use Rattle.rules.proofs.05-Descent.{past, child-object, descends-over, members-at-most, members-most}
 use Rattle.rules.proofs.Parts.{parent-in, parent-of}
 use Rattle.base.specs.Rows.{type-at}
 use Rattle.base.specs.Back.{schema-of}
 use Rattle.type_set.proofs.Members.{members-le, members-same, types-taken, types-passed}
-use Rattle.graph.specs.Graph.{object-in, Grounded, Ready, Settled, Round}
+use Rattle.graph.specs.Graph.{object-in, Grounded, Ready, Settled, Round, Below, Falling}
 use Rattle.lookup.specs.Parents.{Parental}
 use Rattle.graph.specs.Graph.Grounded.{ground}
-use Rattle.lookup.proofs.Parents.{object-below, parent-at, parent-place}
+use Rattle.lookup.proofs.Parents.{object-below, count-few, parent-at, parent-place}
 
 -- ---- how many numbers pass: n of those before t, and those from t on
 
@@ -101,6 +101,15 @@ module _ {s : Schema} where
           (λ w. absurd (idle (record { object = w .object; parents = λ a by. round .kept a (w .parents a by) })));
     }
 
+  -- ---- where parents are numbered below their children
+
+  falls : Falling s → {t a : ℕ} → Descends s t a → a < t
+  falls f (by-parent {t = t} {a = a} by) = f t a by
+  falls f (by-step {t = t} {p = p} by d) = omega (arith, f t p by, falls f d)
+
+  pub falling-acyclic : Falling s → Acyclic (s .types)
+  falling-acyclic f t d = omega (arith, falls f (descends-over parent-of d))
+
 -- ---- on a base
 
 module _ {b : List ℕ} (rows : Parental b) where
@@ -112,6 +121,14 @@ module _ {b : List ℕ} (rows : Parental b) where
     pub has-parents : object-in b t ≡ true → ((i : ℕ) → i < getD b (type-at t + count-offset) 0 → p (getD b (type-at t + parents-offset + i) 0) ≡ true)
         → Ready (schema-of b) p t
     has-parents o f = record { object = o; parents = λ a by. let (i, l, e) = parent-place rows t h a by in rw e at (f i l) }
+
+  -- type 0 has no parent, and the others' places hold numbers below theirs
+  pub rows-fall : getD b (type-at 0 + count-offset) 0 ≡ 0 → ((t : ℕ) → 1 ≤ t → t < 128 → Below b t) → Falling (schema-of b)
+  rows-fall none below zero a by = let (i, l, e) = parent-place rows 0 (omega arith) a by in absurd (omega arith)
+  rows-fall none below (suc t) a by =
+      let h = object-below b (suc t) (child-object by) in
+      let (i, l, e) = parent-place rows (suc t) h a by in
+      rw e at (below (suc t) (omega arith) h i (omega (arith, count-few rows (suc t) h)))
 
   -- where no type is its own ancestor every way up ends: l is the way up to t, no type is in it twice, and n more steps are too many
   ends : Acyclic ((schema-of b) .types) → (n : ℕ) (l : List ℕ) (t : ℕ) → n + length l ≡ 129 → Different l

@@ -5,6 +5,7 @@ use rules::Limits;
 use type_set::TypeSet;
 ghost use mathlib.Core.Path.{_≡_};
 ghost use Prim.Native.Nat.{_<_};
+ghost use mathlib.Core.Bool.{true};
 ghost use lib.ListN.{length};
 ghost use Rattle.rules.specs.02-Limits.{limits};
 ghost use Rattle.rules.specs.05-Descent.{members};
@@ -13,7 +14,7 @@ ghost use Rattle.rules.specs.07-Picture.{base-length};
 ghost use Rattle.rows.specs.Decides.{Decides};
 ghost use Rattle.base.specs.Back.{schema-of};
 ghost use Rattle.type_set.specs.Set.{has};
-ghost use Rattle.graph.specs.Graph.{object-in, Ready, Round};
+ghost use Rattle.graph.specs.Graph.{object-in, Ready, Round, Below, Falling};
 ghost use Rattle.lookup.specs.Parents.{Parental};
 
 fn is_object(base: &[u8], t: usize) -> bool
@@ -76,11 +77,48 @@ fn settle(base: &[u8], s: TypeSet) -> TypeSet
     r
 }
 
+// Whether all four places for parents of `t` hold numbers below it.
+fn type_parents_below(base: &[u8], t: usize) -> bool
+    requires { ⌜ (length (now base) ≡ base-length) × (t < limits .types) ⌝ }
+    ensures { λ r. ⌜ (r ≡ true → Below (now (base .entry)) t) ⌝ }
+{
+    let mut i: usize = 0;
+    while i < 4 {
+        if t <= base::parent(base, t, i) {
+            return false;
+        }
+        i += 1;
+    }
+    true
+}
+
+// Where true, every parent is numbered below its child, as in most bases. A place that holds none is 0, so type 0, with no number
+// below it, goes by its count.
+fn parents_below(base: &[u8]) -> bool
+    requires { ⌜ Parental (now base) ⌝ }
+    ensures { λ r. ⌜ (r ≡ true → Falling (schema-of (now (base .entry)))) ⌝ }
+{
+    if base::parent_count(base, 0) != 0 {
+        return false;
+    }
+    let mut t: usize = 1;
+    while t < Limits::TYPES {
+        if !type_parents_below(base, t) {
+            return false;
+        }
+        t += 1;
+    }
+    true
+}
+
 // Rounds from nothing, until every object type is settled, or a round adds none.
 pub fn is_acyclic(base: &[u8]) -> bool
     requires { ⌜ Parental (now base) ⌝ }
     ensures { λ r. ⌜ Decides (Acyclic ((schema-of (now (base .entry))) .types)) r ⌝ }
 {
+    if parents_below(base) {
+        return true;
+    }
     let objects = object_count(base);
     let mut s = TypeSet::empty();
     let mut n: usize = 0;

@@ -1,18 +1,20 @@
--- Rounds of settling. No type is its own ancestor exactly where every way up from an object type ends, since a way up that meets no
--- type twice is no longer than there are types; and a set to which no round adds has every object type whose ways up end.
--- Assumes nothing.
+-- Ways up. Where parents are numbered below their children none is its own ancestor. Else a walk settles type after type; the types of
+-- a way that is longer than there are types are not all different, so one of them is its own ancestor. Assumes nothing.
 use Prim.Native.Nat.{ℕ, zero, suc, _+_, _-_, _≤_, _<_}
+use native.Mathlib.Numerals.{add-one}
 use native.Mathlib.Omega.{arith}
 use mathlib.Core.Path.{_≡_, refl, sym, ap, _∙_}
 use mathlib.Core.Logic.{_⊎_, inl, inr, ⊎-elim}
 use mathlib.Core.List.{List, [], _∷_, List·Memᴰ·not-nil, List·Memᴰ·cases-cons}
+use mathlib.Core.List.List·Memᴰ.{List·Memᴰ·head, List·Memᴰ·tail}
 use mathlib.Core.Bool.{Bool, true, false, _||_, false≢true}
-use lib.Dec.{eqb}
-use lib.ListN.{length, getD}
+use lib.Dec.{eqb, ltb}
+use lib.ListN.{length, getD, set, drop, length-set, length-drop, drop-of-length-le}
+use lib.Seq.{drop-cons, drop-set-lt, getD-set-same}
 use borrow.Author.Count.{below-more}
-use borrow.Author.Tests.{eqb-true, eq-eqb}
-use Rattle.rules.specs.01-Lists.{_∈_, numbers}
-use Rattle.rules.specs.04-Schema.{Schema}
+use borrow.Author.Tests.{eqb-true, eq-eqb, ne-eqb, ltb-true, ltb-false}
+use Rattle.rules.specs.01-Lists.{_∈_}
+use Rattle.rules.specs.04-Schema.{Schema, is-object, kind-of}
 use Rattle.rules.specs.05-Descent.{Parent, Descends, members}
 use Rattle.rules.specs.05-Descent.Descends.{by-parent, by-step}
 use Rattle.rules.specs.Read.{count-offset, parents-offset}
@@ -23,36 +25,48 @@ use Rattle.rules.proofs.05-Descent.{past, child-object, descends-over, members-
 use Rattle.rules.proofs.Parts.{parent-in, parent-of}
 use Rattle.base.specs.Rows.{type-at}
 use Rattle.base.specs.Back.{schema-of}
-use Rattle.type_set.proofs.Members.{members-le, members-same, types-taken, types-passed}
-use Rattle.graph.specs.Graph.{object-in, Grounded, Ready, Settled, Round, Below, Falling}
+use Rattle.type_set.proofs.Members.{members-le, members-same}
+use Rattle.graph.specs.Graph.{Below, Falling, reached, Unsettled}
 use Rattle.lookup.specs.Parents.{Parental}
-use Rattle.graph.specs.Graph.Grounded.{ground}
-use Rattle.lookup.proofs.Parents.{object-below, count-few, parent-at, parent-place}
+use Rattle.lookup.proofs.Parents.{object-below, parent-below, count-few, parent-at, parent-place}
 
--- ---- how many numbers pass: n of those before t, and those from t on
+-- every way up from t ends, whichever parents it takes
+pub data Grounded (s : Schema) : ℕ → Type 0 where
+  ground : {t : ℕ} → ((a : ℕ) → Parent s t a → Grounded s a) → Grounded s t
 
-module _ (p : ℕ → Bool) where
-  pub count-none : 0 + length (numbers 0 128 p) ≡ length (members p)
-  unfolding members
-  count-none = omega arith
+-- a way up from t: each type on it is a parent of the one before
+abbrev pub Way : Schema → ℕ → List ℕ → Type 0
+Way s t [] = Unit {0}
+Way s t (a ∷ l) = Parent s (reached t l) a × Way s t l
 
-  module _ (n t m : ℕ) (h : t < 128) (so-far : n + length (numbers t (128 - t) p) ≡ m) where
-    pub count-more : p t ≡ true → n + 1 + length (numbers (t + 1) (128 - (t + 1)) p) ≡ m
-    count-more e = omega (arith, ap length (types-taken p t h e))
+-- a walk that has settled p, with every type before t, and is on a way up from t, which stands in w from `at` on: what is settled is
+-- grounded, what is on the way is not settled
+pub record Walk (s : Schema) (p : ℕ → Bool) (t : ℕ) (w : List ℕ) (at : ℕ) : Type 0 where
+  pub grounded : (k : ℕ) → p k ≡ true → Grounded s k
+  pub passed : (k : ℕ) → k < t → p k ≡ true
+  pub way : Way s t (drop at w)
+  pub out : (x : ℕ) → x ∈ drop at w → p x ≡ false
 
-    pub count-skip : p t ≡ false → n + length (numbers (t + 1) (128 - (t + 1)) p) ≡ m
-    count-skip e = omega (arith, ap length (types-passed p t h e))
+-- ---- where a way has come to
 
-  pub count-all : (n t m : ℕ) → 128 ≤ t → n + length (numbers t (128 - t) p) ≡ m → n ≡ m
-  unfolding numbers
-  count-all n t m h so-far =
-      let none : 128 - t ≡ 0 = omega arith in
-      let all = rw none at so-far in
-      omega arith
+module _ (t : ℕ) (w : List ℕ) (at : ℕ) where
+  pub reached-none : length w ≤ at → t ≡ reached t (drop at w)
+  reached-none h = rw (drop-of-length-le w h)
+
+  pub reached-at : at < length w → getD w at 0 ≡ reached t (drop at w)
+  reached-at h = rw (drop-cons w at 0 h)
 
 -- ---- on any schema
 
 module _ {s : Schema} where
+  -- where parents are numbered below their children
+  falls : Falling s → {t a : ℕ} → Descends s t a → a < t
+  falls f (by-parent {t = t} {a = a} by) = f t a by
+  falls f (by-step {t = t} {p = p} by d) = omega (arith, f t p by, falls f d)
+
+  pub falling-acyclic : Falling s → Acyclic (s .types)
+  falling-acyclic f t d = omega (arith, falls f (descends-over parent-of d))
+
   -- where every way up ends there is no way around
   loopless : {t : ℕ} → Grounded s t → Descends s t t → ⊥
   loopless (ground f) d =
@@ -63,65 +77,127 @@ module _ {s : Schema} where
       first {u = u} (by-parent by) = (u, by, inl refl)
       first (by-step {p = a} by d) = (a, by, inr d)
 
-  pub settled-none : (p : ℕ → Bool) → ((k : ℕ) → p k ≡ false) → Settled s p
-  settled-none p none = record {
-    objects = λ t e. absurd (false≢true (sym (none t) ∙ e));
-    grounded = λ t e. absurd (false≢true (sym (none t) ∙ e));
-  }
+  -- what a way has left descends from where it has come to
+  left : (t a : ℕ) (l : List ℕ) → Way s t (a ∷ l) → (x : ℕ) → x ∈ (t ∷ l) → Descends s x a
+  left t a [] (by, w) x i = ⊎-elim (λ e. rw e (by-parent by)) (λ j. absurd (List·Memᴰ·not-nil j)) (List·Memᴰ·cases-cons i)
+  left t a (b ∷ l) (by, w) x i =
+      ⊎-elim
+      (λ e. past (left t b l w x (List·Memᴰ·head e)) by)
+      (λ j. ⊎-elim (λ e. rw e (by-parent by)) (λ k. past (left t b l w x (List·Memᴰ·tail k)) by) (List·Memᴰ·cases-cons j))
+      (List·Memᴰ·cases-cons i)
 
-  -- a round at its start, past a type that it takes, and past one that it does not
-  pub round-none : (p : ℕ → Bool) → Round s 0 p p
-  round-none p = record { kept = λ t e. e; settled = λ h. h; taken = λ t l w. absurd (omega arith) }
+  -- so where no type is its own ancestor a way meets none twice
+  apart : ((x : ℕ) → Descends s x x → ⊥) → (t : ℕ) (l : List ℕ) → Way s t l → Different (t ∷ l)
+  apart h t [] w = (List·Memᴰ·not-nil, tt)
+  apart h t (a ∷ l) (by, w) =
+      let up : (x : ℕ) → x ∈ (t ∷ l) → Descends s x a = left t a l (by, w) in
+      let (other, rest) = apart h t l w in (
+        (λ i. ⊎-elim (λ e. h t (rw (← e) at (up t (List·Memᴰ·head refl)))) other (List·Memᴰ·cases-cons i)),
+        ((λ i. h a (up a (List·Memᴰ·tail i))), rest),
+      )
 
-  module _ {n : ℕ} {p q : ℕ → Bool} (round : Round s n p q) where
-    pub round-more : (r : ℕ → Bool) → Ready s q n → ((k : ℕ) → r k ≡ eqb k n || q k) → Round s (n + 1) p r
-    round-more r ready made = record {
-      kept = λ t e. stays t (round .kept t e);
-      settled = λ h.
-          let g = round .settled h in
-          record {
-            objects = λ t e. ⊎-elim (λ i. rw i (ready .object)) (g .objects t) (either t e);
-            grounded = λ t e. ⊎-elim (λ i. rw i (ground (λ a by. g .grounded a (ready .parents a by)))) (g .grounded t) (either t e);
-          };
-      taken = below-more (λ t. Ready s p t → r t ≡ true) n (λ t l w. stays t (round .taken t l w))
-          (λ w. made n ∙ or-left (eqb n n) (q n) (eq-eqb n n refl));
+  pub walk-none : (p : ℕ → Bool) (w : List ℕ) → length w ≡ 128 → ((k : ℕ) → p k ≡ false) → Walk s p 0 w 128
+  walk-none p w long none =
+      let empty : drop 128 w ≡ [] = drop-of-length-le w {i = 128} (omega arith) in
+      record {
+        grounded = λ k e. absurd (false≢true (sym (none k) ∙ e));
+        passed = λ k h. absurd (omega arith);
+        way = rw empty tt;
+        out = rw empty (λ x i. absurd (List·Memᴰ·not-nil i));
+      }
+
+  module _ {p : ℕ → Bool} {t : ℕ} {w : List ℕ} {at : ℕ} (walk : Walk s p t w at) {c : ℕ} (here : c ≡ reached t (drop at w)) where
+    -- from c, where it has come to, a way goes on to a parent that is not settled
+    pub walk-up : {a : ℕ} → at ≤ length w → 0 < at → Parent s c a → p a ≡ false → Walk s p t (set w (at - 1) a) (at - 1)
+    walk-up {a} le more by e = record {
+      grounded = walk .grounded;
+      passed = walk .passed;
+      way = rw longer ((rw here at by), walk .way);
+      out = rw longer (λ x i. ⊎-elim (λ q. rw q e) (walk .out x) (List·Memᴰ·cases-cons i));
     }
       where
-        stays : (t : ℕ) → q t ≡ true → r t ≡ true
-        stays t e = made t ∙ or-right (eqb t n) (q t) e
+        longer : drop (at - 1) (set w (at - 1) a) ≡ a ∷ drop at w
+        longer =
+            let up : suc (at - 1) ≡ at = omega arith in
+            drop-cons (set w (at - 1) a) (at - 1) 0 (omega (arith, length-set w (at - 1) a))
+            ∙ rw (getD-set-same w (at - 1) a 0 (omega arith), up, drop-set-lt at w (at - 1) a (omega arith))
 
-        either : (t : ℕ) → r t ≡ true → (t ≡ n) ⊎ (q t ≡ true)
-        either t e = ⊎-elim (λ i. inl (eqb-true t n i)) inr (or-cases (eqb t n) (q t) (sym (made t) ∙ e))
+    -- where all its parents are settled c is: r is p with c
+    module _ {r : ℕ → Bool} (parents : (a : ℕ) → Parent s c a → p a ≡ true) (made : (k : ℕ) → r k ≡ eqb k c || p k) where
+      ends : Grounded s c
+      ends = ground (λ a by. walk .grounded a (parents a by))
 
-    pub round-skip : (Ready s q n → ⊥) → Round s (n + 1) p q
-    round-skip idle = record {
-      kept = round .kept;
-      settled = round .settled;
-      taken = below-more (λ t. Ready s p t → q t ≡ true) n (round .taken)
-          (λ w. absurd (idle (record { object = w .object; parents = λ a by. round .kept a (w .parents a by) })));
-    }
+      stays : (k : ℕ) → p k ≡ true → r k ≡ true
+      stays k e = made k ∙ or-right (eqb k c) (p k) e
 
-  -- ---- where parents are numbered below their children
+      settled : r c ≡ true
+      settled = made c ∙ or-left (eqb c c) (p c) (eq-eqb c c refl)
 
-  falls : Falling s → {t a : ℕ} → Descends s t a → a < t
-  falls f (by-parent {t = t} {a = a} by) = f t a by
-  falls f (by-step {t = t} {p = p} by d) = omega (arith, f t p by, falls f d)
+      still : (k : ℕ) → r k ≡ true → Grounded s k
+      still k e = ⊎-elim (λ i. rw (eqb-true k c i) ends) (walk .grounded k) (or-cases (eqb k c) (p k) (sym (made k) ∙ e))
 
-  pub falling-acyclic : Falling s → Acyclic (s .types)
-  falling-acyclic f t d = omega (arith, falls f (descends-over parent-of d))
+      pub settles : length (members p) ≤ length (members r)
+      settles = members-le p r stays
+
+      -- with nothing on the way c is t, and t + 1 is next
+      pub walk-next : length w ≤ at → Walk s r (t + 1) w at
+      walk-next over =
+          let none : drop at w ≡ [] = drop-of-length-le w over in
+          let first : c ≡ t = here ∙ ap (reached t) none in
+          record {
+            grounded = still;
+            passed = below-more (λ k. r k ≡ true) t (λ k h. stays k (walk .passed k h)) (rw first at settled);
+            way = rw none tt;
+            out = rw none (λ x i. absurd (List·Memᴰ·not-nil i));
+          }
+
+      -- else c is the last on the way, and goes off it
+      module _ (h : at < length w) where
+        last : drop at w ≡ c ∷ drop (at + 1) w
+        last =
+            let split : drop at w ≡ getD w at 0 ∷ drop (at + 1) w = rw (add-one at) (drop-cons w at 0 h) in
+            split ∙ ap (λ (x : ℕ). x ∷ drop (at + 1) w) (sym (here ∙ ap (reached t) split))
+
+        before : (x : ℕ) → x ∈ (c ∷ drop (at + 1) w) → p x ≡ false
+        before = rw last at (walk .out)
+
+        trail : Way s t (c ∷ drop (at + 1) w)
+        trail = rw last at (walk .way)
+
+        pub settles-more : c < 128 → length (members p) < length (members r)
+        settles-more u = go (ltb (length (members p)) (length (members r))) refl
+          where
+            go : (b : Bool) → ltb (length (members p)) (length (members r)) ≡ b → length (members p) < length (members r)
+            go true e = ltb-true (length (members p)) (length (members r)) e
+            go false e =
+                let same = members-same p r stays (ltb-false (length (members p)) (length (members r)) e) c u settled in
+                absurd (false≢true (sym (before c (List·Memᴰ·head refl)) ∙ same))
+
+        pub walk-down : Walk s r t w (at + 1)
+        walk-down = record {
+          grounded = still;
+          passed = λ k u. stays k (walk .passed k u);
+          way = trail .1;
+          out = λ x i.
+              let other : x ≡ c → ⊥ = λ e. loopless ends (rw e at (left t c (drop (at + 1) w) trail x (List·Memᴰ·tail i))) in
+              made x ∙ rw (ne-eqb x c other) (before x (List·Memᴰ·tail i));
+        }
 
 -- ---- on a base
 
+module _ (b : List ℕ) where
+  -- with every type settled there is no way around
+  pub walk-done : {p : ℕ → Bool} {t : ℕ} {w : List ℕ} {at : ℕ} → Walk (schema-of b) p t w at → 128 ≤ t → Acyclic ((schema-of b) .types)
+  walk-done walk all t d =
+      let around = descends-over parent-of d in
+      let small = object-below b t (child around) in
+      loopless (walk .grounded t (walk .passed t (omega arith))) around
+    where
+      child : {t a : ℕ} → Descends (schema-of b) t a → is-object (kind-of (schema-of b) t) ≡ true
+      child (by-parent by) = child-object by
+      child (by-step by d) = child-object by
+
 module _ {b : List ℕ} (rows : Parental b) where
-  -- a type is ready where each place below its count holds a type that is in
-  module _ (p : ℕ → Bool) (t : ℕ) (h : t < 128) where
-    pub lacks-parent : (i : ℕ) → i < getD b (type-at t + count-offset) 0 → p (getD b (type-at t + parents-offset + i) 0) ≡ false → Ready (schema-of b) p t → ⊥
-    lacks-parent i l e w = false≢true (sym e ∙ w .parents _ (parent-at rows t h i l))
-
-    pub has-parents : object-in b t ≡ true → ((i : ℕ) → i < getD b (type-at t + count-offset) 0 → p (getD b (type-at t + parents-offset + i) 0) ≡ true)
-        → Ready (schema-of b) p t
-    has-parents o f = record { object = o; parents = λ a by. let (i, l, e) = parent-place rows t h a by in rw e at (f i l) }
-
   -- type 0 has no parent, and the others' places hold numbers below theirs
   pub rows-fall : getD b (type-at 0 + count-offset) 0 ≡ 0 → ((t : ℕ) → 1 ≤ t → t < 128 → Below b t) → Falling (schema-of b)
   rows-fall none below zero a by = let (i, l, e) = parent-place rows 0 (omega arith) a by in absurd (omega arith)
@@ -130,38 +206,47 @@ module _ {b : List ℕ} (rows : Parental b) where
       let (i, l, e) = parent-place rows (suc t) h a by in
       rw e at (below (suc t) (omega arith) h i (omega (arith, count-few rows (suc t) h)))
 
-  -- where no type is its own ancestor every way up ends: l is the way up to t, no type is in it twice, and n more steps are too many
-  ends : Acyclic ((schema-of b) .types) → (n : ℕ) (l : List ℕ) (t : ℕ) → n + length l ≡ 129 → Different l
-      → ((x : ℕ) → x ∈ l → (object-in b x ≡ true) × Descends (schema-of b) x t) → object-in b t ≡ true → Grounded (schema-of b) t
-  ends h zero l t e d up o =
-      absurd (omega (arith, members-at-most (object-in b) l d (λ x i. (object-below b x (up x i .0), up x i .0)), members-most (object-in b)))
-  ends h (suc n) l t e d up o = ground (λ a by.
-      ends h n (t ∷ l) a (omega arith) ((λ i. h t (descends-over parent-in (up t i .1))), d)
-      (λ x i. ⊎-elim (λ q. rw q (o, by-parent by)) (λ j. (up x j .0, past (up x j .1) by)) (List·Memᴰ·cases-cons i))
-      (rows .parents-objects t a by))
+  -- a parent that is not settled stands at a place below the count, and where none does all are
+  module _ (p : ℕ → Bool) (t : ℕ) (h : t < 128) where
+    pub unsettled-at : (i a : ℕ) → i < getD b (type-at t + count-offset) 0 → a ≡ getD b (type-at t + parents-offset + i) 0 → p a ≡ false
+        → Unsettled (schema-of b) p t a
+    unsettled-at i a l e o =
+        let by : Parent (schema-of b) t a = rw e (parent-at rows t h i l) in
+        record { parent = λ u. by; out = λ u. o; none = λ u. absurd (omega (arith, parent-below rows by)) }
 
-  acyclic-grounded : Acyclic ((schema-of b) .types) → (t : ℕ) → object-in b t ≡ true → Grounded (schema-of b) t
-  acyclic-grounded h t o = ends h 129 [] t refl tt (λ x i. absurd (List·Memᴰ·not-nil i)) o
+    pub unsettled-none : ((i : ℕ) → i < getD b (type-at t + count-offset) 0 → p (getD b (type-at t + parents-offset + i) 0) ≡ true)
+        → Unsettled (schema-of b) p t 128
+    unsettled-none f = record {
+      parent = λ u. absurd (omega arith);
+      out = λ u. absurd (omega arith);
+      none = λ u a by. let (i, l, e) = parent-place rows t h a by in rw e at (f i l);
+    }
 
-  -- a set that has every type that is ready has every object type whose ways up end
-  whole : (p : ℕ → Bool) → ((t : ℕ) → t < 128 → Ready (schema-of b) p t → p t ≡ true) → {t : ℕ} → object-in b t ≡ true → Grounded (schema-of b) t → p t ≡ true
-  whole p full o (ground {t = t} f) =
-      full t (object-below b t o) (record { object = o; parents = λ a by. whole p full (rows .parents-objects t a by) (f a by) })
+  module _ (t : ℕ) (h : t < 128) where
+    on-way : (l : List ℕ) → Way (schema-of b) t l → (x : ℕ) → x ∈ (t ∷ l) → x < 128
+    on-way [] w x i = ⊎-elim (λ e. rw e h) (λ j. absurd (List·Memᴰ·not-nil j)) (List·Memᴰ·cases-cons i)
+    on-way (a ∷ l) (by, w) x i =
+        ⊎-elim
+        (λ e. rw e h)
+        (λ j. ⊎-elim (λ e. rw e (parent-below rows by)) (λ k. on-way l w x (List·Memᴰ·tail k)) (List·Memᴰ·cases-cons j))
+        (List·Memᴰ·cases-cons i)
 
-  -- an ancestor is a parent, and so an object type
-  ancestor : {t a : ℕ} → Descends (schema-of b) t a → object-in b a ≡ true
-  ancestor (by-parent {t = t} {a = a} by) = rows .parents-objects t a by
-  ancestor (by-step by d) = ancestor d
+    come-to : (l : List ℕ) → Way (schema-of b) t l → reached t l < 128
+    come-to [] w = h
+    come-to (a ∷ l) (by, w) = parent-below rows by
 
-  -- with every object type settled there is no way around
-  pub all-settled : (p : ℕ → Bool) → Settled (schema-of b) p → length (members (object-in b)) ≤ length (members p) → Acyclic ((schema-of b) .types)
-  all-settled p done le t d =
-      let o = ancestor (descends-over parent-of d) in
-      loopless (done .grounded t (members-same p (object-in b) (done .objects) le t (object-below b t o) o)) (descends-over parent-of d)
+    module _ {p : ℕ → Bool} {w : List ℕ} {at : ℕ} (walk : Walk (schema-of b) p t w at) where
+      pub reached-below : {c : ℕ} → c ≡ reached t (drop at w) → c < 128
+      reached-below here = rw here (come-to (drop at w) (walk .way))
 
-  -- where a round adds none and an object type is not settled, there is one
-  pub none-added : {p q : ℕ → Bool} → Round (schema-of b) 128 p q → length (members q) ≤ length (members p)
-      → length (members q) < length (members (object-in b)) → Acyclic ((schema-of b) .types) → ⊥
-  none-added {p} {q} round le out h =
-      let full : (t : ℕ) → t < 128 → Ready (schema-of b) p t → p t ≡ true = λ t l w. members-same p q (round .kept) le t l (round .taken t l w) in
-      omega (arith, members-le (object-in b) p (λ t o. whole p full o (acyclic-grounded h t o)), members-le p q (round .kept))
+      -- with t, a way of 128 types has more than there are
+      pub too-long : length w ≡ 128 → at ≡ 0 → Acyclic ((schema-of b) .types) → ⊥
+      too-long long full acyclic =
+          let way = t ∷ drop at w in
+          let different = apart (λ x d. acyclic x (descends-over parent-in d)) t (drop at w) (walk .way) in
+          omega (
+            arith,
+            members-at-most (λ x. true) way different (λ x i. (on-way (drop at w) (walk .way) x i, refl)),
+            members-most (λ x. true),
+            length-drop at w,
+          )

@@ -1,81 +1,21 @@
 // Whether no type is its own ancestor, from the rows of types alone.
 
-use base::Base;
 use rules::Limits;
 use type_set::TypeSet;
 ghost use mathlib.Core.Path.{_≡_};
-ghost use Prim.Native.Nat.{_<_};
 ghost use mathlib.Core.Bool.{true};
-ghost use lib.ListN.{length};
+ghost use Prim.Native.Nat.{_<_};
+ghost use lib.ListN.{length, drop};
 ghost use Rattle.rules.specs.02-Limits.{limits};
-ghost use Rattle.rules.specs.05-Descent.{members};
 ghost use Rattle.rules.specs.Parts.{Acyclic};
 ghost use Rattle.rules.specs.07-Picture.{base-length};
 ghost use Rattle.rows.specs.Decides.{Decides};
 ghost use Rattle.base.specs.Back.{schema-of};
 ghost use Rattle.type_set.specs.Set.{has};
-ghost use Rattle.graph.specs.Graph.{object-in, Ready, Round, Below, Falling};
+ghost use Rattle.graph.specs.Graph.{Below, Falling, reached, Unsettled};
 ghost use Rattle.lookup.specs.Parents.{Parental};
 
-fn is_object(base: &[u8], t: usize) -> bool
-    requires { ⌜ length (now base) ≡ base-length ⌝ }
-    ensures { λ r. ⌜ r ≡ object-in (now (base .entry)) t ⌝ }
-{
-    lookup::types::is_kind(base, t, Base::OBJECT)
-}
-
-// How many object types there are.
-fn object_count(base: &[u8]) -> usize
-    requires { ⌜ length (now base) ≡ base-length ⌝ }
-    ensures { λ r. ⌜ r ≡ length (members (object-in (now (base .entry)))) ⌝ }
-{
-    let mut n: usize = 0;
-    let mut k: usize = 0;
-    while k < Limits::TYPES {
-        if is_object(base, k) {
-            n += 1;
-        }
-        k += 1;
-    }
-    n
-}
-
-// Whether `t` is an object type whose parents are all in `s`.
-fn is_ready(base: &[u8], t: usize, s: TypeSet) -> bool
-    requires { ⌜ Parental (now base) × (t < limits .types) ⌝ }
-    ensures { λ r. ⌜ Decides (Ready (schema-of (now (base .entry))) (has s) t) r ⌝ }
-{
-    if !is_object(base, t) {
-        return false;
-    }
-    let n = base::parent_count(base, t);
-    let mut i: usize = 0;
-    while i < n {
-        let a = base::parent(base, t, i);
-        if !s.test(a) {
-            return false;
-        }
-        i += 1;
-    }
-    true
-}
-
-// One round over the types. A type that it adds serves those that come behind it, so children that are numbered above their
-// parents need no further round.
-fn settle(base: &[u8], s: TypeSet) -> TypeSet
-    requires { ⌜ Parental (now base) ⌝ }
-    ensures { λ r. ⌜ Round (schema-of (now (base .entry))) 128 (has s) (has r) ⌝ }
-{
-    let mut r = s;
-    let mut t: usize = 0;
-    while t < Limits::TYPES {
-        if is_ready(base, t, r) {
-            r = r.add(t);
-        }
-        t += 1;
-    }
-    r
-}
+// ---- parents numbered below their children
 
 // Whether all four places for parents of `t` hold numbers below it.
 fn type_parents_below(base: &[u8], t: usize) -> bool
@@ -111,7 +51,37 @@ fn parents_below(base: &[u8]) -> bool
     true
 }
 
-// Rounds from nothing, until every object type is settled, or a round adds none.
+// ---- a walk up
+
+// A parent of `t` that is not in `settled`, or as many as there are types.
+fn unsettled_parent(base: &[u8], t: usize, settled: TypeSet) -> usize
+    requires { ⌜ Parental (now base) × (t < limits .types) ⌝ }
+    ensures { λ r. ⌜ Unsettled (schema-of (now (base .entry))) (has settled) t r ⌝ }
+{
+    let n = base::parent_count(base, t);
+    let mut i: usize = 0;
+    while i < n {
+        let a = base::parent(base, t, i);
+        if !settled.test(a) {
+            return a;
+        }
+        i += 1;
+    }
+    Limits::TYPES
+}
+
+// Where a way up from `t` has come to. The types on it stand from `at` on, the last first.
+fn reached(way: &[u8], at: usize, t: usize) -> usize
+    ensures { λ r. ⌜ r ≡ reached t (drop at (now (way .entry))) ⌝ }
+{
+    if way.len() <= at {
+        return t;
+    }
+    rows::wide(way[at])
+}
+
+// Type after type, a way up from it over parents that are not settled. Where it can go no further its last is settled and goes off the
+// way. With `t`, a way of as many types as there are has one of them twice.
 pub fn is_acyclic(base: &[u8]) -> bool
     requires { ⌜ Parental (now base) ⌝ }
     ensures { λ r. ⌜ Decides (Acyclic ((schema-of (now (base .entry))) .types)) r ⌝ }
@@ -119,16 +89,27 @@ pub fn is_acyclic(base: &[u8]) -> bool
     if parents_below(base) {
         return true;
     }
-    let objects = object_count(base);
-    let mut s = TypeSet::empty();
-    let mut n: usize = 0;
-    while n < objects {
-        s = settle(base, s);
-        let m = s.count();
-        if m == n {
+    let mut way = [0u8; Limits::TYPES];
+    let mut at = Limits::TYPES;
+    let mut settled = TypeSet::empty();
+    let mut t: usize = 0;
+    while t < Limits::TYPES {
+        if at == 0 {
             return false;
         }
-        n = m;
+        let c = reached(&way, at, t);
+        let a = unsettled_parent(base, c, settled);
+        if a < Limits::TYPES {
+            at -= 1;
+            way[at] = a as u8;
+            continue;
+        }
+        settled = settled.add(c);
+        if at < Limits::TYPES {
+            at += 1;
+            continue;
+        }
+        t += 1;
     }
     true
 }

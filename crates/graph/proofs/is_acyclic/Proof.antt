@@ -1,24 +1,24 @@
--- `graph::is_acyclic` meets its contract: the set is settled after every round. With all object types in it there is no way around; where
--- a round adds none and one is out, there is. The measure is the room left for marks. Assumes nothing.
-use Prim.Native.Nat.{_-_, _≤_}
+-- `graph::is_acyclic` meets its contract: a walk goes up, down, or on to the next type. The measure: a step up takes one from the room
+-- of the way, a step down gives one back and settles a type, and a type that is passed counts once. Assumes nothing.
+use Prim.Native.Nat.{_+_, _-_, _*_, _≤_, _<_}
+use mathlib.Core.Path.{_≡_, refl, _∙_}
 use native.Mathlib.Omega.{arith}
-use lib.ListN.{length}
+use lib.ListN.{length, length-set}
 use Rattle.rules.specs.05-Descent.{members}
 use Rattle.rules.proofs.05-Descent.{members-most}
 use Rattle.rows.proofs.Decides.{decides-no, decides-yes}
 use Rattle.base.specs.Back.{schema-of}
 use Rattle.type_set.specs.Set.{has}
-use Rattle.type_set.proofs.Members.{members-le}
-use Rattle.graph.specs.Graph.{Settled}
-use Rattle.graph.proofs.Laws.{falling-acyclic, settled-none, all-settled, none-added}
+use Rattle.graph.proofs.Laws.{falling-acyclic, Walk, walk-none, walk-up, settles, walk-next, settles-more, walk-down, walk-done}
+use Rattle.graph.proofs.Laws.{reached-below, too-long}
 use Rattle.graph.proofs.is_acyclic.Statement.{statement}
 use Rattle.graph.proofs.is_acyclic.Tie as tie
 
 abbrev Inv-loop : tie.InvT-loop
-Inv-loop base objects s₀ n₀ s n = (n ≤ length (members (has s))) × Settled (schema-of base) (has s)
+Inv-loop base way₀ at₀ settled₀ t₀ way at settled t = (t ≤ 128) × (at ≤ 128) × (length way ≡ 128) × Walk (schema-of base) (has settled) t way at
 
 abbrev μ-loop : tie.MeasureT-loop
-μ-loop base objects s₀ n₀ s n = 128 - n
+μ-loop base way₀ at₀ settled₀ t₀ way at settled t = 2 * (128 - length (members (has settled))) + at + (128 - t)
 
 parents-below-requires : tie.Need-parents-below-requires Inv-loop μ-loop
 parents-below-requires c κs = c .before .pre
@@ -26,40 +26,98 @@ parents-below-requires c κs = c .before .pre
 returns : tie.Need-returns Inv-loop μ-loop
 returns c = decides-yes (falling-acyclic (c .before .parents-below .ensures (c .if1 .taken)))
 
-object-count-requires : tie.Need-object-count-requires Inv-loop μ-loop
-object-count-requires c κs = c .before .before .before .pre .long
-
 empty-requires : tie.Need-empty-requires Inv-loop μ-loop
 empty-requires c κs = tt
 
 loop-holds : tie.Need-loop-holds Inv-loop μ-loop
-loop-holds c = (omega arith, settled-none _ (c .empty .ensures))
-
-settle-requires : tie.Need-settle-requires Inv-loop μ-loop
-settle-requires c κs = let start = c .before .before .before .before .before .before .before in start .pre
-
-count-requires : tie.Need-count-requires Inv-loop μ-loop
-count-requires c κs = tt
+loop-holds c = (omega arith, omega arith, refl, walk-none _ _ refl (c .empty .ensures))
 
 returns-2 : tie.Need-returns-2 Inv-loop μ-loop
 returns-2 c =
-    let start = c .before .before .before .before .before .before .before .before .before .before in
-    decides-no (none-added (start .pre) (c .before .before .settle .ensures) (omega arith) (omega arith))
+    let start = c .before .before .before .before .before .before .before in
+    let l = c .before .before .loop in
+    decides-no (too-long (start .pre) (l .t) (omega arith) (l .inv .3) (l .inv .2) (omega arith))
+
+slice-aggregate-reached : tie.Need-slice-aggregate-reached Inv-loop μ-loop
+slice-aggregate-reached c = omega arith
+
+reached-requires : tie.Need-reached-requires Inv-loop μ-loop
+reached-requires c κs = tt
+
+unsettled-parent-requires : tie.Need-unsettled-parent-requires Inv-loop μ-loop
+unsettled-parent-requires c κs =
+    let start = c .before .before .before .before .before .before .before .before .before in
+    let l = c .before .before .before .before .loop in
+    (start .pre, reached-below (start .pre) (l .t) (omega arith) (l .inv .3) (c .reached .ensures))
+
+sub-at : tie.Need-sub-at Inv-loop μ-loop
+sub-at c = omega arith
+
+cast-way : tie.Need-cast-way Inv-loop μ-loop
+cast-way c = omega arith
+
+array-write-way : tie.Need-array-write-way Inv-loop μ-loop
+array-write-way c = omega arith
 
 loop-less : tie.Need-loop-less Inv-loop μ-loop
-loop-less c =
-    let next = c .before .before .settle in
-    omega (arith, members-le _ _ (next .ensures .kept), members-most (has (next .result)))
+loop-less c = omega arith
 
 loop-again : tie.Need-loop-again Inv-loop μ-loop
 loop-again c =
-    let inv = c .before .before .before .before .loop .inv in
-    (omega arith, c .before .before .settle .ensures .settled (inv .1))
+    let l = c .before .before .before .before .before .before .loop in
+    let next = c .before .unsettled-parent in
+    let found : next .result < 128 = omega arith in (
+      omega arith,
+      omega arith,
+      length-set (l .way) (l .at - 1) (next .result) ∙ l .inv .2,
+      walk-up (l .inv .3) (c .before .before .reached .ensures) (omega arith) (omega arith) (next .ensures .parent found) (next .ensures .out found),
+    )
+
+add-requires : tie.Need-add-requires Inv-loop μ-loop
+add-requires c κs =
+    let start = c .before .before .before .before .before .before .before .before .before .before .before in
+    let l = c .before .before .before .before .before .before .loop in
+    reached-below (start .pre) (l .t) (omega arith) (l .inv .3) (c .before .before .reached .ensures)
+
+add-at : tie.Need-add-at Inv-loop μ-loop
+add-at c = omega arith
+
+loop-less-2 : tie.Need-loop-less-2 Inv-loop μ-loop
+loop-less-2 c =
+    let l = c .before .before .before .before .before .before .before .before .loop in
+    let here = c .before .before .before .before .reached .ensures in
+    let parents = c .before .before .before .unsettled-parent .ensures .none (omega arith) in
+    let start = c .before .before .before .before .before .before .before .before .before .before .before .before .before in
+    let small = reached-below (start .pre) (l .t) (omega arith) (l .inv .3) here in
+    let more = settles-more (l .inv .3) here parents (c .before .add .ensures) (omega arith) small in
+    omega (arith, members-most (has (c .before .add .result)))
+
+loop-again-2 : tie.Need-loop-again-2 Inv-loop μ-loop
+loop-again-2 c =
+    let l = c .before .before .before .before .before .before .before .before .loop in
+    let here = c .before .before .before .before .reached .ensures in
+    let parents = c .before .before .before .unsettled-parent .ensures .none (omega arith) in
+    (omega arith, omega arith, l .inv .2, walk-down (l .inv .3) here parents (c .before .add .ensures) (omega arith))
+
+add-t : tie.Need-add-t Inv-loop μ-loop
+add-t c = omega arith
+
+loop-less-3 : tie.Need-loop-less-3 Inv-loop μ-loop
+loop-less-3 c =
+    let l = c .before .before .before .before .before .before .before .before .loop in
+    let here = c .before .before .before .before .reached .ensures in
+    let parents = c .before .before .before .unsettled-parent .ensures .none (omega arith) in
+    omega (arith, settles (l .inv .3) here parents (c .before .add .ensures))
+
+loop-again-3 : tie.Need-loop-again-3 Inv-loop μ-loop
+loop-again-3 c =
+    let l = c .before .before .before .before .before .before .before .before .loop in
+    let here = c .before .before .before .before .reached .ensures in
+    let parents = c .before .before .before .unsettled-parent .ensures .none (omega arith) in
+    (omega arith, omega arith, l .inv .2, walk-next (l .inv .3) here parents (c .before .add .ensures) (omega arith))
 
 returns-3 : tie.Need-returns-3 Inv-loop μ-loop
-returns-3 c =
-    let start = c .before .before .before .before .before .before .before in
-    decides-yes (all-settled (start .pre) _ (c .before .loop .inv .1) (omega arith))
+returns-3 c = decides-yes (walk-done _ (c .before .loop .inv .3) (omega arith))
 
 pub is-acyclic-spec : {M : Type 1} → statement M
 is-acyclic-spec =
@@ -69,12 +127,22 @@ is-acyclic-spec =
     μ-loop
     parents-below-requires
     returns
-    object-count-requires
     empty-requires
     loop-holds
-    settle-requires
-    count-requires
     returns-2
+    slice-aggregate-reached
+    reached-requires
+    unsettled-parent-requires
+    sub-at
+    cast-way
+    array-write-way
     loop-less
     loop-again
+    add-requires
+    add-at
+    loop-less-2
+    loop-again-2
+    add-t
+    loop-less-3
+    loop-again-3
     returns-3)

@@ -1,6 +1,5 @@
 -- `graph::parents_below` meets its contract: type 0 has no parent, and the rows of the others that were passed fall. Assumes nothing.
 use Prim.Native.Nat.{ℕ, _-_, _≤_, _<_}
-use mathlib.Core.Path.{sym, _∙_}
 use mathlib.Core.Bool.{false≢true}
 use native.Mathlib.Omega.{arith}
 use borrow.Author.Count.{below-more}

@@ -43,7 +43,7 @@ impl Random {
         (0..length).map(|_| self.byte()).collect()
     }
 
-    fn shuffled<T>(&mut self, mut items: Vec<T>) -> Vec<T> {
+    pub fn shuffled<T>(&mut self, mut items: Vec<T>) -> Vec<T> {
         for at in (1..items.len()).rev() {
             items.swap(at, self.below(at + 1));
         }

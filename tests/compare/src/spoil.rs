@@ -6,6 +6,7 @@
 use crate::base::{from_bytes, is_used, to_bytes, Table, APPLICATIONS, ENDS, LENGTH, PRESENCES, SDSS, TYPES};
 use crate::random::Random;
 use crate::schema::{Application, End, Name, Schema, Sds, Side, Type};
+use std::collections::BTreeSet;
 
 pub enum Way {
     Length(fn(&mut Random) -> usize),
@@ -13,7 +14,7 @@ pub enum Way {
     Schema(fn(&mut Random, &mut Schema)),
 }
 
-pub const WAYS: [(&str, Way); 32] = [
+pub const WAYS: [(&str, Way); 38] = [
     ("wrong length", Way::Length(wrong_length)),
     ("flipped bit", Way::Layout(flipped_bit)),
     ("changed byte of a row", Way::Layout(changed_byte)),
@@ -22,17 +23,22 @@ pub const WAYS: [(&str, Way); 32] = [
     ("dropped row", Way::Layout(dropped_row)),
     ("gap", Way::Layout(gap)),
     ("row after a gap", Way::Layout(row_after_gap)),
+    ("unused row among the used", Way::Layout(unused_row_among_the_used)),
+    ("key a byte out of order", Way::Layout(key_out_of_order)),
     ("byte in padding", Way::Layout(byte_in_padding)),
     ("byte in unused room", Way::Layout(byte_in_unused_room)),
+    ("byte in the last row", Way::Layout(byte_in_the_last_row)),
     ("field that a kind lacks", Way::Layout(field_that_a_kind_lacks)),
     ("parents not rising", Way::Layout(parents_not_rising)),
     ("number of parents", Way::Layout(number_of_parents)),
     ("row of an unused SDS", Way::Layout(row_of_an_unused_sds)),
     ("same name twice", Way::Layout(same_name_twice)),
     ("cycle of parents", Way::Schema(cycle_of_parents)),
+    ("ring of any length", Way::Schema(ring_of_any_length)),
     ("no parents", Way::Schema(no_parents)),
     ("parent of no use", Way::Schema(parent_of_no_use)),
     ("missing parent", Way::Schema(missing_parent)),
+    ("no parent in one more SDS", Way::Schema(no_parent_in_one_more_sds)),
     ("reverse", Way::Schema(other_reverse)),
     ("category", Way::Schema(other_category)),
     ("value kind", Way::Schema(unknown_value_kind)),
@@ -43,6 +49,7 @@ pub const WAYS: [(&str, Way); 32] = [
     ("application", Way::Schema(other_application)),
     ("end", Way::Schema(other_end)),
     ("missing mirror", Way::Schema(missing_mirror)),
+    ("mirror of another", Way::Schema(mirror_of_another)),
     ("SDS 0 changed", Way::Schema(sds_0_changed)),
     ("two SDSs of one name", Way::Schema(two_sdss_of_one_name)),
     ("malformed name", Way::Schema(malformed_name)),
@@ -181,6 +188,33 @@ fn row_after_gap(random: &mut Random, base: &mut [u8]) {
     }
 }
 
+/// The rows from some place on are one further: as many as before, but behind an unused one.
+fn unused_row_among_the_used(random: &mut Random, base: &mut [u8]) {
+    let table = table(random, &ORDERED);
+    let mut rows = used_rows(base, table);
+    if 0 < rows.len() && rows.len() < table.rows {
+        rows.insert(random.below(rows.len()), vec![0; table.width]);
+        put_rows(base, table, &rows);
+    }
+}
+
+/// Of two neighbours the byte that sets them in order is now one too high or one too low for that.
+fn key_out_of_order(random: &mut Random, base: &mut [u8]) {
+    let table = table(random, &ORDERED);
+    let rows = used_rows(base, table);
+    if rows.len() < 2 {
+        return;
+    }
+    let at = random.below(rows.len() - 1);
+    let (low, high) = (&rows[at], &rows[at + 1]);
+    let byte = (0..table.width).find(|&byte| low[byte] != high[byte]).expect("rows rise");
+    if random.one_in(2) {
+        table.row(base, at)[byte] = high[byte].saturating_add(1);
+    } else {
+        table.row(base, at + 1)[byte] = low[byte].saturating_sub(1);
+    }
+}
+
 fn byte_in_padding(random: &mut Random, base: &mut [u8]) {
     let (table, start) = if random.one_in(2) { (SDSS, 0) } else { (PRESENCES, 1) };
     if let Some(row) = row_where(random, base, table, |row| row[start + Schema::NAME - 1] == 0) {
@@ -195,6 +229,15 @@ fn byte_in_unused_room(random: &mut Random, base: &mut [u8]) {
     let unused: Vec<usize> = (0..table.rows).filter(|&number| !is_used(table.row(base, number))).collect();
     if let Some(number) = random.pick(&unused) {
         table.row(base, number)[random.below(table.width)] = 1 + random.byte() % 255;
+    }
+}
+
+/// As far behind what is used as there is room.
+fn byte_in_the_last_row(random: &mut Random, base: &mut [u8]) {
+    let table = table(random, &TABLES);
+    let row = table.row(base, table.rows - 1);
+    if !is_used(row) {
+        row[random.below(table.width)] = 1 + random.byte() % 255;
     }
 }
 
@@ -297,6 +340,33 @@ fn cycle_of_parents(random: &mut Random, schema: &mut Schema) {
     put_parent(schema, child, ty);
 }
 
+/// Another schema: all types stand in one chain of parents, but that from any one of them the step leads back, to one
+/// that came before it or to itself.
+fn ring_of_any_length(random: &mut Random, schema: &mut Schema) {
+    let mut chain: Vec<usize> = (1..Schema::TYPES).collect();
+    match random.below(3) {
+        0 => {}
+        1 => chain.reverse(),
+        _ => chain = random.shuffled(chain),
+    }
+    let length = 1 + random.below(chain.len());
+    let first = random.below(chain.len() - length + 1);
+    let last = first + length - 1;
+    let has_short_ways = random.one_in(2);
+    *schema = Schema::fresh();
+    let mut sds = Sds { name: b"chain".to_vec(), ..schema.sdss[&0].clone() };
+    for (at, &ty) in chain.iter().enumerate() {
+        let next = if at == last { first } else { at + 1 };
+        let mut parents = BTreeSet::from([chain.get(next).copied().unwrap_or(0)]);
+        if has_short_ways && random.one_in(4) {
+            parents.insert(0);
+        }
+        schema.types.insert(ty, Type::Object { parents });
+        sds.presences.insert(format!("type_{ty}").into_bytes(), ty);
+    }
+    schema.sdss.insert(1, sds);
+}
+
 fn no_parents(random: &mut Random, schema: &mut Schema) {
     let objects = types_where(schema, |ty| ty != 0 && schema.is_object(ty));
     if let Some(Type::Object { parents }) = random.pick(&objects).and_then(|ty| schema.types.get_mut(&ty)) {
@@ -331,6 +401,25 @@ fn missing_parent(random: &mut Random, schema: &mut Schema) {
         if let Some(sds) = sds_where(random, schema, |sds| sds.holds(ty)) {
             drop_presence(sds, parent);
         }
+    }
+}
+
+/// A type comes into one more SDS, which lacks a parent of it.
+fn no_parent_in_one_more_sds(random: &mut Random, schema: &mut Schema) {
+    if schema.presence_count() == Schema::PRESENCES {
+        return;
+    }
+    let lacks_parent = |sds: &Sds, ty| schema.parents(ty).into_iter().any(|parent| !sds.holds(parent));
+    let orphans: Vec<(usize, usize)> = (schema.sdss.iter().skip(1))
+        .flat_map(|(&number, sds)| {
+            types_where(schema, |ty| !sds.holds(ty) && lacks_parent(sds, ty))
+                .into_iter()
+                .map(move |ty| (number, ty))
+        })
+        .collect();
+    if let Some((number, ty)) = random.pick(&orphans) {
+        let sds = schema.sdss.get_mut(&number).expect("a used SDS");
+        sds.presences.insert(b"orphan".to_vec(), ty);
     }
 }
 
@@ -443,6 +532,33 @@ fn missing_mirror(random: &mut Random, schema: &mut Schema) {
     }
 }
 
+/// An end gets another object type, or exchanges it with an end of another link type: each link type has as many ends on
+/// each side as before.
+fn mirror_of_another(random: &mut Random, schema: &mut Schema) {
+    let reversed = types_where(schema, |ty| schema.reverse(ty).is_some());
+    let objects = types_where(schema, |ty| schema.is_object(ty));
+    let is_mirrored = |end: &&End| reversed.contains(&end.link);
+    let Some(sds) = sds_where(random, schema, |sds| sds.ends.iter().any(|end| is_mirrored(&end))) else { return };
+    let ends: Vec<End> = sds.ends.iter().filter(is_mirrored).copied().collect();
+    let end = random.pick(&ends).expect("there is one");
+    let is_free = |end: End, object| !sds.ends.contains(&End { object, ..end });
+    let can_exchange =
+        |other: &&End| other.side == end.side && is_free(end, other.object) && is_free(**other, end.object);
+    let others: Vec<End> = ends.iter().filter(can_exchange).copied().collect();
+    let free = present(sds, |ty| objects.contains(&ty) && is_free(end, ty));
+    match (random.pick(&others), random.pick(&free)) {
+        (Some(other), _) if random.one_in(2) => {
+            sds.ends.retain(|kept| *kept != end && *kept != other);
+            sds.ends.extend([End { object: other.object, ..end }, End { object: end.object, ..other }]);
+        }
+        (_, Some(object)) => {
+            sds.ends.remove(&end);
+            sds.ends.insert(End { object, ..end });
+        }
+        _ => {}
+    }
+}
+
 fn sds_0_changed(random: &mut Random, schema: &mut Schema) {
     let used = types_where(schema, |ty| ty != 0);
     let (has_presence, has_end) = (schema.presence_count() < Schema::PRESENCES, schema.end_count() < Schema::ENDS);
@@ -480,5 +596,29 @@ fn malformed_name(random: &mut Random, schema: &mut Schema) {
             let ty = sds.presences.remove(&name).expect("it is borne");
             sds.presences.insert(malformed, ty);
         }
+    }
+}
+
+#[cfg(test)]
+mod tests {
+    use super::{ring_of_any_length, types_where};
+    use crate::base::{is_sound, to_bytes};
+    use crate::random::Random;
+    use crate::schema::{Schema, Type};
+    use std::collections::BTreeSet;
+
+    #[test]
+    fn rings_of_all_lengths() {
+        let (mut random, mut schema) = (Random::new(1), Schema::fresh());
+        let mut lengths = BTreeSet::new();
+        for _ in 0..1000 {
+            ring_of_any_length(&mut random, &mut schema);
+            let ring = types_where(&schema, |ty| schema.ancestors(ty).contains(&ty));
+            lengths.insert(ring.len());
+            // Nothing else is wrong: opened, it is sound.
+            schema.types.insert(ring[0], Type::Object { parents: [0].into() });
+            assert!(is_sound(&to_bytes(&schema)));
+        }
+        assert!(lengths.iter().copied().eq(1..Schema::TYPES));
     }
 }

@@ -4,15 +4,14 @@ use native.Mathlib.Omega.{arith}
 use mathlib.Core.Path.{_≡_, refl, sym, ap, _∙_}
 use mathlib.Core.List.{List, [], _∷_, _++_, append-assoc, append-nil}
 use mathlib.Core.Bool.{true, false}
-use lib.Dec.{eqb}
 use lib.ListN.{length, getD, take, drop, set, length-set, length-take, length-append, drop-of-length-le}
 use lib.Seq.{take-all, take-append-le, take-suc-set, drop-cons}
 use borrow.Author.Tests.{eq-eqb, ne-eqb}
 use Rattle.rules.specs.01-Lists.{any}
-use Rattle.run_words.specs.Lines.{upto, beyond, Keeps, Gathers}
+use Rattle.run_words.specs.Lines.{upto, beyond, has-newline, Keeps, Gathers}
 
 -- what is cut off once is cut off
-take-cut : (k : ℕ) (l m : List ℕ) → take k (take k l ++ m) ≡ take k (l ++ m)
+pub take-cut : (k : ℕ) (l m : List ℕ) → take k (take k l ++ m) ≡ take k (l ++ m)
 take-cut zero l m = refl
 take-cut (suc k) [] m = refl
 take-cut (suc k) (x ∷ l) m = ap (λ (r : List ℕ). x ∷ r) (take-cut k l m)
@@ -46,7 +45,7 @@ pub record Gathering (read : List ℕ) (from : ℕ) (line₀ : List ℕ) (n : �
   pub few : kept ≤ 128
   pub within : at ≤ length read
   pub is : take 128 (take kept line ++ upto (drop at read)) ≡ take 128 (take n line₀ ++ upto (drop from read))
-  pub ends : any (λ c. eqb c 10) (drop at read) ≡ any (λ c. eqb c 10) (drop from read)
+  pub ends : has-newline (drop at read) ≡ has-newline (drop from read)
   pub rest : beyond (drop at read) ≡ beyond (drop from read)
 
 module _ {read : List ℕ} {from : ℕ} {line₀ : List ℕ} {n : ℕ} {line : List ℕ} {at kept : ℕ} (g : Gathering read from line₀ n line at kept) where

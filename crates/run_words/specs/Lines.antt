@@ -2,7 +2,7 @@
 use Prim.Native.Nat.{ℕ, _≤_}
 use mathlib.Core.Path.{_≡_}
 use mathlib.Core.List.{List, [], _∷_, _++_}
-use mathlib.Core.Bool.{cond}
+use mathlib.Core.Bool.{Bool, cond}
 use lib.Dec.{eqb}
 use lib.ListN.{length, take, drop}
 use Rattle.rules.specs.01-Lists.{any}
@@ -17,6 +17,9 @@ unfoldable pub beyond : List ℕ → List ℕ
 beyond [] = []
 beyond (c ∷ cs) = cond (eqb c 10) cs (beyond cs)
 
+abbrev pub has-newline : List ℕ → Bool
+has-newline l = any (λ c. eqb c 10) l
+
 -- the line has the byte c more; of a long line 128 bytes are kept
 pub record Keeps (line : List ℕ) (n c : ℕ) (line′ : List ℕ) (r : ℕ) : Type 0 where
   pub long : length line′ ≡ 128
@@ -29,5 +32,5 @@ pub record Gathers (read : List ℕ) (from : ℕ) (line : List ℕ) (n : ℕ) (l
   pub few : r .kept ≤ 128
   pub within : r .at ≤ length read
   pub is : take (r .kept) line′ ≡ take 128 (take n line ++ upto (drop from read))
-  pub ends : r .ended ≡ any (λ c. eqb c 10) (drop from read)
+  pub ends : r .ended ≡ has-newline (drop from read)
   pub rest : drop (r .at) read ≡ beyond (drop from read)

@@ -1,7 +1,8 @@
 // Standard input, line by line.
 ghost use mathlib.Core.Path.{_≡_};
-ghost use lib.ListN.{length};
-ghost use Rattle.run_words.specs.Input.{Within};
+ghost use mathlib.Core.Bool.{false};
+ghost use lib.ListN.{length, take};
+ghost use Rattle.run_words.specs.Input.{Within, Ready, unread, Filled, Advanced, Next-line};
 
 // A place in the bytes that were read last, of which there are n; how many bytes are kept of the line at hand; whether the input is over.
 pub struct Input {
@@ -31,8 +32,8 @@ impl Input {
 
 // Reads on where all that was read is gathered. A read that fails ends the input.
 fn fill(read: &mut [u8], input: Input) -> Input
-    requires { ⌜ (length (now read) ≡ 4096) × Within input ⌝ }
-    ensures { λ r. ⌜ (length (now (read .exit)) ≡ 4096) × Within r ⌝ }
+    requires { ⌜ (length (now read) ≡ 4096) × (Within input × (input .over ≡ false)) ⌝ }
+    ensures { λ r. ⌜ Filled (unread (now (read .entry)) input) (input .kept) (now (read .exit)) r ⌝ }
 {
     if input.from < input.n {
         return input;
@@ -49,8 +50,8 @@ fn fill(read: &mut [u8], input: Input) -> Input
 
 // One read at most, and what it brings gathered up to a newline. The line is whole there, and where the input is over.
 fn advance(read: &mut [u8], line: &mut [u8], input: Input) -> Step
-    requires { ⌜ (length (now read) ≡ 4096) × ((length (now line) ≡ 128) × Within input) ⌝ }
-    ensures { λ r. ⌜ (length (now (read .exit)) ≡ 4096) × ((length (now (line .exit)) ≡ 128) × Within (r .input)) ⌝ }
+    requires { ⌜ Ready (now read) (now line) input × (input .over ≡ false) ⌝ }
+    ensures { λ r. ⌜ Advanced (unread (now (read .entry)) input) (take (input .kept) (now (line .entry))) (now (read .exit)) (now (line .exit)) r ⌝ }
 {
     let at = fill(read, input);
     if at.over {
@@ -76,23 +77,23 @@ fn advance(read: &mut [u8], line: &mut [u8], input: Input) -> Step
 // The next line: its first bytes stand in `line`, as many as are kept of it. Where the input is over and none are kept, there is none.
 // A proved loop has to end, and nothing says that a file does: the turns are counted down from a number that no run uses up.
 pub fn next_line(read: &mut [u8], line: &mut [u8], input: Input) -> Input
-    requires { ⌜ (length (now read) ≡ 4096) × ((length (now line) ≡ 128) × Within input) ⌝ }
-    ensures { λ r. ⌜ (length (now (read .exit)) ≡ 4096) × ((length (now (line .exit)) ≡ 128) × Within r) ⌝ }
+    requires { ⌜ Ready (now read) (now line) input ⌝ }
+    ensures { λ r. ⌜ Next-line (unread (now (read .entry)) input) (now (read .exit)) (now (line .exit)) r ⌝ }
 {
-    let begun = Input {
+    let mut at = Input {
         from: input.from,
         n: input.n,
         kept: 0,
         over: false,
     };
-    let mut at = Step {
-        input: begun,
-        whole: false,
-    };
     let mut turns = u64::MAX;
-    while 0 < turns && !at.whole {
+    while 0 < turns {
         turns -= 1;
-        at = advance(read, line, at.input);
+        let step = advance(read, line, at);
+        at = step.input;
+        if step.whole {
+            return at;
+        }
     }
-    at.input
+    at
 }

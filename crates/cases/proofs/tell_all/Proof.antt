@@ -4,13 +4,13 @@ use borrow.Author.Needs.{needs}
 use native.Mathlib.Omega.{arith}
 use mathlib.Core.Path.{_≡_, refl, _∙_}
 use lib.ListN.{length}
-use Rattle.run_words.specs.Input.{Within}
+use Rattle.run_words.specs.Input.{Ready}
 use Rattle.cases.proofs.tell_all.Statement.{statement}
 use Rattle.cases.proofs.tell_all.Tie as tie
 
 abbrev Inv-loop : tie.InvT-loop
 Inv-loop base₀ read₀ line₀ out₀ at₀ more₀ turns₀ base read line out at more turns =
-    ((length base ≡ length base₀) × (length out ≡ length out₀)) × ((length read ≡ 4096) × ((length line ≡ 128) × Within at))
+    ((length base ≡ length base₀) × (length out ≡ length out₀)) × Ready read line at
 
 abbrev μ-loop : tie.MeasureT-loop
 μ-loop base₀ read₀ line₀ out₀ at₀ more₀ turns₀ base read line out at more turns = turns
@@ -19,7 +19,9 @@ start-requires : tie.Need-start-requires Inv-loop μ-loop
 start-requires c κs = search needs
 
 loop-holds : tie.Need-loop-holds Inv-loop μ-loop
-loop-holds c = ((refl, refl), (c .before .before .before .before .before .pre .0, (c .before .before .before .before .before .pre .1, c .start .ensures)))
+loop-holds c =
+    let (long, room) = c .before .before .before .before .before .pre in
+    ((refl, refl), record { long = long; room = room; within = c .start .ensures })
 
 sub-turns : tie.Need-sub-turns Inv-loop μ-loop
 sub-turns c = search needs
@@ -28,7 +30,9 @@ next-line-requires : tie.Need-next-line-requires Inv-loop μ-loop
 next-line-requires c κs = c .before .before .before .before .loop .inv .1
 
 tell-next-requires : tie.Need-tell-next-requires Inv-loop μ-loop
-tell-next-requires c κs = c .before .before .before .before .before .before .before .next-line .ensures .1
+tell-next-requires c κs =
+    let ready = c .before .before .before .before .before .before .before .next-line .ensures .ready in
+    (ready .room, ready .within)
 
 loop-less : tie.Need-loop-less Inv-loop μ-loop
 loop-less c =
@@ -45,7 +49,7 @@ loop-again c = (
         .before .before .before .before .before .before .before .before .before .before .before .before .before .before .before .before .before
         .loop .inv .0 .1,
   ),
-  c .before .before .before .before .before .before .before .before .before .before .before .before .next-line .ensures,
+  c .before .before .before .before .before .before .before .before .before .before .before .before .next-line .ensures .ready,
 )
 
 same-length : tie.Need-same-length Inv-loop μ-loop

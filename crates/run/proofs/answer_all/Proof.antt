@@ -5,13 +5,13 @@ use native.Mathlib.Omega.{arith}
 use mathlib.Core.Path.{_≡_}
 use lib.ListN.{length, length-take}
 use Rattle.rules.specs.07-Picture.{base-length}
-use Rattle.run_words.specs.Input.{Within}
+use Rattle.run_words.specs.Input.{Ready}
 use Rattle.run.proofs.answer_all.Statement.{statement}
 use Rattle.run.proofs.answer_all.Tie as tie
 
 abbrev Inv-loop : tie.InvT-loop
 Inv-loop base₀ read₀ line₀ out₀ input₀ turns₀ base read line out input turns = ((length base ≡ base-length) × (length out ≡ 4096)) ×
-    ((length read ≡ 4096) × ((length line ≡ 128) × Within input))
+    Ready read line input
 
 abbrev μ-loop : tie.MeasureT-loop
 μ-loop base₀ read₀ line₀ out₀ input₀ turns₀ base read line out input turns = turns
@@ -22,10 +22,11 @@ start-requires c κs = search needs
 loop-holds : tie.Need-loop-holds Inv-loop μ-loop
 loop-holds c = (
   c .before .before .before .before .before .pre .0,
-  (
-    c .before .before .before .before .before .pre .1 .0,
-    (c .before .before .before .before .before .pre .1 .1, c .start .ensures),
-  ),
+  record {
+    long = c .before .before .before .before .before .pre .1 .0;
+    room = c .before .before .before .before .before .pre .1 .1;
+    within = c .start .ensures;
+  },
 )
 
 next-line-requires : tie.Need-next-line-requires Inv-loop μ-loop
@@ -49,9 +50,9 @@ returns c = search needs
 slice-reshare-prefix-answer : tie.Need-slice-reshare-prefix-answer Inv-loop μ-loop
 slice-reshare-prefix-answer c = omega (
   arith,
-  c .before .before .before .before .before .before .next-line .ensures .1 .0,
+  c .before .before .before .before .before .before .next-line .ensures .ready .room,
   c .before .before .before
-      .before .before .before .next-line .ensures .1 .1 .kept,
+      .before .before .before .next-line .ensures .ready .within .kept,
 )
 
 slice-aggregate-answer : tie.Need-slice-aggregate-answer Inv-loop μ-loop
@@ -60,8 +61,8 @@ slice-aggregate-answer c = omega (
   length-take (c .before .before .before .before .before .before .before .next-line .result .kept) (c .before
       .before .before .before .before .before .before .next-line .last .1 .0),
   c .before .before .before .before .before .before .before .next-line
-      .ensures .1 .0,
-  c .before .before .before .before .before .before .before .next-line .ensures .1 .1 .kept,
+      .ensures .ready .room,
+  c .before .before .before .before .before .before .before .next-line .ensures .ready .within .kept,
 )
 
 answer-requires : tie.Need-answer-requires Inv-loop μ-loop
@@ -81,7 +82,7 @@ loop-less c =
 
 loop-again : tie.Need-loop-again Inv-loop μ-loop
 loop-again c =
-    let line = c .before .before .before .before .before .before .before .before .before .before .before .before .before .next-line .ensures in
+    let line = c .before .before .before .before .before .before .before .before .before .before .before .before .before .next-line .ensures .ready in
     (c .before .before .before .before .answer .ensures, line)
 
 same-length-5 : tie.Need-same-length-5 Inv-loop μ-loop

@@ -32,7 +32,8 @@ fn tested(base: &[u8], sds: usize, attribute: &[u8], to: &[u8]) -> Told
         (application-refusals sds (now (attribute .entry)) (now (to .entry)) (schema-of (now (base .entry)))) (r .no)
         (Both (now (base .entry)) sds (now (attribute .entry)) (now (to .entry)) (r .one) (r .two)) ⌝ }
 {
-    let told = conditions::aimed::named_two(base, sds, attribute, to);
+    let no = conditions::aimed::aimed_two(base, sds, attribute, to);
+    let told = conditions::aimed::named_two(base, sds, attribute, to, no);
     if told.no != 0 {
         return told;
     }

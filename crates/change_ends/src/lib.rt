@@ -12,14 +12,16 @@ ghost use Rattle.rules.specs.10-Changes.{add-end, remove-end, apply-link, unapp
 ghost use Rattle.rules.specs.12-Contracts.{Kept};
 ghost use Rattle.rules.specs.Read.{read-side};
 ghost use Rattle.base.specs.Back.{schema-of};
+ghost use Rattle.conditions.specs.Aimed.{Aim-told};
 ghost use Rattle.conditions.specs.Reverse.{one-or-none};
 ghost use Rattle.change_ends.specs.Ends.{Ends-told};
 
-// The link type and the object type that are named.
-fn aimed_at(base: &[u8], sds: usize, link: &[u8], object: &[u8]) -> Told
+// The link type and the object type that are named, where `no` has been told of the SDS and the names.
+fn aimed_at(base: &[u8], sds: usize, link: &[u8], object: &[u8], no: usize) -> Told
+    requires { ⌜ Aim-told (now base) sds (now link) (now object) no ⌝ }
     ensures { λ r. ⌜ Ends-told (now (base .entry)) sds (now (link .entry)) (now (object .entry)) (r .no) (r .one) (r .two) ⌝ }
 {
-    let told = conditions::aimed::named_two(base, sds, link, object);
+    let told = conditions::aimed::named_two(base, sds, link, object, no);
     if told.no != 0 {
         return told;
     }
@@ -46,12 +48,21 @@ fn is_full(base: &[u8], r: usize) -> bool
 
 // ---- the calls
 
+// Each call is told `no` itself and hands it on: the check of soundness, which needs the most stack, is then not made within these frames.
+
 // Object type o becomes an end of link type l on that side, and of its reverse on the other.
-fn add_end(base: &mut [u8], sds: usize, link: &[u8], object: &[u8], side: usize) -> Answer
-    requires { ⌜ side < 2 ⌝ }
+fn add_end(
+    base: &mut [u8],
+    sds: usize,
+    link: &[u8],
+    object: &[u8],
+    side: usize,
+    no: usize,
+) -> Answer
+    requires { ⌜ (side < 2) × Aim-told (now base) sds (now link) (now object) no ⌝ }
     ensures { λ r. ⌜ Kept (now (base .entry)) (add-end (read-side side) sds (now (link .entry)) (now (object .entry))) r (now (base .exit)) ⌝ }
 {
-    let aim = aimed_at(base, sds, link, object);
+    let aim = aimed_at(base, sds, link, object, no);
     if aim.no != 0 {
         return Answer::refused(aim.no);
     }
@@ -71,11 +82,18 @@ fn add_end(base: &mut [u8], sds: usize, link: &[u8], object: &[u8], side: usize)
 }
 
 // Object type o is no longer an end of link type l on that side, nor of its reverse on the other.
-fn remove_end(base: &mut [u8], sds: usize, link: &[u8], object: &[u8], side: usize) -> Answer
-    requires { ⌜ side < 2 ⌝ }
+fn remove_end(
+    base: &mut [u8],
+    sds: usize,
+    link: &[u8],
+    object: &[u8],
+    side: usize,
+    no: usize,
+) -> Answer
+    requires { ⌜ (side < 2) × Aim-told (now base) sds (now link) (now object) no ⌝ }
     ensures { λ r. ⌜ Kept (now (base .entry)) (remove-end (read-side side) sds (now (link .entry)) (now (object .entry))) r (now (base .exit)) ⌝ }
 {
-    let aim = aimed_at(base, sds, link, object);
+    let aim = aimed_at(base, sds, link, object, no);
     if aim.no != 0 {
         return Answer::refused(aim.no);
     }
@@ -96,23 +114,27 @@ fn remove_end(base: &mut [u8], sds: usize, link: &[u8], object: &[u8], side: usi
 pub fn apply_link(base: &mut [u8], sds: usize, link: &[u8], object: &[u8]) -> Answer
     ensures { λ r. ⌜ Kept (now (base .entry)) (apply-link sds (now (link .entry)) (now (object .entry))) r (now (base .exit)) ⌝ }
 {
-    add_end(base, sds, link, object, 0)
+    let no = conditions::aimed::aimed_two(base, sds, link, object);
+    add_end(base, sds, link, object, 0, no)
 }
 
 pub fn add_destination(base: &mut [u8], sds: usize, link: &[u8], object: &[u8]) -> Answer
     ensures { λ r. ⌜ Kept (now (base .entry)) (add-destination sds (now (link .entry)) (now (object .entry))) r (now (base .exit)) ⌝ }
 {
-    add_end(base, sds, link, object, 1)
+    let no = conditions::aimed::aimed_two(base, sds, link, object);
+    add_end(base, sds, link, object, 1, no)
 }
 
 pub fn unapply_link(base: &mut [u8], sds: usize, link: &[u8], object: &[u8]) -> Answer
     ensures { λ r. ⌜ Kept (now (base .entry)) (unapply-link sds (now (link .entry)) (now (object .entry))) r (now (base .exit)) ⌝ }
 {
-    remove_end(base, sds, link, object, 0)
+    let no = conditions::aimed::aimed_two(base, sds, link, object);
+    remove_end(base, sds, link, object, 0, no)
 }
 
 pub fn remove_destination(base: &mut [u8], sds: usize, link: &[u8], object: &[u8]) -> Answer
     ensures { λ r. ⌜ Kept (now (base .entry)) (remove-destination sds (now (link .entry)) (now (object .entry))) r (now (base .exit)) ⌝ }
 {
-    remove_end(base, sds, link, object, 1)
+    let no = conditions::aimed::aimed_two(base, sds, link, object);
+    remove_end(base, sds, link, object, 1, no)
 }

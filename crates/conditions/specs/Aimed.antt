@@ -20,6 +20,10 @@ sds-refusals s d = (2 when unknown-sds s d) ∷ (3 when system-sds d) ∷ []
 abbrev pub aim-refusals : Schema → ℕ → Bool → Refusals
 aim-refusals s d bad = sds-refusals s d ++ ((4 when bad) ∷ [])
 
+-- k is the number of the first of these that holds, of two names; 0 where none does
+abbrev pub Aim-told : List ℕ → ℕ → Name → Name → ℕ → Type 0
+Aim-told b d n m k = Tested b (aim-refusals (schema-of b) d (malformed n || malformed m)) k 0
+
 -- and that of the types that they name: whether one is missing
 abbrev pub named-refusals : Schema → ℕ → Bool → Bool → Refusals
 named-refusals s d bad missing = aim-refusals s d bad ++ ((6 when missing) ∷ [])

@@ -2,13 +2,12 @@
 // types so named.
 use rules::Limits;
 ghost use mathlib.Core.Path.{_≡_};
-ghost use mathlib.Core.Bool.{_||_};
 ghost use mathlib.Core.List.{[], _∷_};
 ghost use Rattle.rules.specs.07-Picture.{Sound};
 ghost use Rattle.rules.specs.09-Refusals.{malformed, names-taken};
 ghost use Rattle.base.specs.Back.{schema-of};
 ghost use Rattle.base.specs.Tested.{Tested};
-ghost use Rattle.conditions.specs.Aimed.{sds-refusals, aim-refusals, two-refusals, Both, Refused-or, Named};
+ghost use Rattle.conditions.specs.Aimed.{sds-refusals, aim-refusals, Aim-told, two-refusals, Both, Refused-or, Named};
 
 // The number of the refusal, 0 where there is none; then the types that a call goes on with.
 pub struct Told {
@@ -59,8 +58,7 @@ pub fn aimed(base: &[u8], sds: usize, name: &[u8]) -> usize
 
 // Of the SDS and two names.
 pub fn aimed_two(base: &[u8], sds: usize, name: &[u8], other: &[u8]) -> usize
-    ensures { λ r. ⌜ Tested (now (base .entry))
-        (aim-refusals (schema-of (now (base .entry))) sds (malformed (now (name .entry)) || malformed (now (other .entry)))) r 0 ⌝ }
+    ensures { λ r. ⌜ Aim-told (now (base .entry)) sds (now (name .entry)) (now (other .entry)) r ⌝ }
 {
     let no = aimed_at(base, sds);
     if no != 0 {
@@ -96,13 +94,13 @@ pub fn named(base: &[u8], sds: usize, name: &[u8], no: usize) -> Told
     }
 }
 
-// The types of two names.
-pub fn named_two(base: &[u8], sds: usize, name: &[u8], other: &[u8]) -> Told
+// The types of two names, where `no` has been told of the SDS and the names.
+pub fn named_two(base: &[u8], sds: usize, name: &[u8], other: &[u8], no: usize) -> Told
+    requires { ⌜ Aim-told (now base) sds (now name) (now other) no ⌝ }
     ensures { λ r. ⌜ Refused-or (now (base .entry))
         (two-refusals (schema-of (now (base .entry))) sds (now (name .entry)) (now (other .entry))) (r .no)
         (Both (now (base .entry)) sds (now (name .entry)) (now (other .entry)) (r .one) (r .two)) ⌝ }
 {
-    let no = aimed_two(base, sds, name, other);
     if no != 0 {
         return Told::refused(no);
     }

@@ -36,7 +36,7 @@ addable-3 c =
     (sym (c .before .is-full .ensures) ∙ c .if3 .left)
 
 aimed-at-requires : tie.Need-aimed-at-requires
-aimed-at-requires c κs = search needs
+aimed-at-requires c κs = c .before .before .before .before .pre .1
 
 refused-requires : tie.Need-refused-requires
 refused-requires c κs = search needs
@@ -56,7 +56,7 @@ is-end-requires c κs =
         omega (arith, th .below),
         (
           omega (arith, th .link-below),
-          (first .before .before .before .before .before .before .before .pre, omega (arith, th .object-below)),
+          (first .before .before .before .before .before .before .before .pre .0, omega (arith, th .object-below)),
         ),
       ),
     )
@@ -107,7 +107,7 @@ put-end-requires c κs =
               omega (arith, th .link-below),
               (
                 past .before .before .before .before .before .before .before .before .before .before .before .before .before .before
-                    .before .pre,
+                    .before .pre .0,
                 omega (arith, th .object-below),
               ),
             ),
@@ -145,7 +145,7 @@ put-end-requires-2 c κs =
         (
           room-second _ (x .reversed) (x .room) _ _ _ out below,
           second-free _ (x .reversed) (x .room) _ _ _
-              (past .before .before .before .before .before .before .before .before .before .before .before .before .before .before .before .pre) out below
+              (past .before .before .before .before .before .before .before .before .before .before .before .before .before .before .before .pre .0) out below
               (th .sound) (x .free),
         ),
       ),
@@ -163,7 +163,7 @@ returns-5 c =
     let x = addable-3 past in
     kept-done (x .through .sound) (x .rule) (c .done2 .ensures)
     (added-both _ (x .reversed) (x .room) _ _ _
-    (past .before .before .before .before .before .before .before .before .before .before .before .before .before .before .before .pre)
+    (past .before .before .before .before .before .before .before .before .before .before .before .before .before .before .before .pre .0)
     (c .before .before .before .before .before .before .before .before .put-end .ensures)
     (omega (arith, x .reversed .fits, c .before .before .before .before .before .if4 .left)) (c .before .before .before .put-end2 .ensures))
 

@@ -23,7 +23,7 @@ both-1 : (c : tie.Else1) → let x = c .before .before .before .before .before .
 both-1 c = c .before .before .named-two .ensures .so (c .if1 .left)
 
 named-two-requires : tie.Need-named-two-requires
-named-two-requires c κs = search needs
+named-two-requires c κs = c .before .before .before .pre
 
 returns : tie.Need-returns
 returns c = refused-first _ (c .before .before .named-two .ensures .told) (c .if1 .taken) refl

@@ -22,7 +22,7 @@ removable-2 c =
     (c .if2 .left)
 
 aimed-at-requires : tie.Need-aimed-at-requires
-aimed-at-requires c κs = search needs
+aimed-at-requires c κs = c .before .before .before .before .pre .1
 
 refused-requires : tie.Need-refused-requires
 refused-requires c κs = search needs
@@ -40,7 +40,7 @@ end-row-requires c κs =
       sound-stored (th .sound),
       (
         omega (arith, th .below),
-        (omega (arith, th .link-below), (first .before .before .before .before .before .before .before .pre, omega (arith, th .object-below))),
+        (omega (arith, th .link-below), (first .before .before .before .before .before .before .before .pre .0, omega (arith, th .object-below))),
       ),
     )
 
@@ -99,7 +99,7 @@ take-end-requires-2 c κs =
     let out = c .before .before .before .before .before .before .take-end .ensures in (
       shows-stored out,
       mirror-row (x .through .sound) _ (x .place) (x .row-below) out rev
-          (past .before .before .before .before .before .before .before .before .before .before .before .before .pre)
+          (past .before .before .before .before .before .before .before .before .before .before .before .before .pre .0)
           (omega (arith, rev .fits, c .before .before .before .if3 .left)) (c .before .end-row2 .ensures) (x .there),
     )
 
@@ -117,7 +117,7 @@ returns-4 c =
     kept-done (x .through .sound) (x .rule) (c .done2 .ensures)
     (removed-both (x .through .sound) _ (x .place) (x .row-below)
     (c .before .before .before .before .before .before .before .before .before .before .take-end .ensures) rev
-    (past .before .before .before .before .before .before .before .before .before .before .before .before .pre)
+    (past .before .before .before .before .before .before .before .before .before .before .before .before .pre .0)
     (omega (arith, rev .fits, c .before .before .before .before .before .before .before .if3 .left))
     (c .before .before .before .before .before .end-row2 .ensures) (x .there) (c .before .before .before .take-end2 .ensures))
 

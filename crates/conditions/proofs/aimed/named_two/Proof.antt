@@ -10,18 +10,15 @@ use Rattle.conditions.proofs.AimedLaws.{refused-first, refused-here, pa
 use Rattle.conditions.proofs.aimed.named_two.Statement.{statement}
 use Rattle.conditions.proofs.aimed.named_two.Tie as tie
 
-at-6 : (c : tie.Else1) → let x = c .before .before .before .before .before .args in
+at-6 : (c : tie.Else1) → let x = c .before .before .before .before .args in
     Past (x .base .now) (two-refusals (schema-of (x .base .now)) (x .sds) (x .name .now) (x .other .now)) 6
-at-6 c = come-aimed _ (c .before .aimed-two .ensures) (c .if1 .left) _
-
-aimed-two-requires : tie.Need-aimed-two-requires
-aimed-two-requires c κs = search needs
+at-6 c = come-aimed _ (c .before .before .before .before .pre) (c .if1 .left) _
 
 refused-requires : tie.Need-refused-requires
 refused-requires c κs = search needs
 
 returns : tie.Need-returns
-returns c = refused-first _ (c .before .before .aimed-two .ensures) (c .before .if1 .taken) (c .refused .ensures)
+returns c = refused-first _ (c .before .before .before .before .before .pre) (c .before .if1 .taken) (c .refused .ensures)
 
 type-in-requires : tie.Need-type-in-requires
 type-in-requires c κs = at-6 c .sound
@@ -41,7 +38,7 @@ refused-requires-3 : tie.Need-refused-requires-3
 refused-requires-3 c κs = search needs
 
 returns-3 : tie.Need-returns-3
-returns-3 c = let x = c .before .before .before .before .before .before .before .before .before .before .args in
+returns-3 c = let x = c .before .before .before .before .before .before .before .before .before .args in
     refused-here (at-6 (c .before .before .before .before .before)) (or-right (no-such-name (schema-of (x .base .now)) (x .sds) (x .name .now)) _
     (missing (c .before .before .type-in2 .ensures) (c .before .if3 .taken))) (c .refused3 .ensures) (omega arith)
 
@@ -57,7 +54,6 @@ pub named-two-spec : {M : Type 1} → statement M
 named-two-spec =
     tie.close
     (tie.spec
-    aimed-two-requires
     refused-requires
     returns
     type-in-requires

@@ -9,7 +9,7 @@ ghost use Rattle.rules.specs.07-Picture.{base-length};
 ghost use Rattle.rules.specs.10-Changes.{application-refusals, apply, unapply};
 ghost use Rattle.rules.specs.12-Contracts.{Kept};
 ghost use Rattle.base.specs.Back.{schema-of};
-ghost use Rattle.conditions.specs.Aimed.{Refused-or, Both};
+ghost use Rattle.conditions.specs.Aimed.{Aim-told, Refused-or, Both};
 ghost use Rattle.change_applications.specs.Applying.{wrong-kind};
 
 // Whether a is no attribute type, or t is neither an object nor a link type.
@@ -26,13 +26,14 @@ fn is_wrong_kind(base: &[u8], a: usize, t: usize) -> bool
     !lookup::types::is_kind(base, t, Base::LINK)
 }
 
-// What both calls test, once, in the order of their refusals; then the attribute type, and the type that it is to be applied to.
-fn tested(base: &[u8], sds: usize, attribute: &[u8], to: &[u8]) -> Told
+// What both calls test, once, in the order of their refusals; then the attribute type, and the type that it is to be applied to. `no` has
+// been told of the SDS and the names: the check of soundness, which needs the most stack, is not made within this frame.
+fn tested(base: &[u8], sds: usize, attribute: &[u8], to: &[u8], no: usize) -> Told
+    requires { ⌜ Aim-told (now base) sds (now attribute) (now to) no ⌝ }
     ensures { λ r. ⌜ Refused-or (now (base .entry))
         (application-refusals sds (now (attribute .entry)) (now (to .entry)) (schema-of (now (base .entry)))) (r .no)
         (Both (now (base .entry)) sds (now (attribute .entry)) (now (to .entry)) (r .one) (r .two)) ⌝ }
 {
-    let no = conditions::aimed::aimed_two(base, sds, attribute, to);
     let told = conditions::aimed::named_two(base, sds, attribute, to, no);
     if told.no != 0 {
         return told;
@@ -46,7 +47,8 @@ fn tested(base: &[u8], sds: usize, attribute: &[u8], to: &[u8]) -> Told
 pub fn apply(base: &mut [u8], sds: usize, attribute: &[u8], to: &[u8]) -> Answer
     ensures { λ r. ⌜ Kept (now (base .entry)) (apply sds (now (attribute .entry)) (now (to .entry))) r (now (base .exit)) ⌝ }
 {
-    let asked = tested(base, sds, attribute, to);
+    let no = conditions::aimed::aimed_two(base, sds, attribute, to);
+    let asked = tested(base, sds, attribute, to, no);
     if asked.no != 0 {
         return Answer::refused(asked.no);
     }
@@ -63,7 +65,8 @@ pub fn apply(base: &mut [u8], sds: usize, attribute: &[u8], to: &[u8]) -> Answer
 pub fn unapply(base: &mut [u8], sds: usize, attribute: &[u8], to: &[u8]) -> Answer
     ensures { λ r. ⌜ Kept (now (base .entry)) (unapply sds (now (attribute .entry)) (now (to .entry))) r (now (base .exit)) ⌝ }
 {
-    let asked = tested(base, sds, attribute, to);
+    let no = conditions::aimed::aimed_two(base, sds, attribute, to);
+    let asked = tested(base, sds, attribute, to, no);
     if asked.no != 0 {
         return Answer::refused(asked.no);
     }

@@ -12,16 +12,13 @@ use Rattle.change_applications.proofs.ApplyLaws.{wrong-named}
 use Rattle.change_applications.proofs.tested.Statement.{statement}
 use Rattle.change_applications.proofs.tested.Tie as tie
 
-at-7 : (c : tie.Else1) → let x = c .before .before .before .before .before .before .before .args in
+at-7 : (c : tie.Else1) → let x = c .before .before .before .before .before .before .args in
     Past (x .base .now) (application-refusals (x .sds) (x .attribute .now) (x .to .now) (schema-of (x .base .now))) 7
 unfolding all
 at-7 c = come-on (c .before .before .named-two .ensures .told) (c .if1 .left) refl _
 
-aimed-two-requires : tie.Need-aimed-two-requires
-aimed-two-requires c κs = search needs
-
 named-two-requires : tie.Need-named-two-requires
-named-two-requires c κs = c .aimed-two .ensures
+named-two-requires c κs = c .before .before .before .pre
 
 returns : tie.Need-returns
 returns c = refused-first _ (c .before .before .named-two .ensures .told) (c .if1 .taken) refl
@@ -46,4 +43,4 @@ returns-3 c =
     passed-as (first .if1 .left) (come-through (come-next (at-7 first) (wrong-named both (c .before .is-wrong-kind .ensures) ∙ c .if2 .left))) both
 
 pub tested-spec : {M : Type 1} → statement M
-tested-spec = tie.close (tie.spec aimed-two-requires named-two-requires returns is-wrong-kind-requires refused-requires returns-2 returns-3)
+tested-spec = tie.close (tie.spec named-two-requires returns is-wrong-kind-requires refused-requires returns-2 returns-3)

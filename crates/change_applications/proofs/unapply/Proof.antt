@@ -26,30 +26,33 @@ abbrev Ways : List ℕ → ℕ → Name → Name → ℕ → Type 0
 Ways b d a n k =
     let s = schema-of b in Left (unapply d a n s) (drop k (unapply-rest d a n s)) (done 0 0 0 (less-application d (type-named s d n) (type-named s d a) s))
 
-aim-1 : (c : tie.Else1) → let x = c .before .before .before .before .before .before .before .args in Aimed (x .base .now) (x .sds)
+aim-1 : (c : tie.Else1) → let x = c .before .before .before .before .before .before .before .before .before .args in Aimed (x .base .now) (x .sds)
 aim-1 c = aimed-well _ (c .before .before .tested .ensures .told) (c .if1 .left)
 
-both-1 : (c : tie.Else1) → let x = c .before .before .before .before .before .before .before .args in
+both-1 : (c : tie.Else1) → let x = c .before .before .before .before .before .before .before .before .before .args in
     let told = c .before .before .tested .result in Both (x .base .now) (x .sds) (x .attribute .now) (x .to .now) (told .one) (told .two)
 both-1 c = c .before .before .tested .ensures .so (c .if1 .left)
 
-left-1 : (c : tie.Else1) → let x = c .before .before .before .before .before .before .before .args in
+left-1 : (c : tie.Else1) → let x = c .before .before .before .before .before .before .before .before .before .args in
     Ways (x .base .now) (x .sds) (x .attribute .now) (x .to .now) 0
 unfolding all
 left-1 c = begun-passes _ (c .before .before .tested .ensures .told) (c .if1 .left) refl (unapply-left _ _ _ _)
 
-left-2 : (c : tie.Else2) → let x = c .before .before .before .before .before .before .before .before .before .before .before .before .args in Ways
-    (x .base .now) (x .sds) (x .attribute .now) (x .to .now) 1
+left-2 : (c : tie.Else2) → let x = c .before .before .before .before .before .before .before .before .before .before .before .before .before .before .args in
+    Ways (x .base .now) (x .sds) (x .attribute .now) (x .to .now) 1
 left-2 c = passes (left-1 (c .before .before .before .before .before))
     (row-some (both-1 (c .before .before .before .before .before)) (c .before .before .before .application-row .ensures)
     (c .before .application-count .ensures) (c .if2 .left))
 
 there-2 : (c : tie.Else2) → c .before .before .before .application-row .result < application-count
-    (c .before .before .before .before .before .before .before .before .before .before .before .before .args .base .now)
+    (c .before .before .before .before .before .before .before .before .before .before .before .before .before .before .args .base .now)
 there-2 c = omega (arith, c .before .application-count .ensures .is, c .if2 .left)
 
+aimed-two-requires : tie.Need-aimed-two-requires
+aimed-two-requires c κs = search needs
+
 tested-requires : tie.Need-tested-requires
-tested-requires c κs = search needs
+tested-requires c κs = c .before .aimed-two .ensures
 
 refused-requires : tie.Need-refused-requires
 refused-requires c κs = search needs
@@ -101,6 +104,7 @@ pub unapply-spec : {M : Type 1} → statement M
 unapply-spec =
     tie.close
     (tie.spec
+    aimed-two-requires
     tested-requires
     refused-requires
     same-length

@@ -7,3 +7,4 @@ pub mod OrderedLaws
 pub mod StoredLaws
 pub mod SdsWritten
 pub mod TestedLaws
+pub mod Fresh

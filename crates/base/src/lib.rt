@@ -9,7 +9,8 @@ ghost use mathlib.Core.Path.{_≡_};
 ghost use Prim.Native.Nat.{_+_, _<_};
 ghost use lib.ListN.{length};
 ghost use Rattle.rules.specs.02-Limits.{limits};
-ghost use Rattle.rules.specs.07-Picture.{base-length};
+ghost use Rattle.rules.specs.04-Schema.{fresh};
+ghost use Rattle.rules.specs.07-Picture.{picture, base-length};
 ghost use Rattle.rules.specs.Read.{value-offset, reverse-offset, count-offset, parents-offset, name-offset, type-offset, to-offset, attribute-offset};
 ghost use Rattle.rules.specs.Read.{link-offset, side-offset, object-offset};
 ghost use Rattle.rows.specs.Rows.{part, Reads};
@@ -79,6 +80,28 @@ impl Base {
     pub const IMPLICIT: usize = 3;
 
     pub const DESIGNATION: usize = 4;
+
+    // A base by value, for a program that holds its own. Lending it as a slice needs the length.
+    pub fn fresh() -> [u8; Base::LENGTH]
+        ensures { λ r. ⌜ (r ≡ picture fresh) × (base-length ≡ length r) ⌝ }
+    {
+        let mut base: [u8; Base::LENGTH] = [0; Base::LENGTH];
+        write_fresh(&mut base);
+        base
+    }
+}
+
+// ---- all of it
+
+// All zero, but for the names of SDS 0 and type 0 and the kind of type 0.
+pub fn write_fresh(base: &mut [u8])
+    requires { ⌜ length (now base) ≡ base-length ⌝ }
+    ensures { λ _. ⌜ now (base .exit) ≡ picture fresh ⌝ }
+{
+    rows::table::clear(base);
+    rows::table::write(base, Base::SDSS_AT, b"system");
+    base[Base::TYPES_AT] = 1;
+    rows::table::write(base, Base::PRESENCES_AT + Base::NAME_OFFSET, b"object");
 }
 
 // ---- SDSs

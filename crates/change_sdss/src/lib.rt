@@ -11,7 +11,7 @@ pub fn fresh(base: &mut [u8]) -> Answer
     if base.len() != Base::LENGTH {
         return Answer::refused(1);
     }
-    edit::write_fresh(base);
+    base::write_fresh(base);
     Answer::done(0, 0, 0)
 }
 

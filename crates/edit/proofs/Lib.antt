@@ -1,4 +1,3 @@
-pub mod Fresh
 pub mod EditLaws
 pub mod TypeWritten
 pub mod TakenLaws

@@ -8,27 +8,14 @@ ghost use lib.ListN.{length};
 ghost use Rattle.rules.specs.01-Lists.{put};
 ghost use Rattle.rules.specs.02-Limits.{limits};
 ghost use Rattle.rules.specs.03-Names.{well-formed};
-ghost use Rattle.rules.specs.04-Schema.{bears, applied, has-end, fresh, with-presences, with-applications, with-ends};
+ghost use Rattle.rules.specs.04-Schema.{bears, applied, has-end, with-presences, with-applications, with-ends};
 ghost use Rattle.rules.specs.06-Good.{presence-before, application-before, end-before};
-ghost use Rattle.rules.specs.07-Picture.{presence-row, sds-row, picture, base-length};
+ghost use Rattle.rules.specs.07-Picture.{presence-row, sds-row, base-length};
 ghost use Rattle.rules.specs.Read.{read-side};
 ghost use Rattle.base.specs.Back.{schema-of, presence-count, application-count, end-count};
 ghost use Rattle.base.specs.Stored.{Stored, Shows, less-row, Type-written, type-fields};
 ghost use Rattle.rows.specs.Table.{written};
 ghost use Rattle.base.specs.Rows.{sds-at};
-
-// ---- all of it
-
-// All zero, but for the names of SDS 0 and type 0 and the kind of type 0.
-pub fn write_fresh(base: &mut [u8])
-    requires { ⌜ length (now base) ≡ base-length ⌝ }
-    ensures { λ _. ⌜ now (base .exit) ≡ picture fresh ⌝ }
-{
-    rows::table::clear(base);
-    rows::table::write(base, Base::SDSS_AT, b"system");
-    base[Base::TYPES_AT] = 1;
-    rows::table::write(base, Base::PRESENCES_AT + Base::NAME_OFFSET, b"object");
-}
 
 // ---- SDSs
 

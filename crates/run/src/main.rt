@@ -36,10 +36,9 @@ fn answer_all(base: &mut [u8], read: &mut [u8], line: &mut [u8], out: &mut [u8])
 }
 
 fn main() {
-    let mut base = [0u8; Base::LENGTH];
+    let mut base = Base::fresh();
     let mut read = io::buffer();
     let mut line = [0u8; Line::KEPT];
     let mut out = io::buffer();
-    change_sdss::fresh(&mut base);
     answer_all(&mut base, &mut read, &mut line, &mut out);
 }

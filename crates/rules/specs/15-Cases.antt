@@ -83,7 +83,9 @@ marked =
     -- New SDS "system": 11.
     ∷ calls (changes (new-sds (bytes "system")) (refusal 11) ∷ [])
     -- Importing what is present is 9, even if the new name is taken.
-    ∷ calls (bus ++ (changes (import 1 0 (bytes "object") (bytes "object") []) (refusal 9) ∷ []))
+    ∷ calls
+    (bus
+    ++ (changes (new-object 1 (bytes "unit") (bytes "object")) (success 1 0 0) ∷ changes (import 1 0 (bytes "object") (bytes "unit") []) (refusal 9) ∷ []))
     -- Rename to its own name: 0.
     ∷ calls (bus ++ (changes (rename 1 (bytes "object") (bytes "object")) (success 0 0 0) ∷ asks (find (1 ∷ []) (bytes "object")) (success 0 0 0) [] ∷ []))
     -- Pair of categories 3 and 3: 5; 0 and 3: done.

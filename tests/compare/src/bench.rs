@@ -112,7 +112,7 @@ fn show_progress(what: &str) {
     }
 }
 
-/// SDSs 1 and 2, where there are both: the working schema of every question.
+/// The working schema of every question: SDSs 1 and 2, as far as they are used.
 fn working_schema(schema: &Schema) -> Vec<u8> {
     [1, 2].into_iter().filter(|&sds| schema.sdss.contains_key(&sds.into())).collect()
 }

@@ -13,6 +13,7 @@ struct Answer {
     three: usize,
 }
 
+// Laid out as in the header.
 #[rustfmt::skip]
 unsafe extern "C" {
     safe fn cf_base_length() -> usize;
@@ -59,14 +60,16 @@ unsafe extern "C" {
                          ty: usize) -> Answer;
 }
 
-/// Makes the call on what is lent; `x`, `y` and `z` are its slices beside base and output, in the order of the header.
+/// Makes the call on what is lent. `b` is the base; `x`, `y` and `z` are the slices beside base and output, in the order
+/// of the header. A call stays one line or two, to be held to that.
 #[rustfmt::skip]
 fn made(call: &Call, lent: &Lent) -> Found {
     let Area { mut bytes, parts } = Area::of(call, lent);
     let start = bytes.as_mut_ptr();
     let [(b, b_len), (output, output_len), (x, x_len), (y, y_len), (z, z_len)] =
         parts.map(|part| (start.wrapping_add(part.start), part.len()));
-    // SAFETY: each slice is a part of `bytes`, which nothing else reads or writes here, and no two parts overlap.
+    // SAFETY: each slice is a part of `bytes`, which nothing else reads or writes here, and no two parts overlap. The
+    // library keeps no pointer.
     let answer = unsafe {
         match *call {
             Call::Fresh => cf_fresh(b, b_len),

@@ -14,7 +14,7 @@ use Rattle.base.specs.Back.{schema-of, Canonical}
 use Rattle.base.proofs.Back.{sound-canonical, sound-good, is-sound}
 use Rattle.check_types.specs.TypeRows.{KindsFine}
 use Rattle.check_rows.specs.Fine.{Sdss-fine, Presences-fine, Rest-fine}
-use Rattle.check_sdss.specs.Sds.{Sdss-closed}
+use Rattle.check_uses.specs.Uses.{Sdss-closed}
 
 -- all that is decided
 pub record Decided (b : List ℕ) : Type 0 where

@@ -31,5 +31,5 @@ pub fn is_sound(base: &[u8]) -> bool
     if !check_rows::rest::rest_fine(base) {
         return false;
     }
-    check_sdss::closed_fine(base)
+    check_uses::closed_fine(base)
 }

@@ -67,10 +67,10 @@ bit-pow (suc n) (suc k) =
     ∙ ap (λ (x : ℕ). bit x k) (ap (λ (x : ℕ). x / 2) (sym (one-mul (2 ^ suc n))) ∙ shifted-half 1 n ∙ one-mul (2 ^ n))
     ∙ bit-pow n k ∙ sym (eqb·suc-suc k n)
 
--- what the code's shifts and masks are: a bit set, and a bit read
-pub bit-set : (w n k : ℕ) → n < 64 → bit (bitOr w (1 * 2 ^ n % 2 ^ 64)) k ≡ bit w k || eqb k n
-bit-set w n k h =
-    let one : 1 * 2 ^ n % 2 ^ 64 ≡ 2 ^ n = shl-exact 1 n 64 (lit< tt) (omega arith) ∙ one-mul (2 ^ n) in
+-- what the code's shifts and masks are: a bit set in a word of some width, and a bit read
+pub bit-set : (width w n k : ℕ) → n < width → bit (bitOr w (1 * 2 ^ n % 2 ^ width)) k ≡ bit w k || eqb k n
+bit-set width w n k h =
+    let one : 1 * 2 ^ n % 2 ^ width ≡ 2 ^ n = shl-exact 1 n width (lit< tt) (omega arith) ∙ one-mul (2 ^ n) in
     ap (λ (x : ℕ). bit (bitOr w x) k) one ∙ bit-or w (2 ^ n) k ∙ ap (λ (x : Bool). bit w k || x) (bit-pow n k)
 
 pub bit-masked : (w n : ℕ) → eqb (bitAnd (w / 2 ^ n) 1) 1 ≡ bit w n

@@ -92,7 +92,7 @@ pub has-add-low : (s : TypeSet) (n : ℕ) → n < 64 → (k : ℕ)
 has-add-low s n hn k =
     let r : TypeSet = record { low = bitOr (s .low) (1 * 2 ^ n % 2 ^ 64); high = s .high } in
     by-word _ k
-    (λ u. has-low r k u ∙ bit-set (s .low) n k hn ∙ or-comm (bit (s .low) k) (eqb k n) ∙ ap (λ (b : Bool). eqb k n || b) (sym (has-low s k u)))
+    (λ u. has-low r k u ∙ bit-set 64 (s .low) n k hn ∙ or-comm (bit (s .low) k) (eqb k n) ∙ ap (λ (b : Bool). eqb k n || b) (sym (has-low s k u)))
     (λ l u. has-high r k l u ∙ sym (has-high s k l u) ∙ apart k n (λ e. omega arith) (has s k))
     (λ l. has-past r k l ∙ sym (has-past s k l) ∙ apart k n (λ e. omega arith) (has s k))
 
@@ -103,7 +103,7 @@ has-add-high s n ln hn k =
     by-word _ k
     (λ u. has-low r k u ∙ sym (has-low s k u) ∙ apart k n (λ e. omega arith) (has s k))
     (λ l u.
-    has-high r k l u ∙ bit-set (s .high) (n - 64) (k - 64) (omega arith) ∙ or-comm (bit (s .high) (k - 64)) (eqb (k - 64) (n - 64))
+    has-high r k l u ∙ bit-set 64 (s .high) (n - 64) (k - 64) (omega arith) ∙ or-comm (bit (s .high) (k - 64)) (eqb (k - 64) (n - 64))
     ∙ ap₂ _||_ (eqb-sub k n l ln) (sym (has-high s k l u)))
     (λ l. has-past r k l ∙ sym (has-past s k l) ∙ apart k n (λ e. omega arith) (has s k))
 

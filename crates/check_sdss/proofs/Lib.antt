@@ -1,2 +1,0 @@
-pub mod ClosedLaws
-pub mod SdsLaws

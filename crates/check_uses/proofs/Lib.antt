@@ -1,0 +1,2 @@
+pub mod UseLaws
+pub mod GroupLaws

@@ -1,12 +1,14 @@
--- Laws of one bit of a word: what `|`, `&`, `<<` and `>>` do to it, and that a word is known by its bits. Assumes nothing.
-use Prim.Native.Nat.{ℕ, zero, suc, _*_, _/_, _%_, _^_, _<_}
-use native.Mathlib.Nat.{zero-div, div-one, one-mul, mod-lt}
+-- Laws of one bit of a word: what `|`, `&`, `!`, `<<` and `>>` do to it, which bit is the lowest, and that a word is known by its bits.
+-- Assumes nothing.
+use Prim.Native.Nat.{ℕ, zero, suc, _-_, _*_, _/_, _%_, _^_, _<_}
+use native.Mathlib.Nat.{zero-div, div-one, one-mul, mod-lt, pow-suc}
 use native.Mathlib.Numerals.{add-one, one-add}
 use native.Mathlib.Omega.{arith}
 use mathlib.Core.Path.{_≡_, refl, sym, ap, _∙_}
-use mathlib.Core.Bool.{Bool, false, _&&_, _||_}
+use mathlib.Core.Bool.{Bool, true, false, not, _&&_, _||_}
 use lib.Arith.{lt-one}
 use lib.Bits.{bitAnd, bitOr, and-mask, and-mod, and-shr, or-mod, or-shr, shifted-even, shifted-half}
+use lib.Count.{trailingZeros, under}
 use lib.Dec.{eqb, lit<, eqb·suc-suc, eqb·suc-zero, eqb·zero-suc}
 use lib.Pow.{shl-exact, shr-lt, shr-shr}
 use Rattle.rules.specs.11-Asks.{one-if}
@@ -55,6 +57,19 @@ bit-or = bit-both bitOr _||_ or-shr or-mod refl refl refl refl
 pub bit-and : (a b n : ℕ) → bit (bitAnd a b) n ≡ bit a n && bit b n
 bit-and = bit-both bitAnd _&&_ and-shr and-mod refl refl refl refl
 
+-- a word's complement
+bit-not : (k w n : ℕ) → w < 2 ^ k → n < k → bit (2 ^ k - 1 - w) n ≡ not (bit w n)
+bit-not zero w n h l = absurd (omega arith)
+bit-not (suc k) w zero h l =
+    let digit : (2 ^ suc k - 1 - w) % 2 ≡ 1 - w % 2 = omega (arith, pow-suc 2 k) in
+    bit-low (2 ^ suc k - 1 - w) ∙ rw (digit, bit-low w) (by-digit (λ d. eqb (1 - d) 1 ≡ not (eqb d 1)) refl refl w)
+bit-not (suc k) w (suc n) h l =
+    let half : (2 ^ suc k - 1 - w) / 2 ≡ 2 ^ k - 1 - w / 2 = omega (arith, pow-suc 2 k) in
+    bit-step (2 ^ suc k - 1 - w) n ∙ rw (half, bit-step w n) (bit-not k (w / 2) n (omega (arith, pow-suc 2 k)) (omega arith))
+
+pub bit-without : (a b n : ℕ) → b < 2 ^ 64 → n < 64 → bit (bitAnd a (2 ^ 64 - 1 - b)) n ≡ bit a n && not (bit b n)
+bit-without a b n h l = bit-and a (2 ^ 64 - 1 - b) n ∙ ap (λ (x : Bool). bit a n && x) (bit-not 64 b n h l)
+
 -- a mark alone
 bit-pow : (n k : ℕ) → bit (2 ^ n) k ≡ eqb k n
 unfolding bit
@@ -76,6 +91,35 @@ bit-set width w n k h =
 pub bit-masked : (w n : ℕ) → eqb (bitAnd (w / 2 ^ n) 1) 1 ≡ bit w n
 unfolding bit
 bit-masked w n = ap (λ (x : ℕ). eqb x 1) (and-mask (w / 2 ^ n) 1)
+
+-- as many zeros as stand below the lowest mark are its number
+module _ (w : ℕ) where
+  even-low : w % 2 ≡ 0 → bit w 0 ≡ false
+  even-low e = bit-low w ∙ rw e
+
+  odd-low : (d : ℕ) → w % 2 ≡ suc d → bit w 0 ≡ true
+  odd-low d e = let one : w % 2 ≡ 1 = omega arith in bit-low w ∙ rw one
+
+pub trailing-first : (k w i : ℕ) → i < trailingZeros k w → bit w i ≡ false
+unfolding trailingZeros
+trailing-first zero w i h = absurd (omega arith)
+trailing-first (suc k) w i h = go (w % 2) refl i h (trailing-first k (w / 2))
+  where
+    go : (d : ℕ) → w % 2 ≡ d → (i : ℕ) → i < under d (trailingZeros k (w / 2)) → ((i : ℕ) → i < trailingZeros k (w / 2) → bit (w / 2) i ≡ false)
+        → bit w i ≡ false
+    go zero e zero h rest = even-low w e
+    go zero e (suc i) h rest = bit-step w i ∙ rest i (omega arith)
+    go (suc d) e i h rest = absurd (omega arith)
+
+pub trailing-marked : (k w : ℕ) → trailingZeros k w < k → bit w (trailingZeros k w) ≡ true
+unfolding trailingZeros
+trailing-marked zero w h = absurd (omega arith)
+trailing-marked (suc k) w h = go (w % 2) refl h (trailing-marked k (w / 2))
+  where
+    go : (d : ℕ) → w % 2 ≡ d → under d (trailingZeros k (w / 2)) < suc k
+        → (trailingZeros k (w / 2) < k → bit (w / 2) (trailingZeros k (w / 2)) ≡ true) → bit w (under d (trailingZeros k (w / 2))) ≡ true
+    go zero e h rest = bit-step w (trailingZeros k (w / 2)) ∙ rest (omega arith)
+    go (suc d) e h rest = odd-low w d e
 
 -- a digit is known by its test
 digit : (x : ℕ) → one-if (eqb (x % 2) 1) ≡ x % 2

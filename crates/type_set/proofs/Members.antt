@@ -9,8 +9,9 @@ use mathlib.Core.Logic.{⊎-elim}
 use mathlib.Core.List.{List, [], _∷_, _++_, List·Memᴰ·cases-cons}
 use mathlib.Core.Bool.{Bool, true, false, cond, false≢true}
 use lib.Count.{ones, ones-cat}
-use lib.Dec.{lit<}
+use lib.Dec.{ltb, lit<}
 use lib.ListN.{length, getD, length-append}
+use borrow.Author.Tests.{ltb-false, ltb-true}
 use Rattle.rules.specs.01-Lists.{_∈_, numbers}
 use Rattle.rules.specs.05-Descent.{members}
 use Rattle.rules.specs.11-Asks.{one-if, marks}
@@ -53,6 +54,14 @@ module _ (p q : ℕ → Bool) (part : (k : ℕ) → p k ≡ true → q k ≡ tru
           let new : k ∈ members p → ⊥ = λ i. false≢true (sym g ∙ members-in p k i .1) in
           let more = members-at-most q (k ∷ members p) (new, different) (λ x i. ⊎-elim (λ s. rw s (u, e)) (passes x) (List·Memᴰ·cases-cons i)) in
           absurd (omega arith)
+
+  -- so that one that lacks a type of the whole has fewer
+  pub members-fewer : (k : ℕ) → k < 128 → p k ≡ false → q k ≡ true → length (members p) < length (members q)
+  members-fewer k u out e = go (ltb (length (members p)) (length (members q))) refl
+    where
+      go : (b : Bool) → ltb (length (members p)) (length (members q)) ≡ b → length (members p) < length (members q)
+      go true h = ltb-true (length (members p)) (length (members q)) h
+      go false h = absurd (false≢true (sym out ∙ members-same (ltb-false (length (members p)) (length (members q)) h) k u e))
 
 -- ---- the types from t on that pass: t and those behind it, or those alone
 

@@ -1,11 +1,12 @@
--- Laws of sets of marks: what each method does to `has`, that the marks determine the words, and the count. Assumes nothing.
+-- Laws of sets of marks: what each method does to `has`, the lowest mark, that the marks determine the words, and the count. Assumes
+-- nothing.
 use Prim.Native.Nat.{ℕ, zero, suc, _+_, _-_, _*_, _/_, _%_, _^_, _≤_, _<_}
 use native.Mathlib.Omega.{arith}
 use mathlib.Core.Path.{_≡_, refl, sym, ap, ap₂, _∙_}
 use mathlib.Core.List.{[], _∷_}
-use mathlib.Core.Bool.{Bool, true, false, _&&_, _||_, or-comm}
+use mathlib.Core.Bool.{Bool, true, false, not, _&&_, _||_, or-comm}
 use lib.Bits.{bitAnd, bitOr}
-use lib.Count.{ones}
+use lib.Count.{ones, trailingZeros, trailing-le}
 use lib.Dec.{eqb, ltb}
 use lib.ListN.{length, getD, List·getD-eq-default}
 use borrow.Author.Tests.{eqb-false, eqb-true, eq-eqb, ltb-false, ltb-true, ne-eqb}
@@ -13,8 +14,8 @@ use Rattle.rules.specs.05-Descent.{members}
 use Rattle.rules.specs.11-Asks.{one-if, marks}
 use Rattle.rules.proofs.11-Asks.{marks-bit, marks-fit}
 use Rattle.type_set.specs.declared.TypeSet.{TypeSet}
-use Rattle.type_set.specs.Set.{bit, words, has}
-use Rattle.type_set.proofs.Bit.{bit-zero, bit-or, bit-and, bit-set, word-same}
+use Rattle.type_set.specs.Set.{bit, words, has, Lowest}
+use Rattle.type_set.proofs.Bit.{bit-zero, bit-or, bit-and, bit-without, bit-set, trailing-first, trailing-marked, word-same}
 use Rattle.type_set.proofs.Members.{ones-members}
 
 -- ---- where a mark stands
@@ -76,6 +77,18 @@ has-join = has-both bitOr _||_ refl bit-or
 pub has-meet : (s t : TypeSet) (k : ℕ) → has (record { low = bitAnd (s .low) (t .low); high = bitAnd (s .high) (t .high) }) k ≡ has s k && has t k
 has-meet = has-both bitAnd _&&_ refl bit-and
 
+pub has-without : (s t : TypeSet) → t .low < 2 ^ 64 → t .high < 2 ^ 64 → (k : ℕ)
+    → has (record { low = bitAnd (s .low) (2 ^ 64 - 1 - t .low); high = bitAnd (s .high) (2 ^ 64 - 1 - t .high) }) k ≡ has s k && not (has t k)
+has-without s t l h k =
+    let r : TypeSet = record { low = bitAnd (s .low) (2 ^ 64 - 1 - t .low); high = bitAnd (s .high) (2 ^ 64 - 1 - t .high) } in
+    by-word _ k
+    (λ u. has-low r k u ∙ bit-without (s .low) (t .low) k l u ∙ sym (ap₂ taken (has-low s k u) (has-low t k u)))
+    (λ v u. has-high r k v u ∙ bit-without (s .high) (t .high) (k - 64) h (omega arith) ∙ sym (ap₂ taken (has-high s k v u) (has-high t k v u)))
+    (λ v. has-past r k v ∙ sym (ap (λ (x : Bool). taken x (has t k)) (has-past s k v)))
+  where
+    taken : Bool → Bool → Bool
+    taken x y = x && not y
+
 -- a mark that is not the one added
 apart : (k n : ℕ) → (k ≡ n → ⊥) → (b : Bool) → b ≡ eqb k n || b
 apart k n h b = rw (ne-eqb k n h)
@@ -106,6 +119,43 @@ has-add-high s n ln hn k =
     has-high r k l u ∙ bit-set 64 (s .high) (n - 64) (k - 64) (omega arith) ∙ or-comm (bit (s .high) (k - 64)) (eqb (k - 64) (n - 64))
     ∙ ap₂ _||_ (eqb-sub k n l ln) (sym (has-high s k l u)))
     (λ l. has-past r k l ∙ sym (has-past s k l) ∙ apart k n (λ e. omega arith) (has s k))
+
+-- ---- the lowest mark
+
+module _ (s : TypeSet) where
+  -- a word that is not 0 has a mark
+  low-marked : s .low < 2 ^ 64 → (s .low ≡ 0 → ⊥) → trailingZeros 64 (s .low) < 64
+  low-marked h some = go (ltb (trailingZeros 64 (s .low)) 64) refl
+    where
+      go : (b : Bool) → ltb (trailingZeros 64 (s .low)) 64 ≡ b → trailingZeros 64 (s .low) < 64
+      go true e = ltb-true (trailingZeros 64 (s .low)) 64 e
+      go false e =
+          let past = ltb-false (trailingZeros 64 (s .low)) 64 e in
+          absurd (some (word-same 64 (s .low) 0 h (omega arith) (λ i u. trailing-first 64 (s .low) i (omega arith) ∙ sym (bit-zero i))))
+
+  pub lowest-low : s .low < 2 ^ 64 → (s .low ≡ 0 → ⊥) → Lowest (has s) (trailingZeros 64 (s .low))
+  lowest-low h some =
+      let u = low-marked h some in
+      record {
+        most = omega arith;
+        passes = λ _. has-low s (trailingZeros 64 (s .low)) u ∙ trailing-marked 64 (s .low) u;
+        first = λ k l. has-low s k (omega arith) ∙ trailing-first 64 (s .low) k l;
+      }
+
+  pub lowest-high : s .low ≡ 0 → Lowest (has s) (trailingZeros 64 (s .high) + 64)
+  lowest-high none = record {
+    most = omega (arith, trailing-le 64 (s .high));
+    passes = λ u.
+        has-high s (trailingZeros 64 (s .high) + 64) (omega arith) u ∙ ap (bit (s .high)) (omega arith) ∙ trailing-marked 64 (s .high) (omega arith);
+    first = λ k l. by-word _ k
+        (λ u. has-low s k u ∙ ap (λ (w : ℕ). bit w k) none ∙ bit-zero k)
+        (λ v u. has-high s k v u ∙ trailing-first 64 (s .high) (k - 64) (omega arith))
+        (has-past s k);
+  }
+
+  -- no type is the lowest of a set that has none
+  pub lowest-none : {n : ℕ} → Lowest (has s) n → (n < 128 → ⊥) → (k : ℕ) → has s k ≡ false
+  lowest-none l none k = by-word _ k (λ u. l .first k (omega arith)) (λ v u. l .first k (omega arith)) (has-past s k)
 
 -- ---- the marks determine the words
 

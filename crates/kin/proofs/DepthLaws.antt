@@ -4,23 +4,20 @@ use Prim.Native.Nat.{ℕ, zero, suc, _+_, _≤_, _<_}
 use native.Mathlib.Numerals.{add-one}
 use native.Mathlib.Nat.{zero-add}
 use native.Mathlib.Omega.{arith}
-use mathlib.Core.Path.{_≡_, refl, sym, ap, _∙_, subst}
+use mathlib.Core.Path.{_≡_, refl, sym, _∙_, subst}
 use mathlib.Core.Logic.{_⊎_, inl, inr}
-use mathlib.Core.List.{List, [], _∷_}
-use mathlib.Core.List.List·Memᴰ.{List·Memᴰ·head}
 use mathlib.Core.Bool.{Bool, true, false, _||_, false≢true}
 use lib.Dec.{eqb, ltb}
-use lib.ListN.{length}
 use borrow.Author.Tests.{eqb-true, eq-eqb, ltb-true, ltb-false}
-use Rattle.rules.specs.04-Schema.{Schema, kind-of, is-object}
-use Rattle.rules.specs.05-Descent.{Parent, Chain, depth, members}
+use Rattle.rules.specs.04-Schema.{Schema, kind-of, is-object, is-parent}
+use Rattle.rules.specs.05-Descent.{Parent, Chain, depth}
 use Rattle.rules.specs.05-Descent.Chain.{at-root, up}
 use Rattle.rules.specs.06-Good.{Good}
 use Rattle.rules.proofs.Bools.{or-cases, or-left}
-use Rattle.rules.proofs.01-Lists.{at-place}
-use Rattle.rules.proofs.05-Descent.{members-in, members-of, members-most, objects, chain-short, depth-greatest, depth-reached}
+use Rattle.rules.proofs.05-Descent.{members-most, objects, chain-short, depth-greatest, depth-reached}
 use Rattle.kin.specs.Kin.{parents-of}
-use Rattle.kin.proofs.KinLaws.{parent-is, is-parent-of, near, Stepped, stepped}
+use Rattle.kin.proofs.KinLaws.{parent-is, is-parent-of}
+use Rattle.kin.proofs.ReachLaws.{Stepped, parents-stepped}
 
 -- k is n parent steps above t
 pub data Above (s : Schema) (t : ℕ) : ℕ → ℕ → Type 0 where
@@ -31,16 +28,6 @@ pub data Above (s : Schema) (t : ℕ) : ℕ → ℕ → Type 0 where
 pub record Level (s : Schema) (t n : ℕ) (p : ℕ → Bool) : Type 0 where
   pub only : (k : ℕ) → p k ≡ true → Above s t n k
   pub all : (k : ℕ) → Above s t n k → p k ≡ true
-
-some-member : (p : ℕ → Bool) → (length (members p) ≡ 0 → ⊥) → (k : ℕ) × (p k ≡ true)
-some-member p h = go (members p) refl
-  where
-    go : (l : List ℕ) → members p ≡ l → (k : ℕ) × (p k ≡ true)
-    go [] e = absurd (h (ap length e))
-    go (k ∷ l) e = (k, members-in p k (rw e (List·Memᴰ·head refl)) .1)
-
-no-member : (p : ℕ → Bool) → length (members p) ≡ 0 → (k : ℕ) → k < 128 → p k ≡ true → ⊥
-no-member p none k l e = let (i, u, at) = at-place 0 (members-of p k l e) in omega arith
 
 module _ (s : Schema) (t : ℕ) where
   pub level-none : (p none : ℕ → Bool) → ((k : ℕ) → none k ≡ false) → ((k : ℕ) → p k ≡ eqb k t || none k) → Level s t 0 p
@@ -64,8 +51,8 @@ module _ {s : Schema} {t : ℕ} where
     all = λ k way. within way;
   })
     where
-      step : Stepped (near s true) p q
-      step = stepped s true p q made
+      step : Stepped (is-parent s) p q
+      step = parents-stepped s p q made
 
       within : {k : ℕ} → Above s t (suc n) k → q k ≡ true
       within {k} (one-more {u = u} way by) =
@@ -95,18 +82,16 @@ module _ {s : Schema} (good : Good s) (t : ℕ) (o : is-object (kind-of s t) ≡
   depth-small = omega (arith, chain-short good t (depth s t) (depth-reached good t o), members-most (objects good))
 
   -- a level that has a type is no higher than the depth, and the first that has none is just above it
-  pub level-some : {n : ℕ} {p : ℕ → Bool} → Level s t n p → (length (members p) ≡ 0 → ⊥) → n ≤ depth s t
-  level-some {n} {p} level some =
-      let (k, e) = some-member p some in
+  pub level-some : {n : ℕ} {p : ℕ → Bool} → Level s t n p → (k : ℕ) → p k ≡ true → n ≤ depth s t
+  level-some {n} level k e =
       let way = level .only k e in
       omega (arith, depth-greatest good t (n + depth s k) (chained way (depth-reached good k (above-object way))))
 
-  pub level-last : {n : ℕ} {p : ℕ → Bool} → Level s t n p → length (members p) ≡ 0 → ((k : ℕ) → p k ≡ true → k < 128) → depth s t < n
-  level-last {n} {p} level none below = go (ltb (depth s t) n) refl
+  pub level-last : {n : ℕ} {p : ℕ → Bool} → Level s t n p → ((k : ℕ) → p k ≡ false) → depth s t < n
+  level-last {n} level none = go (ltb (depth s t) n) refl
     where
       go : (x : Bool) → ltb (depth s t) n ≡ x → depth s t < n
       go true e = ltb-true (depth s t) n e
       go false e =
           let (k, j, way, rest, e) = begun n (ltb-false (depth s t) n e) (depth-reached good t o) in
-          let at = level .all k way in
-          absurd (no-member p none k (below k at) at)
+          absurd (false≢true (sym (none k) ∙ level .all k way))

@@ -1,45 +1,36 @@
--- Laws of kin. What is left decides: the parents or the types that a loop has not come to, with what it has found, make its answer. And a
--- set that grows step by step has all that it reaches once a step adds none. Assumes nothing.
-use Prim.Native.Nat.{ℕ, _+_, _-_, _≤_, _<_}
+-- Laws of parents and children. What is left decides: the parents or the types that a loop has not come to, with what it has found, make
+-- its answer. Assumes nothing.
+use Prim.Native.Nat.{ℕ, _+_, _<_}
 use native.Mathlib.Numerals.{add-one}
 use native.Mathlib.Omega.{arith}
 use mathlib.Core.Path.{_≡_, refl, sym, ap, _∙_}
-use mathlib.Core.Logic.{⊎-elim}
+use mathlib.Core.Logic.{_⊎_, inl, inr, ⊎-elim}
 use mathlib.Core.List.{List}
-use mathlib.Core.Bool.{Bool, true, false, cond, _||_, or-false, false≢true}
+use mathlib.Core.Bool.{Bool, true, false, not, _&&_, _||_, and-false, or-false, false≢true}
 use lib.Dec.{eqb, ltb}
 use lib.ListN.{length, getD, drop}
 use lib.Seq.{drop-cons, drop-length}
 use borrow.Author.Tests.{eqb-true, eq-eqb, ltb-true, ltb-false}
-use Rattle.rules.specs.01-Lists.{any, numbers}
+use Rattle.rules.specs.01-Lists.{any}
 use Rattle.rules.specs.04-Schema.{Schema, parents, is-parent}
-use Rattle.rules.specs.05-Descent.{Parent, Descends, descends, members}
-use Rattle.rules.specs.05-Descent.Descends.{by-parent, by-step}
-use Rattle.rules.specs.06-Good.{Good}
+use Rattle.rules.specs.05-Descent.{Parent, members}
 use Rattle.rules.specs.Read.{count-offset, parents-offset}
-use Rattle.rules.proofs.Bools.{same-test, or-cases, or-left, or-right}
+use Rattle.rules.proofs.Bools.{same-test, or-cases, or-left, or-right, and-both}
 use Rattle.rules.proofs.01-Lists.{any-at, any-where, numbers-none}
-use Rattle.rules.proofs.05-Descent.{members-in, members-of, child-object, past, descends-sound, descends-full}
+use Rattle.rules.proofs.05-Descent.{members-in, members-of, child-object}
 use Rattle.base.specs.Rows.{type-at}
 use Rattle.base.specs.Back.{schema-of}
 use Rattle.type_set.specs.declared.TypeSet.{TypeSet}
 use Rattle.type_set.specs.Set.{has}
 use Rattle.type_set.specs.Round.{grow-to}
 use Rattle.type_set.proofs.Set.{has-past}
-use Rattle.type_set.proofs.Members.{members-same, types-taken, types-passed}
+use Rattle.type_set.proofs.Members.{members-fewer}
 use Rattle.type_set.proofs.Round.{grow-cases, grow-taken}
 use Rattle.lookup.specs.Parents.{Parental}
-use Rattle.kin.specs.Kin.{parents-of, children-of, ancestors-of, descendants-of, next-of, line-of}
+use Rattle.kin.specs.Kin.{parents-of, children-of}
 use Rattle.lookup.proofs.Parents.{object-below, parent-below, parents-count, parents-place}
 
 -- ---- tests
-
--- a choice by a test that is known
-pub chosen-first : (test x y : Bool) → test ≡ true → x ≡ cond test x y
-chosen-first test x y e = rw e
-
-pub chosen-last : (test x y : Bool) → test ≡ false → y ≡ cond test x y
-chosen-last test x y e = rw e
 
 -- what is found goes over from what is left
 moved : (x left found : Bool) → left || (x || found) ≡ (x || left) || found
@@ -53,7 +44,7 @@ unfolding any
 any-left f l i h = rw (drop-cons l i 0 h, add-one i)
 
 -- some type of p passes
-any-member : (f p : ℕ → Bool) → any f (members p) ≡ true → (t : ℕ) × (t < 128) × (p t ≡ true) × (f t ≡ true)
+pub any-member : (f p : ℕ → Bool) → any f (members p) ≡ true → (t : ℕ) × (t < 128) × (p t ≡ true) × (f t ≡ true)
 any-member f p e =
     let (t, i, h) = any-where f (members p) e in
     let (l, g) = members-in p t i in
@@ -138,30 +129,54 @@ module _ {b : List ℕ} (rows : Parental b) (t : ℕ) (h : t < 128) where
 
 -- ---- the parents of a set, type by type
 
--- the types of p from n on are those whose parents are still to be added to q
-pub record Parents-past (s : Schema) (p : ℕ → Bool) (n : ℕ) (q : ℕ → Bool) : Type 0 where
-  pub left : (k : ℕ) → any (λ t. is-parent s t k) (numbers n (128 - n) p) || q k ≡ parents-of s p k
+-- what is left of a set p without one type t
+pub taken-out : (p q one none : ℕ → Bool) (t : ℕ) → ((k : ℕ) → none k ≡ false) → ((k : ℕ) → one k ≡ eqb k t || none k)
+    → ((k : ℕ) → q k ≡ p k && not (one k)) → (k : ℕ) → q k ≡ p k && not (eqb k t)
+taken-out p q one none t empty alone out k =
+    out k ∙ ap (λ (x : Bool). p k && not x) (alone k ∙ ap (λ (x : Bool). eqb k t || x) (empty k) ∙ or-false (eqb k t))
+
+module _ (p q : ℕ → Bool) (t : ℕ) (h : t < 128) (e : p t ≡ true) (out : (k : ℕ) → q k ≡ p k && not (eqb k t)) where
+  pub fewer-left : length (members q) < length (members p)
+  fewer-left =
+      members-fewer q p (λ k g. and-both (p k) (not (eqb k t)) (sym (out k) ∙ g) .0) t h
+      (out t ∙ ap (λ (x : Bool). p t && not x) (eq-eqb t t refl) ∙ and-false (p t)) e
+
+  others : (k : ℕ) → p k ≡ true → (x : Bool) → eqb k t ≡ x → (k ≡ t) ⊎ (q k ≡ true)
+  others k g true d = inl (eqb-true k t d)
+  others k g false d = inr (out k ∙ rw (g, d))
+
+  any-taken : (f : ℕ → Bool) → any f (members p) ≡ f t || any f (members q)
+  any-taken f = same-test _ _
+      (λ a.
+      let (u, l, g, i) = any-member f p a in
+      ⊎-elim (λ s. or-left (f t) _ (ap f (sym s) ∙ i)) (λ g. or-right (f t) _ (any-at f (members-of q u l g) i)) (others u g (eqb u t) refl))
+      (λ a. ⊎-elim
+      (λ i. any-at f (members-of p t h e) i)
+      (λ b. let (u, l, g, i) = any-member f q b in any-at f (members-of p u l (and-both (p u) (not (eqb u t)) (sym (out u) ∙ g) .0)) i)
+      (or-cases (f t) (any f (members q)) a))
+
+-- the types that are left are those whose parents are still to be added to q
+pub record Parents-left (s : Schema) (p left q : ℕ → Bool) : Type 0 where
+  pub all : (k : ℕ) → any (λ t. is-parent s t k) (members left) || q k ≡ parents-of s p k
 
 module _ (s : Schema) (p : ℕ → Bool) where
-  pub parents-none : (q : ℕ → Bool) → ((k : ℕ) → q k ≡ false) → Parents-past s p 0 q
-  unfolding parents-of members
-  parents-none q none = record { left = λ k. rw (none k) (or-false (any (λ t. is-parent s t k) (numbers 0 128 p))) }
+  pub parents-none : (q : ℕ → Bool) → ((k : ℕ) → q k ≡ false) → Parents-left s p p q
+  unfolding parents-of
+  parents-none q none = record { all = λ k. rw (none k) (or-false (any (λ t. is-parent s t k) (members p))) }
 
-module _ {s : Schema} {p q : ℕ → Bool} (n : ℕ) (h : n < 128) (so-far : Parents-past s p n q) where
-  pub parents-more : p n ≡ true → (r : ℕ → Bool) → ((k : ℕ) → r k ≡ is-parent s n k || q k) → Parents-past s p (n + 1) r
-  unfolding any
-  parents-more e r made = record {
-    left = λ k.
-        let rest = any (λ t. is-parent s t k) (numbers (n + 1) (128 - (n + 1)) p) in
-        ap (λ (x : Bool). rest || x) (made k) ∙ moved (is-parent s n k) rest (q k) ∙ (rw (types-taken p n h e) at (so-far .left k));
+module _ {s : Schema} {p left q : ℕ → Bool} (so-far : Parents-left s p left q) where
+  pub parents-more : (rest r : ℕ → Bool) (t : ℕ) → t < 128 → left t ≡ true → ((k : ℕ) → rest k ≡ left k && not (eqb k t))
+      → ((k : ℕ) → r k ≡ is-parent s t k || q k) → Parents-left s p rest r
+  parents-more rest r t h e out made = record {
+    all = λ k.
+        let f : ℕ → Bool = λ t. is-parent s t k in
+        ap (λ (x : Bool). any f (members rest) || x) (made k) ∙ moved (f t) (any f (members rest)) (q k)
+        ∙ ap (λ (x : Bool). x || q k) (sym (any-taken left rest t h e out f)) ∙ so-far .all k;
   }
 
-  pub parents-skip : p n ≡ false → Parents-past s p (n + 1) q
-  parents-skip e = record { left = λ k. rw (types-passed p n h e) at (so-far .left k) }
-
-pub parents-all : {s : Schema} {p q : ℕ → Bool} {n : ℕ} → n ≡ 128 → Parents-past s p n q → (k : ℕ) → q k ≡ parents-of s p k
-unfolding numbers any
-parents-all e so-far k = rw e at (so-far .left k)
+  pub parents-all : ((k : ℕ) → left k ≡ false) → (k : ℕ) → q k ≡ parents-of s p k
+  unfolding members any
+  parents-all none k = ap (λ (l : List ℕ). any (λ t. is-parent s t k) l || q k) (sym (numbers-none left 0 128 (λ k l u. none k))) ∙ so-far .all k
 
 -- ---- the children of a set: a round over the types, from nothing
 
@@ -186,141 +201,3 @@ has-below s k e = go (ltb k 128) refl
     go : (x : Bool) → ltb k 128 ≡ x → k < 128
     go true h = ltb-true k 128 h
     go false h = absurd (false≢true (sym (has-past s k (ltb-false k 128 h)) ∙ e))
-
--- ---- the fixed point of a step, whichever it is: R t k says that k is one step from t
-
--- k is in p, or one or more steps from it
-pub data Reach (R : ℕ → ℕ → Bool) (p : ℕ → Bool) : ℕ → Type 0 where
-  at-start : {k : ℕ} → p k ≡ true → Reach R p k
-  a-step-on : {t k : ℕ} → Reach R p t → R t k ≡ true → Reach R p k
-
--- q grows from p to what p reaches: it has kept the n types that it had a step before, and has what is one step from these
-pub record Growing (R : ℕ → ℕ → Bool) (p : ℕ → Bool) (n : ℕ) (q : ℕ → Bool) : Type 0 where
-  pub before : ℕ → Bool
-  pub many : n ≡ length (members before)
-  pub kept : (k : ℕ) → before k ≡ true → q k ≡ true
-  pub start : (k : ℕ) → p k ≡ true → q k ≡ true
-  pub further : (t k : ℕ) → t < 128 → before t ≡ true → R t k ≡ true → q k ≡ true
-  pub only : (k : ℕ) → q k ≡ true → Reach R p k
-
--- q has what is one step from p
-pub record Stepped (R : ℕ → ℕ → Bool) (p q : ℕ → Bool) : Type 0 where
-  pub only : (k : ℕ) → q k ≡ true → (t : ℕ) × (t < 128) × (p t ≡ true) × (R t k ≡ true)
-  pub all : (t k : ℕ) → t < 128 → p t ≡ true → R t k ≡ true → q k ≡ true
-
-pub growing-none : (R : ℕ → ℕ → Bool) (p : ℕ → Bool) → Growing R p 0 p
-unfolding members
-growing-none R p = record {
-  before = λ k. false;
-  many = sym (ap length (numbers-none (λ k. false) 0 128 (λ k l u. refl)));
-  kept = λ k e. absurd (false≢true e);
-  start = λ k e. e;
-  further = λ t k l e h. absurd (false≢true e);
-  only = λ k e. at-start e;
-}
-
-module _ {R : ℕ → ℕ → Bool} {p q : ℕ → Bool} {n : ℕ} (so-far : Growing R p n q) where
-  pub growing-more : {q₁ : ℕ → Bool} (r : ℕ → Bool) (m : ℕ) → Stepped R q q₁ → ((k : ℕ) → r k ≡ q k || q₁ k) → m ≡ length (members q) → Growing R p m r
-  growing-more {q₁} r m step made e = record {
-    before = q;
-    many = e;
-    kept = stays;
-    start = λ k g. stays k (so-far .start k g);
-    further = λ t k l g h. made k ∙ or-right (q k) (q₁ k) (step .all t k l g h);
-    only = λ k g. ⊎-elim (so-far .only k) (new k) (or-cases (q k) (q₁ k) (sym (made k) ∙ g));
-  }
-    where
-      stays : (k : ℕ) → q k ≡ true → r k ≡ true
-      stays k g = made k ∙ or-left (q k) (q₁ k) g
-
-      new : (k : ℕ) → q₁ k ≡ true → Reach R p k
-      new k g = let (t, l, h, last) = step .only k g in a-step-on (so-far .only t h) last
-
-  -- with no more types than before it has those that it had, so that it has what is one step from its own
-  pub growing-done : length (members q) ≤ n → ((k : ℕ) → q k ≡ true → k < 128) → {k : ℕ} → Reach R p k → q k ≡ true
-  growing-done le below {k} (at-start e) = so-far .start k e
-  growing-done le below {k} (a-step-on {t = t} way h) =
-      let at = growing-done le below way in
-      let l = below t at in
-      so-far .further t k l (members-same (so-far .before) q (so-far .kept) (omega (arith, so-far .many)) t l at) h
-
--- ---- up to ancestors, or down to descendants
-
--- k is a parent of t, or a child
-abbrev pub near : Schema → Bool → ℕ → ℕ → Bool
-near s true t k = is-parent s t k
-near s false t k = is-parent s k t
-
--- k is an ancestor of t, or a descendant: as a test, and as a sentence
-abbrev pub far : Schema → Bool → ℕ → ℕ → Bool
-far s true t k = descends s t k
-far s false t k = descends s k t
-
-abbrev Far : Schema → Bool → ℕ → ℕ → Type 0
-Far s true t k = Descends s t k
-Far s false t k = Descends s k t
-
--- the four sets, opened
-module _ (s : Schema) where
-  pub near-any : (up : Bool) (p : ℕ → Bool) (k : ℕ) → next-of s up p k ≡ any (λ t. near s up t k) (members p)
-  unfolding parents-of children-of
-  near-any true p k = refl
-  near-any false p k = refl
-
-  pub far-any : (up : Bool) (p : ℕ → Bool) (k : ℕ) → line-of s up p k ≡ any (λ t. far s up t k) (members p)
-  unfolding ancestors-of descendants-of
-  far-any true p k = refl
-  far-any false p k = refl
-
-  pub stepped : (up : Bool) (p q : ℕ → Bool) → ((k : ℕ) → q k ≡ next-of s up p k) → Stepped (near s up) p q
-  stepped up p q made = record {
-    only = λ k e. any-member (λ t. near s up t k) p (sym (made k ∙ near-any up p k) ∙ e);
-    all = λ t k l e h. made k ∙ near-any up p k ∙ any-at (λ t. near s up t k) (members-of p t l e) h;
-  }
-
-  far-one : (up : Bool) (t k : ℕ) → near s up t k ≡ true → Far s up t k
-  far-one true t k e = by-parent (parent-is s t k e)
-  far-one false t k e = by-parent (parent-is s k t e)
-
-  far-more : (up : Bool) (t u k : ℕ) → Far s up t u → near s up u k ≡ true → Far s up t k
-  far-more true t u k d e = past d (parent-is s u k e)
-  far-more false t u k d e = by-step (parent-is s k u e) d
-
-  module _ (p q : ℕ → Bool) where
-    -- what is one step from p, or further, is some way from p
-    reach-far : (up : Bool) → Stepped (near s up) p q → {k : ℕ} → Reach (near s up) q k → (t : ℕ) × (t < 128) × (p t ≡ true) × Far s up t k
-    reach-far up step {k} (at-start e) = let (t, l, g, h) = step .only k e in (t, l, g, far-one up t k h)
-    reach-far up step {k} (a-step-on {t = u} way h) = let (t, l, g, d) = reach-far up step way in (t, l, g, far-more up t u k d h)
-
-    -- and the other way
-    climb : {u k : ℕ} → Reach (near s true) q u → Descends s u k → Reach (near s true) q k
-    climb {u} {k} way (by-parent by) = a-step-on way (is-parent-of s u k by)
-    climb {u} {k} way (by-step {p = v} by d) = climb (a-step-on way (is-parent-of s u v by)) d
-
-    far-reach : (up : Bool) → Stepped (near s up) p q → {t k : ℕ} → t < 128 → p t ≡ true → Far s up t k → Reach (near s up) q k
-    far-reach true step {t} {k} l e (by-parent by) = at-start (step .all t k l e (is-parent-of s t k by))
-    far-reach true step {t} {k} l e (by-step {p = u} by d) = climb (at-start (step .all t u l e (is-parent-of s t u by))) d
-    far-reach false step {t} {k} l e (by-parent by) = at-start (step .all t k l e (is-parent-of s k t by))
-    far-reach false step {t} {k} l e (by-step {p = u} by d) = a-step-on (far-reach false step l e d) (is-parent-of s k u by)
-
-module _ {s : Schema} (good : Good s) where
-  far-full : (up : Bool) (t k : ℕ) → Far s up t k → far s up t k ≡ true
-  far-full true t k d = descends-full good t k d
-  far-full false t k d = descends-full good k t d
-
-  far-sound : (up : Bool) (t k : ℕ) → far s up t k ≡ true → Far s up t k
-  far-sound true t k e = descends-sound good t k e
-  far-sound false t k e = descends-sound good k t e
-
-  -- what the fixed point is, from the set p whose kin q has at first
-  pub growing-all : (up : Bool) (p q r : ℕ → Bool) {n : ℕ} → Stepped (near s up) p q → Growing (near s up) q n r → length (members r) ≤ n
-      → ((k : ℕ) → r k ≡ true → k < 128) → (k : ℕ) → r k ≡ line-of s up p k
-  growing-all up p q r step grown le below k =
-      same-test _ _
-      (λ e.
-      let (t, l, g, d) = reach-far s p q up step (grown .only k e) in
-      any-at (λ t. far s up t k) (members-of p t l g) (far-full up t k d))
-      (λ e.
-      let (t, l, g, h) = any-member (λ t. far s up t k) p e in
-      growing-done grown le below (far-reach s p q up step l g (far-sound up t k h)))
-      ∙ sym (far-any s up p k)

@@ -1,2 +1,3 @@
 pub mod KinLaws
+pub mod ReachLaws
 pub mod DepthLaws

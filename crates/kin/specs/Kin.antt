@@ -1,6 +1,6 @@
 -- The types that the types of a set p reach: their parents, their children, their ancestors, their descendants.
 use Prim.Native.Nat.{ℕ}
-use mathlib.Core.Bool.{Bool, cond}
+use mathlib.Core.Bool.{Bool}
 use Rattle.rules.specs.01-Lists.{any}
 use Rattle.rules.specs.04-Schema.{Schema, is-parent}
 use Rattle.rules.specs.05-Descent.{descends, members}
@@ -20,10 +20,3 @@ ancestors-of s p k = any (λ t. descends s t k) (members p)
 -- k descends from a type of p
 unfoldable pub descendants-of : Schema → (ℕ → Bool) → ℕ → Bool
 descendants-of s p k = any (λ a. descends s k a) (members p)
-
--- one step up, or one step down; and the whole way
-abbrev pub next-of : Schema → Bool → (ℕ → Bool) → ℕ → Bool
-next-of s up p k = cond up (parents-of s p k) (children-of s p k)
-
-abbrev pub line-of : Schema → Bool → (ℕ → Bool) → ℕ → Bool
-line-of s up p k = cond up (ancestors-of s p k) (descendants-of s p k)

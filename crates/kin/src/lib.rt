@@ -11,7 +11,7 @@ ghost use Rattle.rules.specs.07-Picture.{Sound};
 ghost use Rattle.base.specs.Back.{schema-of};
 ghost use Rattle.type_set.specs.Set.{has};
 ghost use Rattle.lookup.specs.Parents.{Parental};
-ghost use Rattle.kin.specs.Kin.{parents-of, children-of, ancestors-of, descendants-of, next-of, line-of};
+ghost use Rattle.kin.specs.Kin.{parents-of, children-of, ancestors-of, descendants-of};
 
 // `s` with the parents of `t`.
 fn add_parents(base: &[u8], t: usize, s: TypeSet) -> TypeSet
@@ -33,15 +33,32 @@ pub fn parents_of(base: &[u8], s: TypeSet) -> TypeSet
     requires { ⌜ Parental (now base) ⌝ }
     ensures { λ r. ⌜ ((k : ℕ) → has r k ≡ parents-of (schema-of (now (base .entry))) (has s) k) ⌝ }
 {
-    let mut r = TypeSet::empty();
-    let mut t: usize = 0;
+    let none = TypeSet::empty();
+    let mut r = none;
+    let mut left = s;
+    let mut t = left.lowest();
     while t < Limits::TYPES {
-        if s.test(t) {
-            r = add_parents(base, t, r);
-        }
-        t += 1;
+        r = add_parents(base, t, r);
+        left = left.without(none.add(t));
+        t = left.lowest();
     }
     r
+}
+
+// Each ancestor is taken once: what is found, and the parents that are still to be taken.
+pub fn ancestors_of(base: &[u8], s: TypeSet) -> TypeSet
+    requires { ⌜ Sound (now base) ⌝ }
+    ensures { λ r. ⌜ ((k : ℕ) → has r k ≡ ancestors-of (schema-of (now (base .entry))) (has s) k) ⌝ }
+{
+    let mut found = TypeSet::empty();
+    let mut left = parents_of(base, s);
+    let mut t = left.lowest();
+    while t < Limits::TYPES {
+        found = found.add(t);
+        left = add_parents(base, t, left).without(found);
+        t = left.lowest();
+    }
+    found
 }
 
 // Whether some parent of `t` is in `s`.
@@ -76,46 +93,21 @@ pub fn children_of(base: &[u8], s: TypeSet) -> TypeSet
     r
 }
 
-// The parents of a set, or its children.
-fn step(base: &[u8], s: TypeSet, up: bool) -> TypeSet
-    requires { ⌜ Parental (now base) ⌝ }
-    ensures { λ r. ⌜ ((k : ℕ) → has r k ≡ next-of (schema-of (now (base .entry))) up (has s) k) ⌝ }
-{
-    if up {
-        return parents_of(base, s);
-    }
-    children_of(base, s)
-}
-
-// Its ancestors, or its descendants: steps from what one step reaches, until one adds none. One loop serves both ways.
-fn reach(base: &[u8], s: TypeSet, up: bool) -> TypeSet
+// Children of what is found, until a round adds none.
+pub fn descendants_of(base: &[u8], s: TypeSet) -> TypeSet
     requires { ⌜ Sound (now base) ⌝ }
-    ensures { λ r. ⌜ ((k : ℕ) → has r k ≡ line-of (schema-of (now (base .entry))) up (has s) k) ⌝ }
+    ensures { λ r. ⌜ ((k : ℕ) → has r k ≡ descendants-of (schema-of (now (base .entry))) (has s) k) ⌝ }
 {
-    let mut r = step(base, s, up);
+    let mut r = children_of(base, s);
     let mut n: usize = 0;
     let mut m = r.count();
     while n < m {
-        let next = step(base, r, up);
+        let next = children_of(base, r);
         r = r.join(next);
         n = m;
         m = r.count();
     }
     r
-}
-
-pub fn ancestors_of(base: &[u8], s: TypeSet) -> TypeSet
-    requires { ⌜ Sound (now base) ⌝ }
-    ensures { λ r. ⌜ ((k : ℕ) → has r k ≡ ancestors-of (schema-of (now (base .entry))) (has s) k) ⌝ }
-{
-    reach(base, s, true)
-}
-
-pub fn descendants_of(base: &[u8], s: TypeSet) -> TypeSet
-    requires { ⌜ Sound (now base) ⌝ }
-    ensures { λ r. ⌜ ((k : ℕ) → has r k ≡ descendants-of (schema-of (now (base .entry))) (has s) k) ⌝ }
-{
-    reach(base, s, false)
 }
 
 // The parents of the parents, level by level, until a level is empty: where ways up differ in length the longest one counts.
@@ -125,11 +117,11 @@ pub fn depth(base: &[u8], t: usize) -> usize
 {
     let none = TypeSet::empty();
     let mut s = parents_of(base, none.add(t));
-    let mut m = s.count();
+    let mut a = s.lowest();
     let mut d: usize = 0;
-    while m != 0 {
+    while a < Limits::TYPES {
         s = parents_of(base, s);
-        m = s.count();
+        a = s.lowest();
         d += 1;
     }
     d

@@ -1,53 +1,68 @@
--- `kin::parents_of` meets its contract: the types of the set behind those that were passed are those whose parents are left to add.
--- Assumes nothing.
-use Prim.Native.Nat.{_-_, _≤_}
-use mathlib.Core.Path.{sym, ap, _∙_}
-use mathlib.Core.Logic.{⊎-elim}
+-- `kin::parents_of` meets its contract: each type is taken out of the set that is left when its parents are added. The measure is what is
+-- left. Assumes nothing.
+use Prim.Native.Nat.{ℕ}
 use native.Mathlib.Omega.{arith}
+use mathlib.Core.Path.{_≡_}
+use mathlib.Core.Bool.{not, _&&_}
+use lib.Dec.{eqb}
+use lib.ListN.{length}
+use Rattle.rules.specs.05-Descent.{members}
 use Rattle.base.specs.Back.{schema-of}
-use Rattle.type_set.specs.declared.TypeSet.{TypeSet}
-use Rattle.type_set.specs.Set.{has}
-use Rattle.kin.proofs.KinLaws.{Parents-past, parents-none, parents-more, parents-skip, parents-all}
+use Rattle.type_set.specs.Set.{has, Lowest}
+use Rattle.type_set.proofs.Set.{lowest-none}
+use Rattle.kin.proofs.KinLaws.{taken-out, fewer-left, Parents-left, parents-none, parents-more, parents-all}
 use Rattle.kin.proofs.parents_of.Statement.{statement}
 use Rattle.kin.proofs.parents_of.Tie as tie
 
 abbrev Inv-loop : tie.InvT-loop
-Inv-loop base s r₀ t₀ r t = (t ≤ 128) × Parents-past (schema-of base) (has s) t (has r)
+Inv-loop base none r₀ left₀ t₀ r left t = Lowest (has left) t × Parents-left (schema-of base) (has left₀) (has left) (has r)
 
 abbrev μ-loop : tie.MeasureT-loop
-μ-loop base s r₀ t₀ r t = 128 - t
+μ-loop base none r₀ left₀ t₀ r left t = length (members (has left))
+
+-- what is left then is what was, but for the type
+left-after : (c : tie.After-lowest2 Inv-loop μ-loop) → let l = c .before .before .before .before .before .loop in
+    (k : ℕ) → has (c .before .without .result) k ≡ has (l .left) k && not (eqb k (l .t))
+left-after c =
+    let l = c .before .before .before .before .before .loop in
+    let none = c .before .before .before .before .before .before .before .empty in
+    taken-out (has (l .left)) _ _ _ (l .t) (none .ensures) (c .before .before .add .ensures) (c .before .without .ensures)
 
 empty-requires : tie.Need-empty-requires Inv-loop μ-loop
 empty-requires c κs = tt
 
-loop-holds : tie.Need-loop-holds Inv-loop μ-loop
-loop-holds c = (omega arith, parents-none _ _ _ (c .empty .ensures))
+lowest-requires : tie.Need-lowest-requires Inv-loop μ-loop
+lowest-requires c κs = tt
 
-test-requires : tie.Need-test-requires Inv-loop μ-loop
-test-requires c κs = omega arith
+loop-holds : tie.Need-loop-holds Inv-loop μ-loop
+loop-holds c = (c .lowest .ensures, parents-none _ _ _ (c .before .empty .ensures))
 
 add-parents-requires : tie.Need-add-parents-requires Inv-loop μ-loop
-add-parents-requires c κs = (c .before .before .before .before .before .before .pre, omega arith)
+add-parents-requires c κs = (c .before .before .before .before .before .pre, omega arith)
 
-add-t : tie.Need-add-t Inv-loop μ-loop
-add-t c = omega arith
+add-requires : tie.Need-add-requires Inv-loop μ-loop
+add-requires c κs = omega arith
+
+without-requires : tie.Need-without-requires Inv-loop μ-loop
+without-requires c κs = tt
+
+lowest-requires-2 : tie.Need-lowest-requires-2 Inv-loop μ-loop
+lowest-requires-2 c κs = tt
 
 loop-less : tie.Need-loop-less Inv-loop μ-loop
-loop-less c = omega arith
+loop-less c =
+    let l = c .before .before .before .before .before .loop in
+    fewer-left (has (l .left)) _ (l .t) (omega arith) (l .inv .0 .passes (omega arith)) (left-after c)
 
 loop-again : tie.Need-loop-again Inv-loop μ-loop
 loop-again c =
-    let l = c .before .before .before .loop in
-    let marked = sym (c .before .test .ensures) in (
-      omega arith,
-      ⊎-elim
-          (λ w. parents-more (l .t) (omega arith) (l .inv .1) (marked ∙ w .0 .taken) _ (λ k. ap (λ (x : TypeSet). has x k) (w .2) ∙ w .1 .ensures k))
-          (λ w. rw (w .1) (parents-skip (l .t) (omega arith) (l .inv .1) (marked ∙ w .0 .left)))
-          (c .if1 .came),
+    let l = c .before .before .before .before .before .loop in (
+      c .lowest2 .ensures,
+      parents-more (l .inv .1) _ _ (l .t) (omega arith) (l .inv .0 .passes (omega arith)) (left-after c) (c .before .before .before .add-parents .ensures),
     )
 
 returns : tie.Need-returns Inv-loop μ-loop
-returns c = let l = c .before .loop in parents-all (omega arith) (l .inv .1)
+returns c = let l = c .before .loop in parents-all (l .inv .1) (lowest-none (l .left) (l .inv .0) (omega arith))
 
 pub parents-of-spec : {M : Type 1} → statement M
 parents-of-spec =
@@ -56,10 +71,12 @@ parents-of-spec =
     Inv-loop
     μ-loop
     empty-requires
+    lowest-requires
     loop-holds
-    test-requires
     add-parents-requires
-    add-t
+    add-requires
+    without-requires
+    lowest-requires-2
     loop-less
     loop-again
     returns)

@@ -37,13 +37,11 @@ pub fn profile(base: &[u8], schema: &[u8], t: usize, out: &mut [u8]) -> Answer
     if view.no != 0 {
         return Answer::refused(view.no);
     }
-    let ancestors = ask_scans::scan::of_object(base, view.listed, t, 3);
-    let attributes = ask_scans::scan::of_object(base, view.listed, t, 5);
-    let links = ask_scans::scan::of_object(base, view.listed, t, 7);
+    let lists = ask_scans::scan::of_profile(base, view.listed, t);
     ask_scans::lists::put_three(
-        view.visible.meet(ancestors),
-        view.visible.meet(attributes),
-        view.visible.meet(links),
+        view.visible.meet(lists.ancestors),
+        view.visible.meet(lists.attributes),
+        view.visible.meet(lists.links),
         out,
     )
 }

@@ -9,7 +9,7 @@ ghost use Rattle.rules.specs.02-Limits.{limits};
 ghost use Rattle.rules.specs.07-Picture.{Sound};
 ghost use Rattle.base.specs.Back.{schema-of};
 ghost use Rattle.type_set.specs.Set.{has};
-ghost use Rattle.ask_scans.specs.Scans.{object-scan, link-scan, sources, Scanned};
+ghost use Rattle.ask_scans.specs.Scans.{object-scan, link-scan, sources, Scanned, Profiled};
 
 fn one(t: usize) -> TypeSet
     requires { ⌜ t < limits .types ⌝ }
@@ -74,6 +74,30 @@ pub fn of_object(base: &[u8], sdss: TypeSet, t: usize, code: usize) -> TypeSet
         return kin(base, t, code);
     }
     had(base, sdss, t, code)
+}
+
+// What a profile lists, but for what is not visible.
+pub struct Profile {
+    pub ancestors: TypeSet,
+    pub attributes: TypeSet,
+    pub links: TypeSet,
+}
+
+// Codes 3, 5 and 7, whose ancestors are found once.
+pub fn of_profile(base: &[u8], sdss: TypeSet, t: usize) -> Profile
+    requires { ⌜ Sound (now base) × (t < limits .types) ⌝ }
+    ensures { λ r. ⌜ Profiled (schema-of (now (base .entry))) (has sdss) t r ⌝ }
+{
+    let s = one(t);
+    let ancestors = kin::ancestors_of(base, s);
+    let types = s.join(ancestors);
+    let attributes = visible::attributes(base, sdss, types);
+    let links = visible::links(base, sdss, 0, types);
+    Profile {
+        ancestors,
+        attributes,
+        links,
+    }
 }
 
 // ---- of a link type

@@ -1,7 +1,6 @@
 -- `ask::profile` meets its contract: the view's refusals come first in the rule; then the visible part of each of the three scans
 -- is its list, and `put_three` tests the room. Assumes nothing.
 use borrow.Author.Needs.{needs}
-use native.Mathlib.Omega.{arith}
 use Rattle.rules.specs.12-Contracts.{room}
 use Rattle.base.specs.Back.{schema-of}
 use Rattle.base.proofs.TestedLaws.{listed-stops}
@@ -23,15 +22,8 @@ returns c =
     listed-stops _ (c .before .before .before .of .ensures .told) (c .before .if1 .taken)
     (profile-left (x .schema .now) (x .t) (room (x .out .now)) (schema-of (x .base .now))) (c .refused .ensures)
 
-of-object-requires : tie.Need-of-object-requires
-of-object-requires c κs = let th = c .before .before .of .ensures .through (c .if1 .left) in (th .sound, (th .below, omega arith))
-
-of-object-requires-2 : tie.Need-of-object-requires-2
-of-object-requires-2 c κs = let th = c .before .before .before .of .ensures .through (c .before .if1 .left) in (th .sound, (th .below, omega arith))
-
-of-object-requires-3 : tie.Need-of-object-requires-3
-of-object-requires-3 c κs = let th = c .before .before .before .before .of .ensures .through (c .before .before .if1 .left) in
-    (th .sound, (th .below, omega arith))
+of-profile-requires : tie.Need-of-profile-requires
+of-profile-requires c κs = let th = c .before .before .of .ensures .through (c .if1 .left) in (th .sound, th .below)
 
 meet-requires : tie.Need-meet-requires
 meet-requires c κs = search needs
@@ -51,16 +43,15 @@ same-length c = search needs
 returns-2 : tie.Need-returns-2
 unfolding profile-list
 returns-2 c =
-    let x = c .before .before .before .before .before .before .before .before .before .before .before .before .before .before .before .before .args in
-    let v = c .before .before .before .before .before .before .before .before .before .before .before .before .of .ensures in
-    let z = c .before .before .before .before .before .before .before .before .before .before .if1 .left in
+    let x = c .before .before .before .before .before .before .before .before .before .before .before .before .before .before .args in
+    let v = c .before .before .before .before .before .before .before .before .before .before .of .ensures in
+    let z = c .before .before .before .before .before .before .before .before .if1 .left in
     let th = v .through z in
-    listed-three (th .sound) (object-list th _ _ (c .before .before .before .before .before .before .meet .ensures) 3
-    (c .before .before .before .before .before .before .before .before .before .of-object .ensures))
-    (object-list th _ _ (c .before .before .before .before .before .meet2 .ensures) 5
-    (c .before .before .before .before .before .before .before .before .of-object2 .ensures))
-    (object-list th _ _ (c .before .before .before .before .meet3 .ensures) 7
-    (c .before .before .before .before .before .before .before .of-object3 .ensures)) (c .before .before .put-three .ensures)
+    let lists = c .before .before .before .before .before .before .before .of-profile .ensures in
+    listed-three (th .sound)
+    (object-list th _ _ (c .before .before .before .before .before .before .meet .ensures) 3 (lists .ancestors))
+    (object-list th _ _ (c .before .before .before .before .before .meet2 .ensures) 5 (lists .attributes))
+    (object-list th _ _ (c .before .before .before .before .meet3 .ensures) 7 (lists .links)) (c .before .before .put-three .ensures)
     (viewed-passes v (room-test (room (x .out .now)) (profile-list (x .schema .now) (x .t) (schema-of (x .base .now))))
     (profile-left (x .schema .now) (x .t) (room (x .out .now)) (schema-of (x .base .now))) z)
 
@@ -71,9 +62,7 @@ profile-spec =
     of-requires
     refused-requires
     returns
-    of-object-requires
-    of-object-requires-2
-    of-object-requires-3
+    of-profile-requires
     meet-requires
     meet-requires-2
     meet-requires-3

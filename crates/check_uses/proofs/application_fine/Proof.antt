@@ -6,11 +6,18 @@ use Rattle.check_uses.proofs.UseLaws.{Application-read, applied-to-out,
 use Rattle.check_uses.proofs.application_fine.Statement.{statement}
 use Rattle.check_uses.proofs.application_fine.Tie as tie
 
-row-read : (c : tie.After-application-attribute) → let x = c .before .before .before .before .before .args in
+-- where the row has been read, and where both of its types are held
+abbrev start : tie.After-application-attribute → tie.Start
+start c = c .before .before .before .before .before
+
+abbrev row : tie.Else2 → tie.After-application-attribute
+row c = c .before .before .before .before
+
+row-read : (c : tie.After-application-attribute) → let x = start c .args in
     Application-read (x .base .now) (x .held .now) (x .i) (c .before .before .application-sds .result) (c .before .application-to .result)
     (c .application-attribute .result)
 row-read c = record {
-  shown = c .before .before .before .before .before .pre .0;
+  shown = start c .pre .0;
   sds = c .before .before .application-sds .ensures .is;
   to = c .before .application-to .ensures .is;
   attribute = c .application-attribute .ensures .is;
@@ -26,36 +33,44 @@ application-attribute-requires : tie.Need-application-attribute-requires
 application-attribute-requires c κs = (c .before .before .before .before .pre .0 .types .long, c .before .before .before .before .pre .1)
 
 is-held-requires : tie.Need-is-held-requires
-is-held-requires c κs = c .before .before .before .before .before .pre .0 .holds .room
+is-held-requires c κs = start c .pre .0 .holds .room
 
 returns : tie.Need-returns
 returns c =
-    decides-no (applied-to-out (row-read (c .before .before)) (not-held (c .before .before .before .before .before .before .before .pre .0) (c .before .is-held .ensures) (not-true _ (c .if1 .taken))))
+    let r = c .before .before in
+    decides-no (applied-to-out (row-read r) (not-held (start r .pre .0) (c .before .is-held .ensures) (not-true _ (c .if1 .taken))))
 
 is-held-requires-2 : tie.Need-is-held-requires-2
-is-held-requires-2 c κs = c .before .before .before .before .before .before .before .pre .0 .holds .room
+is-held-requires-2 c κs = start (c .before .before) .pre .0 .holds .room
 
 returns-2 : tie.Need-returns-2
 returns-2 c =
-    decides-no (applied-attribute-out (row-read (c .before .before .before .before)) (not-held (c .before .before .before .before .before .before .before .before .before .pre .0) (c .before .is-held2 .ensures) (not-true _ (c .if2 .taken))))
+    let r = c .before .before .before .before in
+    decides-no (applied-attribute-out (row-read r) (not-held (start r .pre .0) (c .before .is-held2 .ensures) (not-true _ (c .if2 .taken))))
 
 kind-requires : tie.Need-kind-requires
-kind-requires c κs = (c .before .before .before .before .before .before .before .before .before .pre .0 .types .long, held-below (c .before .before .before .before .before .before .before .before .before .pre .0) (c .before .is-held2 .ensures) (not-false _ (c .if2 .left)))
+kind-requires c κs =
+    let s = start (row c) .pre .0 in
+    (s .types .long, held-below s (c .before .is-held2 .ensures) (not-false _ (c .if2 .left)))
 
 returns-3 : tie.Need-returns-3
 returns-3 c =
-    let x = c .before .before .before .before .before .before .before .before .before .before .before in
-    decides-no (applied-no-attribute (row-read (c .before .before .before .before .before .before)) (is-held (x .pre .0) (c .before .before .before .is-held2 .ensures) (not-false _ (c .before .before .if2 .left)))
+    let h = c .before .before in
+    decides-no (applied-no-attribute (row-read (row h)) (is-held (start (row h) .pre .0) (h .before .is-held2 .ensures) (not-false _ (h .if2 .left)))
     (c .before .kind .ensures .is) (c .if3 .taken))
 
 kind-requires-2 : tie.Need-kind-requires-2
-kind-requires-2 c κs = (c .before .before .before .before .before .before .before .before .before .before .before .pre .0 .types .long, held-below (c .before .before .before .before .before .before .before .before .before .before .before .pre .0) (c .before .before .before .before .before .is-held .ensures) (not-false _ (c .before .before .before .before .if1 .left)))
+kind-requires-2 c κs =
+    let h = c .before .before in
+    let s = start (row h) .pre .0 in
+    (s .types .long, held-below s (h .before .before .before .is-held .ensures) (not-false _ (h .before .before .if1 .left)))
 
 returns-4 : tie.Need-returns-4
 returns-4 c =
-    let x = c .before .before .before .before .before .before .before .before .before .before .before .before in
-    applied-decided (row-read (c .before .before .before .before .before .before .before)) (is-held (x .pre .0) (c .before .before .before .before .is-held2 .ensures) (not-false _ (c .before .before .before .if2 .left))) (c .before .before .kind .ensures .is)
-    (is-held (x .pre .0) (c .before .before .before .before .before .before .is-held .ensures) (not-false _ (c .before .before .before .before .before .if1 .left))) (c .before .if3 .left) (c .kind2 .ensures .is)
+    let h = c .before .before .before in
+    let s = start (row h) .pre .0 in
+    applied-decided (row-read (row h)) (is-held s (h .before .is-held2 .ensures) (not-false _ (h .if2 .left))) (c .before .before .kind .ensures .is)
+    (is-held s (h .before .before .before .is-held .ensures) (not-false _ (h .before .before .if1 .left))) (c .before .if3 .left) (c .kind2 .ensures .is)
 
 pub application-fine-spec : {M : Type 1} → statement M
 application-fine-spec =

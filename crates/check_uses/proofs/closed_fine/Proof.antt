@@ -6,6 +6,10 @@ use Rattle.check_uses.proofs.GroupLaws.{ends-ready}
 use Rattle.check_uses.proofs.closed_fine.Statement.{statement}
 use Rattle.check_uses.proofs.closed_fine.Tie as tie
 
+-- where the words show what the SDSs hold
+abbrev start : tie.Else1 → tie.Start
+start c = c .before .before .before .before .before .before
+
 presence-count-requires : tie.Need-presence-count-requires
 presence-count-requires c κs = search needs
 
@@ -23,8 +27,8 @@ slice-aggregate-types-closed c = search needs
 
 types-closed-requires : tie.Need-types-closed-requires
 types-closed-requires c κs =
-    let x = c .before .before .before .before .before .before .before in
-    ((x .pre .0, x .pre .1 .0), c .before .before .before .gather .ensures .holds (not-false _ (c .before .if1 .left)))
+    let h = c .before in
+    ((start h .pre .0, start h .pre .1 .0), h .before .before .gather .ensures .holds (not-false _ (h .if1 .left)))
 
 returns-2 : tie.Need-returns-2
 returns-2 c =
@@ -38,8 +42,9 @@ slice-aggregate-applications-fine c = search needs
 
 applications-fine-requires : tie.Need-applications-fine-requires
 applications-fine-requires c κs =
-    let x = c .before .before .before .before .before .before .before .before .before .before .before in (
-      record { types = x .pre .0; presences = x .pre .1 .0; holds = c .before .before .before .before .before .before .before .gather .ensures .holds (not-false _ (c .before .before .before .before .before .if1 .left)) },
+    let h = c .before .before .before .before .before in
+    let x = start h in (
+      record { types = x .pre .0; presences = x .pre .1 .0; holds = h .before .before .gather .ensures .holds (not-false _ (h .if1 .left)) },
       c .before .application-count .ensures,
     )
 
@@ -54,20 +59,24 @@ slice-aggregate-ends-fine c = search needs
 
 ends-fine-requires : tie.Need-ends-fine-requires
 ends-fine-requires c κs =
-    let x = c .before .before .before .before .before .before .before .before .before .before .before .before .before .before .before in (
-      record { types = x .pre .0; presences = x .pre .1 .0; holds = c .before .before .before .before .before .before .before .before .before .before .before .gather .ensures .holds (not-false _ (c .before .before .before .before .before .before .before .before .before .if1 .left)) },
+    let h = c .before .before .before .before .before .before .before .before .before in
+    let x = start h in (
+      record { types = x .pre .0; presences = x .pre .1 .0; holds = h .before .before .gather .ensures .holds (not-false _ (h .if1 .left)) },
       ends-ready (x .pre .0) (x .pre .1 .1) (c .before .end-count .ensures),
     )
 
 returns-4 : tie.Need-returns-4
 returns-4 c =
-    let types = c .before .before .before .before .before .before .before .before .types-closed .ensures .holds (not-false _ (c .before .before .before .before .before .before .before .if2 .left)) in
+    let a = c .before .before .before in
+    let t = a .before .before .before .before in
+    let h = t .before .before .before in
+    let types = t .before .types-closed .ensures .holds (not-false _ (t .if2 .left)) in
     record {
       holds = λ e. record {
-        once = c .before .before .before .before .before .before .before .before .before .before .before .before .gather .ensures .once .holds (not-false _ (c .before .before .before .before .before .before .before .before .before .before .if1 .left));
+        once = h .before .before .gather .ensures .once .holds (not-false _ (h .if1 .left));
         closed = types .closed;
         somewhere = types .somewhere;
-        applications = c .before .before .before .before .applications-fine .ensures .holds (not-false _ (c .before .before .before .if3 .left));
+        applications = a .before .applications-fine .ensures .holds (not-false _ (a .if3 .left));
         ends = c .ends-fine .ensures .holds e .0;
         mirrored = c .ends-fine .ensures .holds e .1;
       };

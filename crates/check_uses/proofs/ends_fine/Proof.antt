@@ -21,7 +21,8 @@ group-fine-requires : tie.Need-group-fine-requires Inv-loop μ-loop
 group-fine-requires c κs = let x = c .before .before .before .before in (x .pre, c .loop-test .taken)
 
 returns : tie.Need-returns Inv-loop μ-loop
-returns c = decides-no (λ f. c .before .group-fine .ensures .fails (c .if1 .taken) (each-ended (c .before .before .before .before .before .before .pre .1) f))
+returns c =
+    decides-no (λ f. c .before .group-fine .ensures .fails (c .if1 .taken) (each-ended (c .before .before .before .before .before .before .pre .1) f))
 
 loop-less : tie.Need-loop-less Inv-loop μ-loop
 loop-less c = omega (arith, c .before .group-fine .ensures .further (omega (arith, c .if1 .left)), c .if1 .left)

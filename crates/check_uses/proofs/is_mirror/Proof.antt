@@ -29,7 +29,9 @@ add-number-3 : tie.Need-add-number-3
 add-number-3 c = search needs
 
 end-number-requires : tie.Need-end-number-requires
-end-number-requires c κs = let x = c .before .before .before .before .before in (x .pre .0 .0, omega (arith, x .pre .0 .1, c .before .before .before .if1 .left))
+end-number-requires c κs =
+    let x = c .before .before .before .before .before in
+    (x .pre .0 .0, omega (arith, x .pre .0 .1, c .before .before .before .if1 .left))
 
 returns-2 : tie.Need-returns-2
 returns-2 c =

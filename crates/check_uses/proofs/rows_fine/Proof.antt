@@ -44,7 +44,9 @@ object-fine-requires : tie.Need-object-fine-requires Inv-loop μ-loop
 object-fine-requires c κs = let x = c .before .before .before .before .before .before .before .before .before in (x .pre .0, (x .pre .1 .0 .small, omega arith))
 
 add-result : tie.Need-add-result Inv-loop μ-loop
-add-result c = let x = c .before .before .before .before .before .before .before .before .before .before .before in omega (arith, x .pre .0 .1 .counted .fits)
+add-result c =
+    let x = c .before .before .before .before .before .before .before .before .before .before .before in
+    omega (arith, x .pre .0 .1 .counted .fits)
 
 returns-2 : tie.Need-returns-2 Inv-loop μ-loop
 returns-2 c =
@@ -56,10 +58,14 @@ returns-2 c =
     (ended-object fine below (in-group row (fine .small) (c .before .before .if1 .left)) (the-object row) y))
 
 add-near : tie.Need-add-near Inv-loop μ-loop
-add-near c = let x = c .before .before .before .before .before .before .before .before .before .before .before in omega (arith, c .if2 .left, x .pre .0 .1 .counted .fits)
+add-near c =
+    let x = c .before .before .before .before .before .before .before .before .before .before .before in
+    omega (arith, c .if2 .left, x .pre .0 .1 .counted .fits)
 
 add-i : tie.Need-add-i Inv-loop μ-loop
-add-i c = let x = c .before .before .before .before .before .before .before .before .before .before .before in omega (arith, c .before .before .before .before .loop-test .taken, x .pre .0 .1 .counted .fits)
+add-i c =
+    let x = c .before .before .before .before .before .before .before .before .before .before .before in
+    omega (arith, c .before .before .before .before .loop-test .taken, x .pre .0 .1 .counted .fits)
 
 loop-less : tie.Need-loop-less Inv-loop μ-loop
 loop-less c = search needs

@@ -11,7 +11,7 @@ use Rattle.rules.specs.06-Good.{presence-before, application-before, end-before
 use Rattle.rules.specs.07-Picture.{sds-width, sds-row, type-width, type-row, presence-width, presence-row, application-width, application-row}
 use Rattle.rules.specs.07-Picture.{end-width, end-row, table}
 use Rattle.rules.specs.Read.{type-offset, strip, read-kind, read-presence, read-application, read-end}
-use Rattle.rows.specs.Rows.{part, rows, filled, Rising, Split}
+use Rattle.rows.specs.Rows.{part, rows, filled, Rising}
 
 -- where its first row starts, how wide a row is, how many there is room for; the bytes of a thing, and what bytes show
 pub record Table (A : Type 0) : Type 0 where
@@ -60,10 +60,6 @@ module _ {A : Type 0} (t : Table A) where
 
   abbrev pub Blank-from : ℕ → List ℕ → Type 0
   Blank-from n b = part b (at n) ((t .room - n) * t .width) ≡ replicate ((t .room - n) * t .width) 0
-
-  -- the rows before r, of n, are in SDSs below d, the others are not
-  abbrev pub Split-at : List ℕ → ℕ → ℕ → ℕ → Type 0
-  Split-at b n d r = Split b (t .start) (t .width) n d r
 
 -- ---- the five, each behind the one before
 

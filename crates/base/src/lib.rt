@@ -1,7 +1,6 @@
 // The lent base: here alone stands where a row starts, how wide it is and which of its bytes holds what. Everything above reads
 // fields by their number of SDS, type or row.
 pub mod order;
-pub mod split;
 pub mod used;
 
 use rules::Limits;

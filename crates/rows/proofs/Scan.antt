@@ -13,7 +13,7 @@ use borrow.Author.Tests.{ltb-true, ltb-false, lt-ltb, le-ltb, eq-eqb, ne-eqb}
 use Rattle.rules.specs.01-Lists.{same-bytes, bytes-before}
 use Rattle.rules.proofs.01-Lists.{same-bytes-is, same-bytes-refl, before-transitive, before-first}
 use Rattle.name_fields.specs.Field.{blank-field}
-use Rattle.rows.specs.Rows.{part, row-at, Rising, Filled, Zero-first, Counted, Level, Split, filled}
+use Rattle.rows.specs.Rows.{part, row-at, Rising, Filled, Zero-first, Counted, Level, filled}
 use Rattle.rows.specs.Decides.{Decides}
 use Rattle.rows.proofs.Rows.{part-byte, filled-is}
 use Rattle.rows.proofs.Decides.{decides-iff, decides-test}
@@ -138,7 +138,7 @@ rising-far b start stride w n r i (suc j) h l = go (ltb i j) refl (λ q. rising-
     go true q ih = before-transitive (row i) (row j) (row (suc j)) (ih (ltb-true i j q)) (r j l)
     go false q ih = let same : i ≡ j = omega (arith, ltb-false i j q) in rw same (r j l)
 
--- ---- where the rows of one SDS end
+-- ---- the SDSs of rows that rise
 
 pub rising-level : (b : List ℕ) (start stride w n : ℕ) → ((i : ℕ) → i < n → start + i * stride < length b) → Rising b start stride (suc w) n
     → Level b start stride n
@@ -147,15 +147,3 @@ rising-level b start stride w n l r i j h k =
     let y = start + j * stride in
     before-first (getD b x 0) (part b (x + 1) w) (getD b y 0) (part b (y + 1) w)
     (rw (← part-cons b x (suc w) w (l i (omega arith)) refl, ← part-cons b y (suc w) w (l j k) refl) (rising-far b start stride (suc w) n r i j h k))
-
-module _ (b : List ℕ) (first width n d i : ℕ) (fits : i ≤ n) (below : (k : ℕ) → k < i → getD b (first + k * width) 0 < d + 1) where
-  -- a row that is in a higher SDS, and so are those behind it
-  pub split-here : Level b first width n → d < getD b (first + i * width) 0 → Split b first width n (d + 1) i
-  split-here v h = record { fits = fits; below = below; above = λ k l q. go k l (ltb i k) refl q }
-    where
-      go : (k : ℕ) → k < n → (t : Bool) → ltb i k ≡ t → i ≤ k → d + 1 ≤ getD b (first + k * width) 0
-      go k l true e q = let le = v i k (ltb-true i k e) l in omega arith
-      go k l false e q = let same : i ≡ k = omega (arith, ltb-false i k e) in rw (← same) (omega arith)
-
-  pub split-end : n ≤ i → Split b first width n (d + 1) i
-  split-end h = record { fits = fits; below = below; above = λ k l q. absurd (omega arith) }

@@ -53,9 +53,3 @@ Rising b start stride w n = (i : ℕ) → suc i < n → bytes-before (part b (st
 -- the SDSs of n rows do not fall; that of row 0 stands at `first`
 abbrev pub Level : List ℕ → ℕ → ℕ → ℕ → Type 0
 Level b first width n = (i j : ℕ) → i < j → j < n → getD b (first + i * width) 0 ≤ getD b (first + j * width) 0
-
--- the rows before r are in SDSs below d, the others are not
-pub record Split (b : List ℕ) (first width n d r : ℕ) : Type 0 where
-  pub fits : r ≤ n
-  pub below : (i : ℕ) → i < r → getD b (first + i * width) 0 < d
-  pub above : (i : ℕ) → i < n → r ≤ i → d ≤ getD b (first + i * width) 0

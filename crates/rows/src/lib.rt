@@ -1,6 +1,5 @@
 // Rows of a table by their bytes: a start, a width, a number of rows. No offset of a base is known here.
 pub mod order;
-pub mod split;
 pub mod table;
 pub mod used;
 

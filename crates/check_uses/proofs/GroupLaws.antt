@@ -4,15 +4,15 @@ use Prim.Native.Nat.{ℕ, zero, suc, _+_, _*_, _-_, _/_, _%_, _≤_, _<_}
 use native.Mathlib.Omega.{arith}
 use mathlib.Core.Path.{_≡_, refl, sym, ap, subst, _∙_}
 use mathlib.Core.List.{List}
-use mathlib.Core.Bool.{Bool, true, false}
-use lib.Dec.{ltb}
+use mathlib.Core.Bool.{Bool, true, false, cond}
+use lib.Dec.{eqb, ltb}
 use lib.ListN.{getD}
-use borrow.Author.Tests.{ltb-true, ltb-false}
+use borrow.Author.Tests.{eqb-true, eqb-false, ltb-true, ltb-false}
 use Rattle.rules.specs.02-Limits.{limits}
 use Rattle.rules.specs.04-Schema.{Side, kind-of, is-object, is-link, present, side-code, other-side, has-end}
 use Rattle.rules.specs.04-Schema.Kind.{paired}
-use Rattle.rules.specs.Read.{read-side, link-offset, side-offset, object-offset}
-use Rattle.rules.specs.Parts.{of-presences, of-ends, End-fits, End-mirrored, Ends-fit, Ends-mirrored}
+use Rattle.rules.specs.Read.{read-side, side-offset, object-offset}
+use Rattle.rules.specs.Parts.{of-presences, of-ends, End-mirrored, Ends-fit, Ends-mirrored}
 use Rattle.rules.proofs.Bools.{and-of}
 use Rattle.rules.proofs.Parts.{ended-held}
 use Rattle.rows.specs.Rows.{Counted}
@@ -148,7 +148,7 @@ module _ {b : List ℕ} {n d l s : ℕ} (ends : Ends b n) (held : present (schem
   the-pair {m} {c} {q} e f = paired-reverse b l (link-below b l link) c q (ap (kind-of (schema-of b)) (sym e) ∙ f)
 
   -- a designation type has no mirror
-  pub group-alone : {v : ℕ} → v ≡ value-byte b l → v ≡ 4 → Group-fine b n (record { sds = d; link = l; side = s; reverse = l; turned = s })
+  group-alone : {v : ℕ} → v ≡ value-byte b l → v ≡ 4 → Group-fine b n (record { sds = d; link = l; side = s; reverse = l; turned = s })
   group-alone ev e = record {
     small = record { sds = dd; link = ll; side = ss; reverse = ll; turned = ss };
     link = link;
@@ -157,7 +157,7 @@ module _ {b : List ℕ} {n d l s : ℕ} (ends : Ends b n) (held : present (schem
     back = λ i below x m. record { place = i; below = below; sds = x .sds; link = x .link; turned = x .side; object = refl };
   }
 
-  pub group-paired : {v q : ℕ} → v ≡ value-byte b l → (v ≡ 4 → ⊥) → q ≡ reverse-byte b l → q < 256 → s ≤ 1
+  group-paired : {v q : ℕ} → v ≡ value-byte b l → (v ≡ 4 → ⊥) → q ≡ reverse-byte b l → q < 256 → s ≤ 1
       → Group-fine b n (turned-group d l s q)
   group-paired {v} {q} ev some eq qq one = record {
     small = record { sds = dd; link = ll; side = ss; reverse = qq; turned = omega arith };
@@ -188,6 +188,15 @@ module _ {b : List ℕ} {n d l s : ℕ} (ends : Ends b n) (held : present (schem
           let has = has-there b (other-side (end-shown b i .side)) o (sym (x .sds)) eq
           ∙ m (value-byte b l) (reverse-byte b l) (ap (kind-of (schema-of b)) (x .link) ∙ pair) in
           subst (λ (k : ℕ). End-row b n d q k o) (side-of i below x) (has-row ends d q (other-side (end-shown b i .side)) o has)
+
+  pub group-either : {v q x y : ℕ} → v ≡ value-byte b l → q ≡ reverse-byte b l → q < 256 → s ≤ 1
+      → x ≡ cond (eqb v 4) l q → y ≡ cond (eqb v 4) s (1 - s) → Group-fine b n (record { sds = d; link = l; side = s; reverse = x; turned = y })
+  group-either {v} {q} {x} {y} ev eq qq one = go (eqb v 4) refl
+    where
+      go : (t : Bool) → eqb v 4 ≡ t → x ≡ cond t l q → y ≡ cond t s (1 - s)
+          → Group-fine b n (record { sds = d; link = l; side = s; reverse = x; turned = y })
+      go true e f g = rw (f, g) (group-alone ev (eqb-true v 4 e))
+      go false e f g = rw (f, g) (group-paired ev (eqb-false v 4 e) eq qq one)
 
 -- ---- past a group
 

@@ -34,6 +34,13 @@ pub record Ended (b : List ℕ) (i : ℕ) : Type 0 where
   pub fits : End-fits ((schema-of b) .types) (present (of-presences ((schema-of b) .presences)) (end-shown b i .sds)) (end-shown b i)
   pub mirrored : End-mirrored ((schema-of b) .types) ((schema-of b) .ends) (end-shown b i)
 
+-- all applications so, and all ends: the parts of `Good` that speak of them
+abbrev pub Applications-stand : List ℕ → Type 0
+Applications-stand b = Applications-fit ((schema-of b) .types) ((schema-of b) .presences) ((schema-of b) .applications)
+
+abbrev pub Ends-stand : List ℕ → Type 0
+Ends-stand b = (Ends-fit ((schema-of b) .types) ((schema-of b) .presences) ((schema-of b) .ends)) × (Ends-mirrored ((schema-of b) .types) ((schema-of b) .ends))
+
 -- ---- the ends of one link type on one side in one SDS stand together: a group
 
 -- four bytes as one number, the first of them highest

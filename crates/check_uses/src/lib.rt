@@ -3,19 +3,19 @@
 use base::Base;
 use rules::Limits;
 ghost use mathlib.Core.Path.{_≡_};
+ghost use mathlib.Core.Bool.{cond};
 ghost use Prim.Native.Nat.{_≤_, _<_};
 ghost use lib.ListN.{length};
 ghost use Rattle.rules.specs.02-Limits.{limits};
 ghost use Rattle.rules.specs.07-Picture.{base-length};
-ghost use Rattle.rules.specs.Parts.{Applications-fit, Ends-fit, Ends-mirrored};
 ghost use Rattle.rows.specs.Rows.{Counted};
 ghost use Rattle.rows.specs.Decides.{Decides};
-ghost use Rattle.base.specs.Back.{schema-of, application-count};
+ghost use Rattle.base.specs.Back.{application-count};
 ghost use Rattle.lookup.specs.Found.{End-at, Ends};
 ghost use Rattle.lookup.specs.Parents.{Parental};
 ghost use Rattle.check_rows.specs.Fine.{Presences-fine, Rest-fine};
 ghost use Rattle.check_uses.specs.Uses.{Shown, Held-by, Applied, Numbered, In-group, Small, Group-fine, Object-fine, Row-where, Past};
-ghost use Rattle.check_uses.specs.Uses.{Sdss-closed};
+ghost use Rattle.check_uses.specs.Uses.{Applications-stand, Ends-stand, Sdss-closed};
 
 // Whether SDS d holds type t.
 fn is_held(held: &[u16], d: usize, t: usize) -> bool
@@ -55,7 +55,7 @@ fn application_fine(base: &[u8], i: usize, held: &[u16]) -> bool
 pub fn applications_fine(base: &[u8], n: usize, held: &[u16]) -> bool
     requires { ⌜ Shown (now base) (now held) ⌝ }
     requires { ⌜ Counted (application-count (now base)) (limits .applications) n ⌝ }
-    ensures { λ r. ⌜ Decides (Applications-fit ((schema-of (now (base .entry))) .types) ((schema-of (now (base .entry))) .presences) ((schema-of (now (base .entry))) .applications)) r ⌝ }
+    ensures { λ r. ⌜ Decides (Applications-stand (now (base .entry))) r ⌝ }
 {
     let mut i = 0;
     while i < n {
@@ -160,6 +160,16 @@ fn rows_fine(
     i
 }
 
+// The one number where it is so, else the other.
+fn either(so: bool, one: usize, other: usize) -> usize
+    ensures { λ r. ⌜ r ≡ cond so one other ⌝ }
+{
+    if so {
+        return one;
+    }
+    other
+}
+
 // The same, with what is asked of the group's link type. Mirrors are looked for from `near` on, or from `far` on.
 fn group_fine(base: &[u8], n: usize, from: usize, near: usize, far: usize, held: &[u16]) -> usize
     requires { ⌜ (Shown (now base) (now held)) × (Ends (now base) n) ⌝ }
@@ -175,25 +185,18 @@ fn group_fine(base: &[u8], n: usize, from: usize, near: usize, far: usize, held:
         return n + 1;
     }
     let side = base::end_side(base, from);
-    if base::value(base, link) == Base::DESIGNATION {
-        let alone = Group {
-            sds,
-            link,
-            side,
-            reverse: link,
-            turned: side,
-        };
-        return rows_fine(base, n, from, from, far, alone, held);
-    }
+    let alone = base::value(base, link) == Base::DESIGNATION;
+    let reverse = base::reverse(base, link);
     let turned = 1 - side;
     let group = Group {
         sds,
         link,
         side,
-        reverse: base::reverse(base, link),
-        turned,
+        reverse: either(alone, link, reverse),
+        turned: either(alone, side, turned),
     };
-    rows_fine(base, n, from, near, far, group, held)
+    let first = either(alone, from, near);
+    rows_fine(base, n, from, first, far, group, held)
 }
 
 // Whether each of the n ends is of a link type and an object type, both held by its SDS, and has its mirror. A link type and its reverse
@@ -201,7 +204,7 @@ fn group_fine(base: &[u8], n: usize, from: usize, near: usize, far: usize, held:
 pub fn ends_fine(base: &[u8], n: usize, held: &[u16]) -> bool
     requires { ⌜ Shown (now base) (now held) ⌝ }
     requires { ⌜ Ends (now base) n ⌝ }
-    ensures { λ r. ⌜ Decides ((Ends-fit ((schema-of (now (base .entry))) .types) ((schema-of (now (base .entry))) .presences) ((schema-of (now (base .entry))) .ends)) × (Ends-mirrored ((schema-of (now (base .entry))) .types) ((schema-of (now (base .entry))) .ends))) r ⌝ }
+    ensures { λ r. ⌜ Decides (Ends-stand (now (base .entry))) r ⌝ }
 {
     let mut third = 0;
     let mut second = 0;

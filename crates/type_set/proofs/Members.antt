@@ -2,7 +2,6 @@
 -- of a word of marks are as many as the numbers that it marks. Assumes nothing.
 use Prim.Native.Nat.{ℕ, zero, suc, _+_, _-_, _*_, _≤_, _<_}
 use native.Mathlib.Nat.{add-suc, add-zero, suc-add, zero-add}
-use native.Mathlib.Numerals.{add-one}
 use native.Mathlib.Omega.{arith}
 use mathlib.Core.Path.{_≡_, refl, sym, ap, ap₂, _∙_}
 use mathlib.Core.Logic.{⊎-elim}
@@ -62,20 +61,6 @@ module _ (p q : ℕ → Bool) (part : (k : ℕ) → p k ≡ true → q k ≡ tru
       go : (b : Bool) → ltb (length (members p)) (length (members q)) ≡ b → length (members p) < length (members q)
       go true h = ltb-true (length (members p)) (length (members q)) h
       go false h = absurd (false≢true (sym out ∙ members-same (ltb-false (length (members p)) (length (members q)) h) k u e))
-
--- ---- the types from t on that pass: t and those behind it, or those alone
-
-module _ (p : ℕ → Bool) (t : ℕ) (h : t < 128) where
-  one : 128 - t ≡ suc (128 - (t + 1))
-  one = omega arith
-
-  pub types-taken : p t ≡ true → numbers t (128 - t) p ≡ t ∷ numbers (t + 1) (128 - (t + 1)) p
-  unfolding numbers
-  types-taken e = rw (one, e, add-one t)
-
-  pub types-passed : p t ≡ false → numbers t (128 - t) p ≡ numbers (t + 1) (128 - (t + 1)) p
-  unfolding numbers
-  types-passed e = rw (one, e, add-one t)
 
 -- ---- the count
 

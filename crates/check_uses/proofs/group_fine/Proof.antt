@@ -1,14 +1,15 @@
 -- `check_uses::group_fine` meets its contract: the link type's tests are the first fields of `Ended`, and with them the group is fine.
 -- Assumes nothing.
-use Prim.Native.Nat.{_<_}
+use Prim.Native.Nat.{_≤_, _<_}
 use mathlib.Core.Path.{_≡_}
 use mathlib.Core.Bool.{true}
 use native.Mathlib.Omega.{arith}
+use borrow.Author.Needs.{needs}
 use borrow.Author.Tests.{not-true, not-false}
 use Rattle.rules.specs.04-Schema.{kind-of, is-link, present}
 use Rattle.base.specs.Back.{schema-of}
 use Rattle.check_uses.proofs.UseLaws.{not-held, is-held, held-below, is-kind, kind-is}
-use Rattle.check_uses.proofs.GroupLaws.{End-read, ended-out, ended-no-link, group-of, group-alone, group-paired, past-no}
+use Rattle.check_uses.proofs.GroupLaws.{End-read, ended-out, ended-no-link, group-of, group-either, past-no}
 use Rattle.check_uses.proofs.group_fine.Statement.{statement}
 use Rattle.check_uses.proofs.group_fine.Tie as tie
 
@@ -74,48 +75,44 @@ end-side-requires c κs =
 value-requires : tie.Need-value-requires
 value-requires c κs = (start (row (c .before)) .pre .0 .0 .types .long, link-below (c .before))
 
+reverse-requires : tie.Need-reverse-requires
+reverse-requires c κs = (start (row (c .before .before)) .pre .0 .0 .types .long, link-below (c .before .before))
+
+one-side : (c : tie.After-end-side) → c .end-side .result ≤ 1
+one-side c =
+    let x = start (row (c .before)) in
+    omega (arith, c .end-side .ensures .is, x .pre .0 .1 .sides (x .args .from) (x .pre .1))
+
+sub-turned : tie.Need-sub-turned
+sub-turned c = one-side (c .before .before)
+
+either-requires : tie.Need-either-requires
+either-requires c = search needs
+
+either-requires-2 : tie.Need-either-requires-2
+either-requires-2 c = search needs
+
+either-requires-3 : tie.Need-either-requires-3
+either-requires-3 c = search needs
+
 rows-fine-requires : tie.Need-rows-fine-requires
 rows-fine-requires c κs =
-    let e = c .before .before .before in
+    let v = c .before .before .before .before in
+    let s = v .before in
+    let e = s .before in
     let r = row e in
     let x = start r in
-    let side = c .before .before .end-side .ensures in (
+    let reverse = c .before .before .before .reverse .ensures in (
       x .pre .0,
       (
-        group-alone (x .pre .0 .1) (link-held e) (link-is e) (r .before .end-sds .ensures .small) (r .end-link .ensures .small) (side .small)
-            (c .before .value .ensures .is) (c .if3 .taken),
-        (x .pre .1, group-of (row-read r) (side .is)),
+        group-either (x .pre .0 .1) (link-held e) (link-is e) (r .before .end-sds .ensures .small) (r .end-link .ensures .small) (s .end-side .ensures .small)
+            (v .value .ensures .is) (reverse .is) (reverse .small) (one-side s) (c .before .before .either .ensures) (c .before .either2 .ensures),
+        (x .pre .1, group-of (row-read r) (s .end-side .ensures .is)),
       ),
     )
 
 returns-3 : tie.Need-returns-3
 returns-3 c = c .rows-fine .ensures
-
-sub-turned : tie.Need-sub-turned
-sub-turned c =
-    let x = start (row (c .before .before .before)) in
-    omega (arith, c .before .before .end-side .ensures .is, x .pre .0 .1 .sides (x .args .from) (x .pre .1))
-
-reverse-requires : tie.Need-reverse-requires
-reverse-requires c κs = (start (row (c .before .before .before)) .pre .0 .0 .types .long, link-below (c .before .before .before))
-
-rows-fine-requires-2 : tie.Need-rows-fine-requires-2
-rows-fine-requires-2 c κs =
-    let e = c .before .before .before .before in
-    let r = row e in
-    let x = start r in
-    let side = c .before .before .before .end-side .ensures in (
-      x .pre .0,
-      (
-        group-paired (x .pre .0 .1) (link-held e) (link-is e) (r .before .end-sds .ensures .small) (r .end-link .ensures .small) (side .small)
-            (c .before .before .value .ensures .is) (c .before .if3 .left) (c .reverse .ensures .is) (c .reverse .ensures .small)
-            (omega (arith, side .is, x .pre .0 .1 .sides (x .args .from) (x .pre .1))),
-        (x .pre .1, group-of (row-read r) (side .is)),
-      ),
-    )
-
-returns-4 : tie.Need-returns-4
-returns-4 c = c .rows-fine2 .ensures
 
 pub group-fine-spec : {M : Type 1} → statement M
 group-fine-spec =
@@ -131,9 +128,10 @@ group-fine-spec =
     returns-2
     end-side-requires
     value-requires
-    rows-fine-requires
-    returns-3
-    sub-turned
     reverse-requires
-    rows-fine-requires-2
-    returns-4)
+    sub-turned
+    either-requires
+    either-requires-2
+    either-requires-3
+    rows-fine-requires
+    returns-3)

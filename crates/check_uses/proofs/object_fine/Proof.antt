@@ -21,8 +21,8 @@ o-held c = is-held (start c .pre .0 .0) (c .before .before .before .is-held .ens
 o-object : (c : tie.Else2) → let x = start c .args in is-object (kind-of (schema-of (x .base .now)) (x .o)) ≡ true
 o-object c =
     let x = start c in
-    is-kind (x .args .base .now) (x .args .o) (held-below (x .pre .0 .0) (c .before .before .before .is-held .ensures) (not-false _ (c .before .before .if1 .left)))
-    (c .before .kind .ensures .is) 1 (omega arith) (omega arith) (c .if2 .left)
+    let below = held-below (x .pre .0 .0) (c .before .before .before .is-held .ensures) (not-false _ (c .before .before .if1 .left)) in
+    is-kind (x .args .base .now) (x .args .o) below (c .before .kind .ensures .is) 1 (omega arith) (omega arith) (c .if2 .left)
 
 is-held-requires : tie.Need-is-held-requires
 is-held-requires c κs = c .before .before .pre .0 .0 .holds .room

@@ -13,8 +13,8 @@
  * is sound, say one with another letter in a name. A host that stores bases keeps a checksum with each.
  *
  * Names of SDSs and of types are 1 to 16 bytes, letters A to Z and a to z, digits and underscores, the first a letter.
- * They have a length and no byte 0 behind them, and are compared byte for byte. Where a call says that a name is
- * malformed, an empty one is too. An SDS has a number from 0 to 15, a type one from 0 to 127. */
+ * They have a length and no byte 0 behind them, and are compared byte for byte. An empty name is malformed too, but for
+ * the new names of cf_import. An SDS has a number from 0 to 15, a type one from 0 to 127. */
 #ifndef CISTERNFOX_H
 #define CISTERNFOX_H
 

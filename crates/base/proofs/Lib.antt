@@ -1,8 +1,8 @@
 pub mod Tables
 pub mod Back
 pub mod Shown
+pub mod Halved
 pub mod Kept
-pub mod OrderLaws
 pub mod OrderedLaws
 pub mod StoredLaws
 pub mod SdsWritten

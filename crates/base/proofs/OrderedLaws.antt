@@ -17,8 +17,10 @@ use Rattle.rules.proofs.01-Lists.{place-in, before-irreflexive, before-transiti
 use Rattle.rules.proofs.Edits.{put-long, put-in, put-place, tail-rising, put-rising}
 use Rattle.rules.proofs.07-Picture.{zeros-long, length-table}
 use Rattle.rows.specs.Rows.{row-at, Rising}
+use Rattle.rows.specs.Order.{number, Climbs}
 use Rattle.rows.specs.Table.{Rises, Put-in, closed}
 use Rattle.rows.proofs.Rows.{table-part}
+use Rattle.rows.proofs.OrderLaws.{climbs-rising, rising-climbs}
 use Rattle.rows.proofs.Scan.{rising-far}
 use Rattle.rows.proofs.TableLaws.{row-fits, without-at, table-opened, table-closed}
 use Rattle.base.specs.Tables.{Table, Sorted, at, end, row-of, shown, Used, first-things, bytes-of, Written}
@@ -200,3 +202,12 @@ module _ {A : Type 0} {t : Table A} {o : Sorted t} (l : Sorts o) (b : List ℕ) 
   pub things-rise : rising (o .before) (first-things t n b) ≡ true → Rising b (t .start) (t .width) (t .width) n
   things-rise r i k =
       sym (things-order i k) ∙ rising-at (o .before) (t .read []) (first-things t n b) r i (omega (arith, things-long t b n))
+
+  -- and that of their numbers
+  module _ (x : ℕ) (small : (i : ℕ) → getD b i 0 < 256) (room : at t n ≤ length b) where
+    pub climb-things : ((i : ℕ) → i < n → Climbs x b (t .start) (t .width) i) → rising (o .before) (first-things t n b) ≡ true
+    climb-things climbs = rise-things (climbs-rising x b (t .start) (t .width) n small room climbs)
+
+    pub things-climb : rising (o .before) (first-things t n b) ≡ true → (0 < n → x < number 0 (row-of t b 0))
+        → (i : ℕ) → i < n → Climbs x b (t .start) (t .width) i
+    things-climb r first = rising-climbs x b (t .start) (t .width) n small room (things-rise r) first

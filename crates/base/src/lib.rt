@@ -6,13 +6,14 @@ pub mod used;
 use rules::Limits;
 ghost use mathlib.Core.Path.{_≡_};
 ghost use Prim.Native.Nat.{_+_, _<_};
-ghost use lib.ListN.{length};
+ghost use lib.ListN.{length, replicate};
 ghost use Rattle.rules.specs.02-Limits.{limits};
 ghost use Rattle.rules.specs.04-Schema.{fresh};
-ghost use Rattle.rules.specs.07-Picture.{picture, base-length};
+ghost use Rattle.rules.specs.07-Picture.{picture, base-length, type-width};
 ghost use Rattle.rules.specs.Read.{value-offset, reverse-offset, count-offset, parents-offset, name-offset, type-offset, to-offset, attribute-offset};
 ghost use Rattle.rules.specs.Read.{link-offset, side-offset, object-offset};
 ghost use Rattle.rows.specs.Rows.{part, Reads};
+ghost use Rattle.rows.specs.Decides.{Decides};
 ghost use Rattle.base.specs.Rows.{sds-at, type-at, presence-at, application-at, end-at};
 
 pub struct Base {}
@@ -164,6 +165,15 @@ pub fn parent(base: &[u8], t: usize, i: usize) -> usize
         base,
         Base::TYPES_AT + t * Base::TYPE_WIDTH + Base::PARENTS_OFFSET + i,
     )
+}
+
+// Whether all of its row is zero, as that of an unused type is.
+pub fn is_type_unused(base: &[u8], t: usize) -> bool
+    requires { ⌜ (length (now base) ≡ base-length) × (t < limits .types) ⌝ }
+    ensures { λ r. ⌜ Decides (part (now (base .entry)) (type-at t) type-width ≡ replicate type-width 0) r ⌝ }
+{
+    let at = Base::TYPES_AT + t * Base::TYPE_WIDTH;
+    rows::used::is_zero(base, at, at + Base::TYPE_WIDTH)
 }
 
 // ---- presences

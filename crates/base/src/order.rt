@@ -1,49 +1,38 @@
-// Whether the rows of a table rise: the narrow tables by one test, the presences eight bytes at a time.
+// Rows in numbers, for their order.
 use super::Base;
+use rows::order::Key;
 ghost use mathlib.Core.Path.{_≡_};
-ghost use Prim.Native.Nat.{_≤_};
+ghost use Prim.Native.Nat.{_<_};
 ghost use lib.ListN.{length};
 ghost use Rattle.rules.specs.02-Limits.{limits};
-ghost use Rattle.rules.specs.07-Picture.{base-length};
-ghost use Rattle.rows.specs.Decides.{Decides};
-ghost use Rattle.base.specs.Tables.{In-order, by-name, by-application, by-end};
+ghost use Rattle.rules.specs.07-Picture.{base-length, application-width, end-width};
+ghost use Rattle.rows.specs.Rows.{part};
+ghost use Rattle.rows.specs.Order.{number, Keyed};
+ghost use Rattle.base.specs.Rows.{presence-at, application-at, end-at};
 
-// By SDS and name: with no two rows of one SDS that have one name. A row's key is kept for the comparison with the next one.
-pub fn presences_rise(base: &[u8], n: usize) -> bool
-    requires { ⌜ (length (now base) ≡ base-length) × (n ≤ limits .presences) ⌝ }
-    ensures { λ r. ⌜ Decides (In-order by-name (now (base .entry)) n) r ⌝ }
+// By SDS and name.
+pub fn presence_key(base: &[u8], i: usize) -> Key
+    requires { ⌜ (length (now base) ≡ base-length) × (i < limits .presences) ⌝ }
+    ensures { λ r. ⌜ Keyed (now (base .entry)) (presence-at i) r ⌝ }
 {
-    let mut at = Base::PRESENCES_AT;
-    let mut row = rows::order::key_at(base, at);
-    let mut i = 0;
-    while i + 1 < n {
-        at += Base::PRESENCE_WIDTH;
-        let next = rows::order::key_at(base, at);
-        if !rows::order::key_before(row, next) {
-            return false;
-        }
-        row = next;
-        i += 1;
-    }
-    true
+    rows::order::key_at(base, Base::PRESENCES_AT + i * Base::PRESENCE_WIDTH)
 }
 
-pub fn applications_rise(base: &[u8], n: usize) -> bool
-    requires { ⌜ (length (now base) ≡ base-length) × (n ≤ limits .applications) ⌝ }
-    ensures { λ r. ⌜ Decides (In-order by-application (now (base .entry)) n) r ⌝ }
+// ---- a row as one number, its first byte highest, whose order is that of the rows: one expression, of which the compiler makes one load
+
+pub fn application_number(base: &[u8], i: usize) -> usize
+    requires { ⌜ (length (now base) ≡ base-length) × (i < limits .applications) ⌝ }
+    ensures { λ r. ⌜ r ≡ number 0 (part (now (base .entry)) (application-at i) application-width) ⌝ }
 {
-    rows::order::rise(
-        base,
-        Base::APPLICATIONS_AT,
-        Base::APPLICATION_WIDTH,
-        Base::APPLICATION_WIDTH,
-        n,
-    )
+    (super::application_sds(base, i) * 256 + super::application_to(base, i)) * 256
+        + super::application_attribute(base, i)
 }
 
-pub fn ends_rise(base: &[u8], n: usize) -> bool
-    requires { ⌜ (length (now base) ≡ base-length) × (n ≤ limits .ends) ⌝ }
-    ensures { λ r. ⌜ Decides (In-order by-end (now (base .entry)) n) r ⌝ }
+pub fn end_number(base: &[u8], i: usize) -> usize
+    requires { ⌜ (length (now base) ≡ base-length) × (i < limits .ends) ⌝ }
+    ensures { λ r. ⌜ r ≡ number 0 (part (now (base .entry)) (end-at i) end-width) ⌝ }
 {
-    rows::order::rise(base, Base::ENDS_AT, Base::END_WIDTH, Base::END_WIDTH, n)
+    ((super::end_sds(base, i) * 256 + super::end_link(base, i)) * 256 + super::end_side(base, i))
+        * 256
+        + super::end_object(base, i)
 }

@@ -2,11 +2,12 @@
 use super::Base;
 use rules::Limits;
 ghost use mathlib.Core.Path.{_≡_};
-ghost use Prim.Native.Nat.{_≤_};
+ghost use Prim.Native.Nat.{_+_, _≤_};
 ghost use lib.ListN.{length};
 ghost use Rattle.rules.specs.02-Limits.{limits};
 ghost use Rattle.rules.specs.07-Picture.{base-length};
-ghost use Rattle.rows.specs.Rows.{Counted};
+ghost use Rattle.rules.specs.Read.{name-offset};
+ghost use Rattle.rows.specs.Rows.{Counted, Halved};
 ghost use Rattle.rows.specs.Decides.{Decides};
 ghost use Rattle.base.specs.Tables.{Blank-from, presences, applications, ends};
 ghost use Rattle.base.specs.Back.{presence-count, application-count, end-count};
@@ -69,4 +70,39 @@ pub fn no_end_from(base: &[u8], n: usize) -> bool
     ensures { λ r. ⌜ Decides (Blank-from ends n (now (base .entry))) r ⌝ }
 {
     rows::used::is_zero(base, Base::ENDS_AT + n * Base::END_WIDTH, Base::LENGTH)
+}
+
+// ---- the same by halving, where the used rows stand before the others, for a check that sees to it
+
+// By the first byte of the name, which a presence has.
+pub fn presences_halved(base: &[u8]) -> usize
+    requires { ⌜ length (now base) ≡ base-length ⌝ }
+    ensures { λ r. ⌜ Halved (now (base .entry)) (presences .start + name-offset) (presences .width) (limits .presences) r ⌝ }
+{
+    rows::used::halved(
+        base,
+        Base::PRESENCES_AT + Base::NAME_OFFSET,
+        Base::PRESENCE_WIDTH,
+        Limits::PRESENCES,
+    )
+}
+
+// By the SDS, which is never SDS 0.
+pub fn applications_halved(base: &[u8]) -> usize
+    requires { ⌜ length (now base) ≡ base-length ⌝ }
+    ensures { λ r. ⌜ Halved (now (base .entry)) (applications .start) (applications .width) (limits .applications) r ⌝ }
+{
+    rows::used::halved(
+        base,
+        Base::APPLICATIONS_AT,
+        Base::APPLICATION_WIDTH,
+        Limits::APPLICATIONS,
+    )
+}
+
+pub fn ends_halved(base: &[u8]) -> usize
+    requires { ⌜ length (now base) ≡ base-length ⌝ }
+    ensures { λ r. ⌜ Halved (now (base .entry)) (ends .start) (ends .width) (limits .ends) r ⌝ }
+{
+    rows::used::halved(base, Base::ENDS_AT, Base::END_WIDTH, Limits::ENDS)
 }

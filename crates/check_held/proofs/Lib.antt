@@ -1,3 +1,2 @@
 pub mod WordLaws
-pub mod GatherLaws
-pub mod ClosedLaws
+pub mod HeldLaws

@@ -7,14 +7,14 @@ use mathlib.Core.List.{List}
 use mathlib.Core.Bool.{Bool, true, false, _&&_, _||_, or-comm}
 use lib.Bits.{bitAnd, bitOr, and-le-l, or-lt}
 use lib.Dec.{eqb}
-use lib.ListN.{length, getD, set}
+use lib.ListN.{length, getD}
 use borrow.Author.Count.{below-more}
 use borrow.Author.Tests.{eq-eqb, ne-eqb}
 use Rattle.rules.proofs.Bools.{same-test, and-both, and-of}
 use Rattle.rules.proofs.Edits.{set-either}
 use Rattle.type_set.specs.Set.{bit}
 use Rattle.type_set.proofs.Bit.{bit-zero, bit-and, bit-set, word-same}
-use Rattle.check_held.specs.Held.{Within}
+use Rattle.check_held.specs.Held.{marked, Within}
 
 -- ---- one word within another
 
@@ -47,9 +47,6 @@ some-bit w h n = go (one-below (bit w) 16)
     go (inr none) = absurd (n (word-same 16 w 0 h (omega arith) (λ d l. none d l ∙ sym (bit-zero d))))
 
 -- ---- bit d of word t is set
-
-abbrev pub marked : List ℕ → ℕ → ℕ → List ℕ
-marked held t d = set held t (bitOr (getD held t 0) (1 * 2 ^ d % 2 ^ 16))
 
 module _ (held : List ℕ) (t d : ℕ) (room : t < length held) (small : d < 16) where
   pub marked-bit : (u e : ℕ) → bit (getD (marked held t d) u 0) e ≡ (eqb u t && eqb e d) || bit (getD held u 0) e

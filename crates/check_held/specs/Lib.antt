@@ -1,1 +1,2 @@
 pub mod Held
+pub mod Fine

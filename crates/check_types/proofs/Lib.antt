@@ -1,1 +1,3 @@
+pub mod RowLaws
+pub mod OneTypeLaws
 pub mod TypesLaws

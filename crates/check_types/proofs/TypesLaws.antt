@@ -1,219 +1,352 @@
--- What one type's bytes say, of all types together, is what `KindsFine` says. Assumes nothing.
+-- What the bytes and the words say of one type, of all types together, is what `Types-fine` says. Assumes nothing.
 use Prim.Native.Nat.{ℕ, zero, suc, _≤_, _<_}
 use native.Mathlib.Omega.{arith}
 use mathlib.Core.Path.{_≡_, refl, sym, ap, _∙_, subst}
-use mathlib.Core.List.{List, [], _∷_, _++_}
-use mathlib.Core.Bool.{Bool, true, false}
+use mathlib.Core.List.{List, [], _∷_, List·Memᴰ·not-nil}
+use mathlib.Core.Bool.{Bool, true, false, false≢true}
 use lib.Dec.{ltb, eqb}
-use lib.ListN.{length, getD, take, drop, replicate, length-take, List·getD-eq-default}
-use lib.Seq.{ext-getD, getD-take}
-use borrow.Author.Tests.{ltb-true, ltb-false, eqb-true, eqb-false}
-use Rattle.rules.specs.04-Schema.{Kind, kind-of, parents}
+use lib.ListN.{length, getD, take}
+use lib.Seq.{getD-take}
+use borrow.Author.Tests.{ltb-true, ltb-false, lt-ltb, eqb-true, eqb-false}
+use Rattle.rules.specs.01-Lists.{_∈_, rising}
+use Rattle.rules.specs.02-Limits.{limits}
+use Rattle.rules.specs.04-Schema.{Kind, kind-of, kind-code, is-used, is-object, parents-in, parents, present}
 use Rattle.rules.specs.04-Schema.Kind.{unused, object, attribute, designation, paired}
-use Rattle.rules.specs.07-Picture.{pad, type-row, base-length, type-width}
-use Rattle.rules.proofs.07-Picture.{length-pad}
-use Rattle.rows.specs.Rows.{part}
-use Rattle.rows.specs.Decides.{Decides}
-use Rattle.rows.proofs.Decides.{decides-iff}
-use Rattle.base.specs.Rows.{type-at}
-use Rattle.base.specs.Back.{schema-of, kind-shown}
-use Rattle.base.proofs.Shown.{types-long, kind-is, kind-none, shows-attribute, shows-designation, shows-paired, shows-unused}
-use Rattle.lookup.proofs.KindBytes.{kind-byte, value-byte, reverse-byte, count-byte, parent-places, listed-parents}
-use Rattle.lookup.proofs.KindBytes.{object-shown, place-byte, places-long, row-bytes}
-use Rattle.check_types.specs.TypeRows.{NoParentsFrom, FewParents, PlainRow, LinkRow, Bounded, RowFine, KindsFine}
+use Rattle.rules.specs.05-Descent.{Parent}
+use Rattle.rules.specs.07-Picture.{base-length}
+use Rattle.rules.specs.Parts.{of-presences, Kinds, Parents, Reverses, Closed-under}
+use Rattle.rules.proofs.Bools.{and-both, and-of}
+use Rattle.rules.proofs.01-Lists.{at-place, place-in}
+use Rattle.rules.proofs.Parts.{presence-there, present-each, parent-in, parent-of}
+use Rattle.type_set.specs.Set.{bit}
+use Rattle.type_set.proofs.Bit.{bit-zero}
+use Rattle.base.specs.Tables.{Written, types}
+use Rattle.base.specs.Back.{schema-of}
+use Rattle.base.proofs.Shown.{types-long, kind-is, kind-none, shows-attribute, shows-paired}
+use Rattle.lookup.specs.Parents.{Falling}
+use Rattle.lookup.proofs.KindBytes.{kind-byte, value-byte, reverse-byte, count-byte, parent-byte, parent-places, listed-parents}
+use Rattle.lookup.proofs.KindBytes.{object-shown, place-byte, row-code, object-bytes, attribute-bytes, paired-bytes}
+use Rattle.check_held.specs.Held.{Holds, Within}
+use Rattle.check_held.specs.Fine.{Types-fine}
+use Rattle.check_held.proofs.HeldLaws.{present-shown, shows-any}
+use Rattle.check_held.proofs.WordLaws.{some-bit}
+use Rattle.check_types.specs.OneType.{sdss-of, least, Parents-below, Object-fine, Mutual, Link-fine, Type-fine, Root-fine}
+use Rattle.check_types.specs.OneType.{Types-told}
+use Rattle.check_types.proofs.RowLaws.{listed-long, zero-kind, fine-row, row-unused, row-object, row-attribute, row-designation, row-paired}
 
--- ---- a field with zeros behind what it holds
+-- ---- numbers that rise one by one
 
-zeros-byte : (m i : ℕ) → getD (replicate {A = ℕ} m 0) i 0 ≡ 0
-zeros-byte zero i = refl
-zeros-byte (suc m) zero = refl
-zeros-byte (suc m) (suc i) = zeros-byte m i
+next-rising : (l : List ℕ) → rising ltb l ≡ true → (i : ℕ) → suc i < length l → getD l i 0 < getD l (suc i) 0
+unfolding rising
+next-rising [] e i h = absurd (omega arith)
+next-rising (x ∷ []) e i h = absurd (omega arith)
+next-rising (x ∷ y ∷ l) e zero h = ltb-true x y (and-both (ltb x y) (rising ltb (y ∷ l)) e .0)
+next-rising (x ∷ y ∷ l) e (suc i) h = next-rising (y ∷ l) (and-both (ltb x y) (rising ltb (y ∷ l)) e .1) i (omega arith)
 
-zeros-behind : (l : List ℕ) (m i : ℕ) → getD (l ++ replicate m 0) i 0 ≡ getD l i 0
-zeros-behind [] m i = zeros-byte m i
-zeros-behind (x ∷ l) m zero = refl
-zeros-behind (x ∷ l) m (suc i) = zeros-behind l m i
+rising-next : (l : List ℕ) → ((i : ℕ) → suc i < length l → getD l i 0 < getD l (suc i) 0) → rising ltb l ≡ true
+unfolding rising
+rising-next [] f = refl
+rising-next (x ∷ []) f = refl
+rising-next (x ∷ y ∷ l) f =
+    and-of (ltb x y) (rising ltb (y ∷ l)) (lt-ltb x y (f 0 (omega arith))) (rising-next (y ∷ l) (λ i h. f (suc i) (omega arith)))
 
-pad-byte : (w : ℕ) (l : List ℕ) (i : ℕ) → i < w → getD (pad w l) i 0 ≡ getD l i 0
-unfolding pad
-pad-byte w l i h = getD-take w (l ++ replicate w 0) i 0 h ∙ zeros-behind l w i
+-- ---- kinds
 
--- a field that is zero from place n on holds its first n bytes
-pad-front : (w n : ℕ) (q : List ℕ) → length q ≡ w → ((i : ℕ) → i < w → n ≤ i → getD q i 0 ≡ 0) → pad w (take n q) ≡ q
-pad-front w n q e z = ext-getD 0 (pad w (take n q)) q (length-pad w (take n q) ∙ sym e) (λ i h. same i (omega (arith, length-pad w (take n q))))
+-- a kind with a parent is an object type's
+parent-listed : {a : ℕ} (k : Kind) → a ∈ parents-in k → (ps : List ℕ) × (k ≡ object ps) × (a ∈ ps)
+parent-listed unused i = absurd (List·Memᴰ·not-nil i)
+parent-listed (object ps) i = (ps, refl, i)
+parent-listed (attribute v) i = absurd (List·Memᴰ·not-nil i)
+parent-listed designation i = absurd (List·Memᴰ·not-nil i)
+parent-listed (paired c r) i = absurd (List·Memᴰ·not-nil i)
+
+object-in : (k : Kind) → is-object k ≡ true → (ps : List ℕ) × (k ≡ object ps)
+object-in unused e = absurd (false≢true e)
+object-in (object ps) e = (ps, refl)
+object-in (attribute v) e = absurd (false≢true e)
+object-in designation e = absurd (false≢true e)
+object-in (paired c r) e = absurd (false≢true e)
+
+code-last : (k : Kind) → kind-code k ≤ 3
+code-last unused = omega arith
+code-last (object ps) = omega arith
+code-last (attribute v) = omega arith
+code-last designation = omega arith
+code-last (paired c r) = omega arith
+
+used-below : (b : List ℕ) (t : ℕ) → is-used (kind-of (schema-of b) t) ≡ true → t < 128
+used-below b t u = go (ltb t 128) refl
   where
-    same : (i : ℕ) → i < w → getD (pad w (take n q)) i 0 ≡ getD q i 0
-    same i h = pad-byte w (take n q) i h ∙ go (ltb i n) refl
-      where
-        go : (s : Bool) → ltb i n ≡ s → getD (take n q) i 0 ≡ getD q i 0
-        go true p = getD-take n q i 0 (ltb-true i n p)
-        go false p =
-            let past : n ≤ i = ltb-false i n p in
-            List·getD-eq-default (take n q) 0 {n = i} (omega (arith, length-take n q)) ∙ sym (z i h past)
+    go : (x : Bool) → ltb t 128 ≡ x → t < 128
+    go true q = ltb-true t 128 q
+    go false q = absurd (false≢true (sym (ap is-used (kind-none b t (ltb-false t 128 q))) ∙ u))
 
--- ---- a row is as its kind would be written
+paired-is : (b : List ℕ) (t r : ℕ) → t < 128 → kind-byte b t ≡ 3 → (value-byte b t ≡ 4 → ⊥) → reverse-byte b t ≡ r
+    → kind-of (schema-of b) t ≡ paired (value-byte b t) r
+paired-is b t r h k v e = kind-is b t h ∙ shows-paired b t k v ∙ ap (paired (value-byte b t)) e
 
--- a row with no parents
-abbrev bare : ℕ → ℕ → ℕ → List ℕ
-bare k v r = k ∷ v ∷ r ∷ 0 ∷ 0 ∷ 0 ∷ 0 ∷ 0 ∷ []
+object-is : (b : List ℕ) (t : ℕ) → t < 128 → kind-byte b t ≡ 1 → kind-of (schema-of b) t ≡ object (listed-parents b t)
+object-is b t h e = kind-is b t h ∙ object-shown b t e
 
-module _ (b : List ℕ) (t : ℕ) (long : length b ≡ base-length) (h : t < 128) where
-  places-from : (n : ℕ) → NoParentsFrom b t n → pad 4 (take n (parent-places b t)) ≡ parent-places b t
-  places-from n z = pad-front 4 n (parent-places b t) (places-long b t long h) (λ i q u. place-byte b t i q ∙ z i q u)
+-- ---- rows that are as they would be written
 
-  from-places : (ps : List ℕ) → pad 4 ps ≡ parent-places b t → NoParentsFrom b t (length ps)
-  from-places ps e i u l =
-      sym (place-byte b t i u) ∙ ap (λ (x : List ℕ). getD x i 0) (sym e) ∙ pad-byte 4 ps i u ∙ List·getD-eq-default ps 0 {n = i} l
+module _ (b : List ℕ) (long : length b ≡ base-length) (rows : Written types (limits .types) b) where
+  code : (t : ℕ) → t < 128 → kind-byte b t ≡ kind-code (kind-of (schema-of b) t)
+  code t h = row-code b t h (rows t h)
 
-  bare-row : (k v r : ℕ) → kind-byte b t ≡ k → value-byte b t ≡ v → reverse-byte b t ≡ r → FewParents b t 0 → bare k v r ≡ part b (type-at t) type-width
-  unfolding pad
-  bare-row k v r ek ev er f =
-      let n : count-byte b t ≡ 0 = omega (arith, f .count) in
-      let p : pad 4 [] ≡ parent-places b t = places-from 0 (rw n at (f .places)) in
-      rw (row-bytes b t long h) (λ i. sym ek i ∷ sym ev i ∷ sym er i ∷ sym n i ∷ p i)
+  byte-used : (t : ℕ) → t < 128 → (kind-byte b t ≡ 0 → ⊥) → is-used (kind-of (schema-of b) t) ≡ true
+  byte-used t h n = ap (ltb 0) (sym (code t h)) ∙ lt-ltb 0 (kind-byte b t) (omega arith)
 
-  row-bare : (k v r : ℕ) → bare k v r ≡ part b (type-at t) type-width → (kind-byte b t ≡ k) × (value-byte b t ≡ v) × (reverse-byte b t ≡ r) × FewParents b t 0
-  unfolding pad
-  row-bare k v r e =
-      let e′ = e ∙ row-bytes b t long h in
-      let byte : (f : ℕ) → getD (kind-byte b t ∷ value-byte b t ∷ reverse-byte b t ∷ count-byte b t ∷ parent-places b t) f 0 ≡ getD (bare k v r) f 0
-      = λ f. sym (ap (λ (x : List ℕ). getD x f 0) e′) in
-      (byte 0, byte 1, byte 2, record { count = omega (arith, byte 3); places = rw (byte 3) (from-places [] (ap (drop 4) e′)) })
+  used-byte : (t : ℕ) → t < 128 → is-used (kind-of (schema-of b) t) ≡ true → kind-byte b t ≡ 0 → ⊥
+  used-byte t h u z = let s = ltb-true 0 (kind-code (kind-of (schema-of b) t)) u in omega (arith, code t h)
 
-  fine-of : (k : Kind) → kind-shown b t ≡ k → type-row k ≡ part b (type-at t) type-width → Bounded k → RowFine b t
-  fine-of k e r u = record { row = ap type-row e ∙ r; bounded = subst Bounded (sym e) u }
+  few : (t : ℕ) → t < 128 → kind-byte b t ≡ 1 → count-byte b t ≤ 4
+  few t h k = row-object b t long h (rows t h) k .parents .count
 
-  of-fine : (k : Kind) → kind-shown b t ≡ k → RowFine b t → type-row k ≡ part b (type-at t) type-width
-  of-fine k e f = sym (ap type-row e) ∙ f .row
+  count-listed : (t : ℕ) → t < 128 → kind-byte b t ≡ 1 → length (listed-parents b t) ≡ count-byte b t
+  count-listed t h e = listed-long b t long h (few t h e)
 
-  shown-none : kind-byte b t ≡ 0 → kind-shown b t ≡ unused
-  shown-none e = shows-unused b t (λ o. omega arith) (λ o. omega arith) (λ o. omega arith)
+  listed-byte : (t : ℕ) → t < 128 → kind-byte b t ≡ 1 → (i : ℕ) → i < count-byte b t → getD (listed-parents b t) i 0 ≡ parent-byte b t i
+  listed-byte t h e i u = getD-take (count-byte b t) (parent-places b t) i 0 u ∙ place-byte b t i (omega (arith, few t h e))
 
-  unused-fine : kind-byte b t ≡ 0 → PlainRow b t 0 0 → RowFine b t
-  unfolding type-row pad
-  unused-fine e u = fine-of unused (shown-none e) (bare-row 0 0 0 e (omega (arith, u .value)) (u .reverse) (u .parents)) tt
+  -- a parent stands in some place, and what stands there is a parent
+  parent-place : (t a : ℕ) → Parent (schema-of b) t a
+      → (t < 128) × (kind-byte b t ≡ 1) × ((i : ℕ) × (i < count-byte b t) × (parent-byte b t i ≡ a))
+  unfolding parents
+  parent-place t a p =
+      let (ps, e, m) = parent-listed (kind-of (schema-of b) t) (p .listed) in
+      let (h, k, q) = object-bytes b t ps e in
+      let (i, u, g) = at-place 0 (subst (λ (l : List ℕ). a ∈ l) q m) in
+      let u′ : i < count-byte b t = omega (arith, count-listed t h k) in
+      (h, k, (i, u′, sym (listed-byte t h k i u′) ∙ g))
 
-  fine-unused : kind-byte b t ≡ 0 → RowFine b t → PlainRow b t 0 0
-  unfolding type-row pad
-  fine-unused e f =
-      let (_, v, r, n) = row-bare 0 0 0 (of-fine unused (shown-none e) f) in
-      record { value = omega (arith, v); reverse = r; parents = n }
+  place-parent : (t : ℕ) → t < 128 → kind-byte b t ≡ 1 → (i : ℕ) → i < count-byte b t → Parent (schema-of b) t (parent-byte b t i)
+  unfolding parents
+  place-parent t h k i u =
+      let m : getD (listed-parents b t) i 0 ∈ listed-parents b t = place-in 0 (listed-parents b t) i (omega (arith, count-listed t h k)) in
+      record { listed = rw (object-is b t h k) (rw (listed-byte t h k i u) at m) }
 
-  object-fine : kind-byte b t ≡ 1 → PlainRow b t 0 4 → RowFine b t
-  unfolding type-row
-  object-fine e u =
-      let ps = listed-parents b t in
-      let few : length ps ≡ count-byte b t = length-take (count-byte b t) (parent-places b t) ∙ omega (arith, places-long b t long h, u .parents .count) in
-      let v : value-byte b t ≡ 0 = omega (arith, u .value) in
-      let p : pad 4 ps ≡ parent-places b t = places-from (count-byte b t) (u .parents .places) in
-      let l : length ps ≤ 4 = omega (arith, u .parents .count) in
-      fine-of (object ps) (object-shown b t e) (rw (row-bytes b t long h) (λ i. sym e i ∷ sym v i ∷ sym (u .reverse) i ∷ few i ∷ p i)) l
+  -- rows whose parents are numbered below them
+  pub rows-fall : ((t : ℕ) → t < 128 → Parents-below b t (count-byte b t) t) → Falling (schema-of b)
+  rows-fall below t a by =
+      let (h, k, (i, u, g)) = parent-place t a by in
+      rw g at (below t h i u)
 
-  pub fine-object : kind-byte b t ≡ 1 → RowFine b t → PlainRow b t 0 4
-  unfolding type-row
-  fine-object e f =
-      let ps = listed-parents b t in
-      let e′ = of-fine (object ps) (object-shown b t e) f ∙ row-bytes b t long h in
-      let byte : (f : ℕ) → getD (kind-byte b t ∷ value-byte b t ∷ reverse-byte b t ∷ count-byte b t ∷ parent-places b t) f 0
-      ≡ getD (1 ∷ 0 ∷ 0 ∷ length ps ∷ pad 4 ps) f 0
-      = λ f. sym (ap (λ (x : List ℕ). getD x f 0) e′) in
-      let l : length ps ≤ 4 = subst Bounded (object-shown b t e) (f .bounded) in
-      record {
-        value = omega (arith, byte 1);
-        reverse = byte 2;
-        parents = record { count = omega (arith, byte 3); places = rw (byte 3) (from-places ps (ap (drop 4) e′)) };
-      }
+-- ---- words, and what the presences say
 
-  attribute-fine : kind-byte b t ≡ 2 → PlainRow b t 5 0 → RowFine b t
-  unfolding type-row pad
-  attribute-fine e u =
-      fine-of (attribute (value-byte b t)) (shows-attribute b t e) (bare-row 2 (value-byte b t) 0 e refl (u .reverse) (u .parents)) (u .value)
+module _ {b held : List ℕ} (holds : Holds b held) where
+  abbrev in-presences : ℕ → ℕ → Bool
+  in-presences d t = present (of-presences ((schema-of b) .presences)) d t
 
-  fine-attribute : kind-byte b t ≡ 2 → RowFine b t → PlainRow b t 5 0
-  unfolding type-row pad
-  fine-attribute e f =
-      let (_, _, r, n) = row-bare 2 (value-byte b t) 0 (of-fine (attribute (value-byte b t)) (shows-attribute b t e) f) in
-      record { value = subst Bounded (shows-attribute b t e) (f .bounded); reverse = r; parents = n }
+  shown : (d t : ℕ) → d < 16 → bit (sdss-of held t) d ≡ in-presences d t
+  shown d t h = shows-any holds t d h ∙ sym (present-shown b d t)
 
-  link-fine : kind-byte b t ≡ 3 → LinkRow b t → RowFine b t
-  unfolding type-row pad
-  link-fine e u = go (eqb (value-byte b t) 4) refl
-    where
-      go : (d : Bool) → eqb (value-byte b t) 4 ≡ d → RowFine b t
-      go true d =
-          let v = eqb-true (value-byte b t) 4 d in
-          fine-of designation (shows-designation b t e v) (bare-row 3 4 0 e v (u .designation v) (u .parents)) tt
-      go false d =
-          let v = eqb-false (value-byte b t) 4 d in
-          fine-of (paired (value-byte b t) (reverse-byte b t)) (shows-paired b t e v) (bare-row 3 (value-byte b t) (reverse-byte b t) e refl refl (u .parents))
-          (omega (arith, u .category))
+  has-bit : (d t : ℕ) → in-presences d t ≡ true → (d < 16) × (t < 128) × (bit (sdss-of held t) d ≡ true)
+  has-bit d t e =
+      let (l, h) = holds .places d t (sym (present-shown b d t) ∙ e) in
+      (l, h, shown d t l ∙ e)
 
-  fine-link : kind-byte b t ≡ 3 → RowFine b t → LinkRow b t
-  unfolding type-row pad
-  fine-link e f = go (eqb (value-byte b t) 4) refl
-    where
-      go : (d : Bool) → eqb (value-byte b t) 4 ≡ d → LinkRow b t
-      go true d =
-          let v = eqb-true (value-byte b t) 4 d in
-          let (_, _, r, n) = row-bare 3 4 0 (of-fine designation (shows-designation b t e v) f) in
-          record { category = omega arith; designation = λ _. r; parents = n }
-      go false d =
-          let v = eqb-false (value-byte b t) 4 d in
-          let (_, _, _, n) = row-bare 3 (value-byte b t) (reverse-byte b t) (of-fine (paired (value-byte b t) (reverse-byte b t)) (shows-paired b t e v) f) in
-          let small : value-byte b t ≤ 3 = subst Bounded (shows-paired b t e v) (f .bounded) in
-          record { category = omega arith; designation = λ four. absurd (v four); parents = n }
+  -- a word is not 0 where some SDS holds its type
+  not-zero : (d t : ℕ) → in-presences d t ≡ true → sdss-of held t ≡ 0 → ⊥
+  not-zero d t e z =
+      let (_, _, q) = has-bit d t e in
+      false≢true (sym (bit-zero d) ∙ ap (λ (w : ℕ). bit w d) (sym z) ∙ q)
 
-  -- what decides of each kind
-  pub unused-row : {r : Bool} → kind-byte b t ≡ 0 → Decides (PlainRow b t 0 0) r → Decides (RowFine b t) r
-  unused-row e = decides-iff (unused-fine e) (fine-unused e)
+  some-sds : (t : ℕ) → t < 128 → (sdss-of held t ≡ 0 → ⊥) → (d : ℕ) × (in-presences d t ≡ true)
+  some-sds t h n =
+      let (d, l, q) = some-bit (sdss-of held t) (holds .words t h) n in
+      (d, sym (shown d t l) ∙ q)
 
-  pub object-row : {r : Bool} → kind-byte b t ≡ 1 → Decides (PlainRow b t 0 4) r → Decides (RowFine b t) r
-  object-row e = decides-iff (object-fine e) (fine-object e)
+  -- ---- each type is fine: all types are
 
-  pub attribute-row : {r : Bool} → kind-byte b t ≡ 2 → Decides (PlainRow b t 5 0) r → Decides (RowFine b t) r
-  attribute-row e = decides-iff (attribute-fine e) (fine-attribute e)
+  module _ (long : length b ≡ base-length) (root : Root-fine b held) (f : (t : ℕ) → t < 128 → Type-fine b held t) where
+    rows : Written types (limits .types) b
+    rows t h = fine-row b t long h (f t h)
 
-  pub link-row : {r : Bool} → kind-byte b t ≡ 3 → Decides (LinkRow b t) r → Decides (RowFine b t) r
-  link-row e = decides-iff (link-fine e) (fine-link e)
-
-  -- no other kind is fine
-  pub no-row : (kind-byte b t ≡ 0 → ⊥) → (kind-byte b t ≡ 1 → ⊥) → (kind-byte b t ≡ 2 → ⊥) → (kind-byte b t ≡ 3 → ⊥) → RowFine b t → ⊥
-  unfolding type-row pad
-  no-row z o a l f = z (row-bare 0 0 0 (of-fine unused (shows-unused b t o a l) f) .0)
-
--- ---- all rows
-
-bounded-of : (k : Kind) → ((ps : List ℕ) → k ≡ object ps → length ps ≤ 4) → ((v : ℕ) → k ≡ attribute v → v ≤ 5)
-    → ((c r : ℕ) → k ≡ paired c r → c ≤ 3) → Bounded k
-bounded-of unused o a p = tt
-bounded-of (object ps) o a p = o ps refl
-bounded-of (attribute v) o a p = a v refl
-bounded-of designation o a p = tt
-bounded-of (paired c r) o a p = p c r refl
-
-pub kinds-row : {b : List ℕ} → KindsFine b → (t : ℕ) → t < 128 → RowFine b t
-kinds-row {b} k t h =
-    let e = kind-is b t h in
-    record {
-      row = k .type-rows t h;
-      bounded = bounded-of (kind-shown b t) (λ ps q. k .kinds .few t ps (e ∙ q)) (λ v q. k .kinds .value-kinds t v (e ∙ q))
-          (λ c r q. k .kinds .categories t c r (e ∙ q));
+    all-kinds : Kinds ((schema-of b) .types)
+    all-kinds = record {
+      room = types-long b;
+      few = λ t ps e. let (h, k, q) = object-bytes b t ps e in omega (arith, few b long rows t h k, count-listed b long rows t h k, ap length q);
+      value-kinds = λ t v e. let (h, k, q) = attribute-bytes b t v e in omega (arith, f t h .attribute k .value);
+      categories = λ t c r e. let (h, k, n, q, _) = paired-bytes b t c r e in omega (arith, f t h .link k .category);
     }
 
-pub rows-kinds : (b : List ℕ) → ((t : ℕ) → t < 128 → RowFine b t) → KindsFine b
-rows-kinds b f = record {
-  type-rows = λ t h. (f t h) .row;
-  kinds = record {
-    room = types-long b;
-    few = λ t ps e. subst Bounded e (bounded t);
-    value-kinds = λ t v e. subst Bounded e (bounded t);
-    categories = λ t c r e. subst Bounded e (bounded t);
-  };
-}
-  where
-    bounded : (t : ℕ) → Bounded (kind-of (schema-of b) t)
-    bounded t = go (ltb t 128) refl
+    all-parents : Parents ((schema-of b) .types)
+    unfolding least
+    all-parents = record {
+      rises = λ t ps q.
+          let (h, k, p) = object-bytes b t ps q in
+          rw p (rising-next (listed-parents b t) (λ i u.
+          let u′ : suc i < count-byte b t = omega (arith, count-listed b long rows t h k) in
+          let r = (f t h .object k .each (suc i) u′) .rising in
+          omega (arith, listed-byte b long rows t h k i (omega arith), listed-byte b long rows t h k (suc i) u′)));
+      objects = λ t a p.
+          let (h, k, (i, u, g)) = parent-place b long rows t a (parent-of t a p) in
+          let fine = f t h .object k .each i u in
+          rw (← g) (ap is-object (object-is b (parent-byte b t i) (fine .small) (fine .object)));
+      root =
+          let n : count-byte b 0 ≡ 0 = omega (arith, root .row .parents .count) in
+          object-is b 0 (omega arith) (root .object) ∙ ap (λ (m : ℕ). object (take m (parent-places b 0))) n;
+      only-root = λ t q.
+          let (h, k, p) = object-bytes b t [] q in
+          f t h .object k .only-root (sym (count-listed b long rows t h k) ∙ sym (ap length p));
+    }
+
+    all-reverses : Reverses ((schema-of b) .types)
+    all-reverses = record {
+      different = λ t c r e q.
+          let (h, k, v, _, n) = paired-bytes b t c r e in
+          (f t h .link k .paired v) .different (n ∙ q);
+      in-turn = λ t c r e.
+          let (h, k, v, _, n) = paired-bytes b t c r e in
+          let m = f t h .link k .paired v in
+          let back = paired-is b (reverse-byte b t) t (m .small) (m .answers .link) (m .answers .paired) (m .answers .in-turn) in
+          (value-byte b (reverse-byte b t), subst (λ (x : ℕ). kind-of (schema-of b) x ≡ paired (value-byte b (reverse-byte b t)) t) n back);
+      not-both = λ t r e g.
+          let (h, k, v, c, n) = paired-bytes b t 3 r e in
+          let (_, _, _, d, _) = paired-bytes b r 3 t g in
+          (f t h .link k .paired v) .answers .not-both-implicit (ap (value-byte b) n ∙ d) c;
+    }
+
+    -- an SDS that holds t holds what t names
+    holds-with : (d t a : ℕ) → in-presences d t ≡ true → Within (sdss-of held t) (sdss-of held a) → in-presences d a ≡ true
+    holds-with d t a e w = let (l, _, q) = has-bit d t e in sym (shown d a l) ∙ w d l q
+
+    all-closed : (d t : ℕ) → in-presences d t ≡ true → Closed-under ((schema-of b) .types) (in-presences d) t
+    all-closed d t e = record {
+      parents = λ a by.
+          let (h, k, (i, u, g)) = parent-place b long rows t a (parent-of t a by) in
+          ap (in-presences d) (sym g) ∙ holds-with d t (parent-byte b t i) e (f t h .object k .each i u .with-child);
+      reverse = λ c r q.
+          let (h, k, v, _, n) = paired-bytes b t c r q in
+          ap (in-presences d) (sym n) ∙ holds-with d t (reverse-byte b t) e (f t h .link k .paired v .with-other);
+    }
+
+    pub types-all : Types-fine b
+    types-all = record {
+      type-rows = rows;
+      kinds = all-kinds;
+      parents = all-parents;
+      reverses = all-reverses;
+      typed = λ p m.
+          let e = presence-there m in
+          let (_, h, _) = has-bit (p .sds) (p .type) e in
+          byte-used b long rows (p .type) h (f (p .type) h .used (not-zero (p .sds) (p .type) e));
+      closed = λ p m. all-closed (p .sds) (p .type) (presence-there m);
+      somewhere = λ t u.
+          let h = used-below b t u in
+          some-sds t h (λ z. used-byte b long rows t h u (zero-kind b t long h (f t h .unheld z)));
+    }
+
+  -- ---- all types are fine: each type is
+
+  module _ (long : length b ≡ base-length) (x : Types-fine b) where
+    used-held : (t : ℕ) → t < 128 → (kind-byte b t ≡ 0 → ⊥) → sdss-of held t ≡ 0 → ⊥
+    used-held t h n =
+        let (d, e) = x .somewhere t (byte-used b long (x .type-rows) t h n) in
+        not-zero d t e
+
+    held-used : (t : ℕ) → t < 128 → (sdss-of held t ≡ 0 → ⊥) → kind-byte b t ≡ 0 → ⊥
+    held-used t h n z =
+        let (d, e) = some-sds t h n in
+        used-byte b long (x .type-rows) t h
+        (present-each ((schema-of b) .presences) (λ d t. is-used (kind-of (schema-of b) t) ≡ true) (x .typed) d t e) z
+
+    closed-at : (d t : ℕ) → d < 16 → bit (sdss-of held t) d ≡ true → Closed-under ((schema-of b) .types) (in-presences d) t
+    closed-at d t l q =
+        present-each ((schema-of b) .presences) (λ d t. Closed-under ((schema-of b) .types) (in-presences d) t) (x .closed) d t (sym (shown d t l) ∙ q)
+
+    each-object : (t : ℕ) → t < 128 → kind-byte b t ≡ 1 → Object-fine b held t (sdss-of held t)
+    unfolding least
+    each-object t h k = record {
+      row = row-object b t long h (x .type-rows t h) k;
+      only-root = λ n. x .parents .only-root t (object-is b t h k ∙ ap (λ (m : ℕ). object (take m (parent-places b t))) n);
+      each = λ i u.
+          let a = parent-byte b t i in
+          let by = parent-in t a (place-parent b long (x .type-rows) t h k i u) in
+          let (ps, e) = object-in (kind-of (schema-of b) a) (x .parents .objects t a by) in
+          let (small, kind, _) = object-bytes b a ps e in
+          record {
+            rising = past i u;
+            small = small;
+            object = kind;
+            with-child = λ d l q. shown d a l ∙ closed-at d t l q .parents a by;
+          };
+    }
       where
-        go : (s : Bool) → ltb t 128 ≡ s → Bounded (kind-of (schema-of b) t)
-        go true e = let h = ltb-true t 128 e in subst Bounded (sym (kind-is b t h)) ((f t h) .bounded)
-        go false e = subst Bounded (sym (kind-none b t (ltb-false t 128 e))) tt
+        past : (i : ℕ) → i < count-byte b t → least b t i ≤ parent-byte b t i
+        past zero u = omega arith
+        past (suc i) u =
+            let r = next-rising (listed-parents b t) (x .parents .rises t (listed-parents b t) (object-is b t h k)) i
+            (omega (arith, count-listed b long (x .type-rows) t h k)) in
+            omega (arith, listed-byte b long (x .type-rows) t h k i (omega arith), listed-byte b long (x .type-rows) t h k (suc i) u)
+
+    each-pair : (t : ℕ) → t < 128 → kind-byte b t ≡ 3 → (value-byte b t ≡ 4 → ⊥) → Mutual b held t (sdss-of held t)
+    each-pair t h k v =
+        let r = reverse-byte b t in
+        let e : kind-of (schema-of b) t ≡ paired (value-byte b t) r = paired-is b t r h k v refl in
+        let (c′, g) = x .reverses .in-turn t (value-byte b t) r e in
+        let (small, link, other, _, back) = paired-bytes b r c′ t g in
+        record {
+          different = x .reverses .different t (value-byte b t) r e;
+          small = small;
+          with-other = λ d l q. shown d r l ∙ closed-at d t l q .reverse (value-byte b t) r e;
+          answers = record {
+            link = link;
+            in-turn = back;
+            paired = other;
+            not-both-implicit = λ d c.
+                x .reverses .not-both t r (e ∙ ap (λ (n : ℕ). paired n r) c) (paired-is b r t small link other back ∙ ap (λ (n : ℕ). paired n t) d);
+          };
+        }
+
+    each-link : (t : ℕ) → t < 128 → kind-byte b t ≡ 3 → Link-fine b held t (sdss-of held t)
+    each-link t h k = go (eqb (value-byte b t) 4) refl
+      where
+        go : (s : Bool) → eqb (value-byte b t) 4 ≡ s → Link-fine b held t (sdss-of held t)
+        go true s =
+            let v = eqb-true (value-byte b t) 4 s in
+            let (r, n) = row-designation b t long h (x .type-rows t h) k v in
+            record { parents = n; category = omega arith; designation = λ _. r; paired = λ o. absurd (o v) }
+        go false s =
+            let v = eqb-false (value-byte b t) 4 s in
+            let c = x .kinds .categories t (value-byte b t) (reverse-byte b t) (paired-is b t (reverse-byte b t) h k v refl) in
+            record {
+              parents = row-paired b t long h (x .type-rows t h) k v;
+              category = omega arith;
+              designation = λ four. absurd (v four);
+              paired = each-pair t h k;
+            }
+
+    pub types-each : (t : ℕ) → t < 128 → Type-fine b held t
+    types-each t h = record {
+      unheld = λ z. row-unused b t long h (x .type-rows t h) (unused-byte z (eqb (kind-byte b t) 0) refl);
+      used = held-used t h;
+      known = omega (arith, code b long (x .type-rows) t h, code-last (kind-of (schema-of b) t));
+      object = each-object t h;
+      attribute = λ k.
+          row-attribute b t long h (x .type-rows t h) k (x .kinds .value-kinds t (value-byte b t) (kind-is b t h ∙ shows-attribute b t k));
+      link = each-link t h;
+    }
+      where
+        unused-byte : sdss-of held t ≡ 0 → (s : Bool) → eqb (kind-byte b t) 0 ≡ s → kind-byte b t ≡ 0
+        unused-byte z true s = eqb-true (kind-byte b t) 0 s
+        unused-byte z false s = absurd (used-held t h (eqb-false (kind-byte b t) 0 s) z)
+
+    pub types-root : Root-fine b held
+    types-root =
+        let (h, k, q) = object-bytes b 0 [] (x .parents .root) in
+        let row = row-object b 0 long h (x .type-rows 0 h) k in
+        let n : count-byte b 0 ≡ 0 = sym (count-listed b long (x .type-rows) 0 h k) ∙ sym (ap length q) in
+        record {
+          somewhere = used-held 0 h (λ z. omega arith);
+          object = k;
+          row = record {
+            value = row .value;
+            reverse = row .reverse;
+            parents = record { count = omega arith; places = row .parents .places };
+          };
+        }
+
+pub not-fine : {b : List ℕ} → (Types-fine b → ⊥) → Types-told b 0
+not-fine f = record { fine = λ o. absurd (o refl); not = λ _. f; falling = λ e. absurd (omega arith) }

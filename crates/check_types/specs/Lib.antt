@@ -1,1 +1,1 @@
-pub mod TypeRows
+pub mod OneType

@@ -1,6 +1,6 @@
 -- Ways up. Where parents are numbered below their children none is its own ancestor. Else a walk settles type after type; the types of
 -- a way that is longer than there are types are not all different, so one of them is its own ancestor. Assumes nothing.
-use Prim.Native.Nat.{ℕ, zero, suc, _+_, _-_, _≤_, _<_}
+use Prim.Native.Nat.{ℕ, suc, _+_, _-_, _≤_, _<_}
 use native.Mathlib.Numerals.{add-one}
 use native.Mathlib.Omega.{arith}
 use mathlib.Core.Path.{_≡_, refl, sym, ap, _∙_}
@@ -26,9 +26,9 @@ use Rattle.rules.proofs.Parts.{parent-in, parent-of}
 use Rattle.base.specs.Rows.{type-at}
 use Rattle.base.specs.Back.{schema-of}
 use Rattle.type_set.proofs.Members.{members-le, members-same}
-use Rattle.graph.specs.Graph.{Below, Falling, reached, Unsettled}
-use Rattle.lookup.specs.Parents.{Parental}
-use Rattle.lookup.proofs.Parents.{object-below, parent-below, count-few, parent-at, parent-place}
+use Rattle.graph.specs.Graph.{reached, Unsettled}
+use Rattle.lookup.specs.Parents.{Parental, Falling}
+use Rattle.lookup.proofs.Parents.{object-below, parent-below, parent-at, parent-place}
 
 -- every way up from t ends, whichever parents it takes
 pub data Grounded (s : Schema) : ℕ → Type 0 where
@@ -198,14 +198,6 @@ module _ (b : List ℕ) where
       child (by-step by d) = child-object by
 
 module _ {b : List ℕ} (rows : Parental b) where
-  -- type 0 has no parent, and the others' places hold numbers below theirs
-  pub rows-fall : getD b (type-at 0 + count-offset) 0 ≡ 0 → ((t : ℕ) → 1 ≤ t → t < 128 → Below b t) → Falling (schema-of b)
-  rows-fall none below zero a by = let (i, l, e) = parent-place rows 0 (omega arith) a by in absurd (omega arith)
-  rows-fall none below (suc t) a by =
-      let h = object-below b (suc t) (child-object by) in
-      let (i, l, e) = parent-place rows (suc t) h a by in
-      rw e at (below (suc t) (omega arith) h i (omega (arith, count-few rows (suc t) h)))
-
   -- a parent that is not settled stands at a place below the count, and where none does all are
   module _ (p : ℕ → Bool) (t : ℕ) (h : t < 128) where
     pub unsettled-at : (i a : ℕ) → i < getD b (type-at t + count-offset) 0 → a ≡ getD b (type-at t + parents-offset + i) 0 → p a ≡ false

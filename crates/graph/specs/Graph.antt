@@ -1,22 +1,11 @@
 -- A way up goes from a type to a parent of it, and so on. A type is settled where every way up from it is known to end; no type is its
 -- own ancestor exactly where all can be settled.
-use Prim.Native.Nat.{ℕ, _+_, _≤_, _<_}
+use Prim.Native.Nat.{ℕ, _≤_, _<_}
 use mathlib.Core.Path.{_≡_}
 use mathlib.Core.List.{List, [], _∷_}
 use mathlib.Core.Bool.{Bool, true, false}
-use lib.ListN.{getD}
 use Rattle.rules.specs.04-Schema.{Schema}
 use Rattle.rules.specs.05-Descent.{Parent}
-use Rattle.rules.specs.Read.{parents-offset}
-use Rattle.base.specs.Rows.{type-at}
-
--- the places for parents of t hold numbers below t
-abbrev pub Below : List ℕ → ℕ → Type 0
-Below b t = (i : ℕ) → i < 4 → getD b (type-at t + parents-offset + i) 0 < t
-
--- every parent's number is below its child's
-abbrev pub Falling : Schema → Type 0
-Falling s = (t a : ℕ) → Parent s t a → a < t
 
 -- where a way up from t has come to: l are the types on it above t, the last first
 abbrev pub reached : ℕ → List ℕ → ℕ

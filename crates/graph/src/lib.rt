@@ -8,50 +8,11 @@ ghost use Prim.Native.Nat.{_<_};
 ghost use lib.ListN.{length, drop};
 ghost use Rattle.rules.specs.02-Limits.{limits};
 ghost use Rattle.rules.specs.Parts.{Acyclic};
-ghost use Rattle.rules.specs.07-Picture.{base-length};
 ghost use Rattle.rows.specs.Decides.{Decides};
 ghost use Rattle.base.specs.Back.{schema-of};
 ghost use Rattle.type_set.specs.Set.{has};
-ghost use Rattle.graph.specs.Graph.{Below, Falling, reached, Unsettled};
-ghost use Rattle.lookup.specs.Parents.{Parental};
-
-// ---- parents numbered below their children
-
-// Whether all four places for parents of `t` hold numbers below it.
-fn type_parents_below(base: &[u8], t: usize) -> bool
-    requires { ⌜ (length (now base) ≡ base-length) × (t < limits .types) ⌝ }
-    ensures { λ r. ⌜ (r ≡ true → Below (now (base .entry)) t) ⌝ }
-{
-    let mut i: usize = 0;
-    while i < 4 {
-        if t <= base::parent(base, t, i) {
-            return false;
-        }
-        i += 1;
-    }
-    true
-}
-
-// Where true, every parent is numbered below its child, as in most bases. A place that holds none is 0, so type 0, with no number
-// below it, goes by its count.
-fn parents_below(base: &[u8]) -> bool
-    requires { ⌜ Parental (now base) ⌝ }
-    ensures { λ r. ⌜ (r ≡ true → Falling (schema-of (now (base .entry)))) ⌝ }
-{
-    if base::parent_count(base, 0) != 0 {
-        return false;
-    }
-    let mut t: usize = 1;
-    while t < Limits::TYPES {
-        if !type_parents_below(base, t) {
-            return false;
-        }
-        t += 1;
-    }
-    true
-}
-
-// ---- a walk up
+ghost use Rattle.graph.specs.Graph.{reached, Unsettled};
+ghost use Rattle.lookup.specs.Parents.{Parental, Falling};
 
 // A parent of `t` that is not in `settled`, or as many as there are types.
 fn unsettled_parent(base: &[u8], t: usize, settled: TypeSet) -> usize
@@ -80,16 +41,18 @@ fn reached(way: &[u8], at: usize, t: usize) -> usize
     rows::wide(way[at])
 }
 
-// Type after type, a way up from it over parents that are not settled. Where it can go no further its last is settled and goes off the
-// way. With `t`, a way of as many types as there are has one of them twice.
-pub fn is_acyclic(base: &[u8]) -> bool
+// `falls`: every parent is numbered below its child, as in most bases, so no type is its own ancestor. Else, type after type, a way up from
+// it over parents that are not settled. Where it can go no further its last is settled and goes off the way. With `t`, a way of as many
+// types as there are has one of them twice. The bytes of the way are lent: the caller has another use for them, and stack is dear.
+pub fn is_acyclic(base: &[u8], falls: bool, way: &mut [u8]) -> bool
     requires { ⌜ Parental (now base) ⌝ }
+    requires { ⌜ (falls ≡ true → Falling (schema-of (now base))) ⌝ }
+    requires { ⌜ length (now way) ≡ limits .types ⌝ }
     ensures { λ r. ⌜ Decides (Acyclic ((schema-of (now (base .entry))) .types)) r ⌝ }
 {
-    if parents_below(base) {
+    if falls {
         return true;
     }
-    let mut way = [0u8; Limits::TYPES];
     let mut at = Limits::TYPES;
     let mut settled = TypeSet::empty();
     let mut t: usize = 0;
@@ -97,7 +60,7 @@ pub fn is_acyclic(base: &[u8]) -> bool
         if at == 0 {
             return false;
         }
-        let c = reached(&way, at, t);
+        let c = reached(way, at, t);
         let a = unsettled_parent(base, c, settled);
         if a < Limits::TYPES {
             at -= 1;

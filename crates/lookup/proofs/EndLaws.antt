@@ -36,9 +36,6 @@ pub ends-rises : (b : List ℕ) (n : ℕ) → length b ≡ base-length → n ≤
 ends-rises b n l m r = record { room = omega arith; rise = rising-far b (ends .start) (ends .width) (by-end .key) n r }
 
 module _ {b : List ℕ} {n d l s o r : ℕ} where
-  pub end-row-of : End-at b n r d l s o → End-row b n d l s o
-  end-row-of e = record { place = r; below = e .below; sds = e .sds; link = e .link; turned = e .turned; object = e .object }
-
   pub end-found-at : End-at b n r d l s o → End-found b n d l s o r
   end-found-at e = record { found = λ h. e; none = λ h x. let u = e .below in absurd (omega arith) }
 

@@ -8,7 +8,7 @@ use lib.Dec.{ltb, eqb}
 use lib.ListN.{length, getD, take, drop, length-take, length-drop}
 use lib.Seq.{drop-drop, getD-drop}
 use borrow.Author.Tests.{ltb-true, ltb-false, eqb-true, eqb-false, ne-eqb}
-use Rattle.rules.specs.04-Schema.{Kind, kind-of, is-used, is-object, is-link, kind-code}
+use Rattle.rules.specs.04-Schema.{Kind, kind-of, is-used, is-object, is-attribute, is-link, kind-code}
 use Rattle.rules.specs.04-Schema.Kind.{unused, object, attribute, designation, paired}
 use Rattle.rules.specs.07-Picture.{Sound, pad, type-row, base-length, type-width}
 use Rattle.rules.specs.Read.{read-kind, count-offset, parents-offset, reverse-offset, value-offset}
@@ -106,6 +106,12 @@ module _ (b : List ℕ) (t : ℕ) where
       go : {l : List ℕ} → Seen b t (object l) → (t < 128) × (kind-byte b t ≡ 1) × (l ≡ listed-parents b t)
       go (seen-object h k) = (h, k, refl)
 
+  pub attribute-bytes : (v : ℕ) → kind-of (schema-of b) t ≡ attribute v → (t < 128) × (kind-byte b t ≡ 2) × (value-byte b t ≡ v)
+  attribute-bytes v e = go (subst (Seen b t) e seen)
+    where
+      go : {n : ℕ} → Seen b t (attribute n) → (t < 128) × (kind-byte b t ≡ 2) × (value-byte b t ≡ n)
+      go (seen-attribute h k) = (h, k, refl)
+
   pub paired-bytes : (c r : ℕ) → kind-of (schema-of b) t ≡ paired c r
       → (t < 128) × (kind-byte b t ≡ 3) × (value-byte b t ≡ 4 → ⊥) × (value-byte b t ≡ c) × (reverse-byte b t ≡ r)
   paired-bytes c r e = go (subst (Seen b t) e seen)
@@ -175,6 +181,9 @@ module _ (b : List ℕ) (t x : ℕ) (h : t < 128) (e : x ≡ kind-byte b t) wher
   pub object-byte : eqb x 1 ≡ is-object (kind-of (schema-of b) t)
   object-byte = code-byte b t 1 (omega arith) (omega arith) x h e
 
+  pub attribute-byte : eqb x 2 ≡ is-attribute (kind-of (schema-of b) t)
+  attribute-byte = code-byte b t 2 (omega arith) (omega arith) x h e
+
   pub link-byte : eqb x 3 ≡ is-link (kind-of (schema-of b) t)
   link-byte = code-byte b t 3 (omega arith) (omega arith) x h e
 
@@ -187,31 +196,20 @@ written-code (attribute v) = refl
 written-code designation = refl
 written-code (paired c r) = refl
 
-pub sound-code : {b : List ℕ} → Sound b → (t : ℕ) → t < 128 → kind-byte b t ≡ kind-code (kind-of (schema-of b) t)
-sound-code {b} s t h =
+pub row-code : (b : List ℕ) (t : ℕ) → t < 128 → type-row (kind-shown b t) ≡ part b (type-at t) type-width
+    → kind-byte b t ≡ kind-code (kind-of (schema-of b) t)
+row-code b t h e =
     ap (λ (n : ℕ). getD b n 0) (omega arith) ∙ sym (part-byte b (type-at t) 8 0 (omega arith))
-    ∙ ap (λ (r : List ℕ). getD r 0 0) (sym (sound-canonical s .type-rows t h)) ∙ written-code (kind-shown b t)
-    ∙ ap kind-code (sym (kind-is b t h))
+    ∙ ap (λ (r : List ℕ). getD r 0 0) (sym e) ∙ written-code (kind-shown b t) ∙ ap kind-code (sym (kind-is b t h))
+
+pub sound-code : {b : List ℕ} → Sound b → (t : ℕ) → t < 128 → kind-byte b t ≡ kind-code (kind-of (schema-of b) t)
+sound-code {b} s t h = row-code b t h (sound-canonical s .type-rows t h)
 
 pub used-byte : {b : List ℕ} → Sound b → (t x : ℕ) → t < 128 → x ≡ getD b (type-at t) 0 → not (eqb x 0) ≡ is-used (kind-of (schema-of b) t)
 used-byte {b} s t x h e = ap (λ (n : ℕ). not (eqb n 0)) (e ∙ sound-code s t h) ∙ used-code (kind-of (schema-of b) t)
 
--- the bytes of a link type that has a reverse, and of one that has none
+-- the bytes of a link type that has a reverse
 module _ (b : List ℕ) (t : ℕ) (h : t < 128) where
-  pub paired-reverse : (c r : ℕ) → kind-of (schema-of b) t ≡ paired c r
-      → (getD b (type-at t + value-offset) 0 ≡ 4 → ⊥) × (r ≡ getD b (type-at t + reverse-offset) 0)
-  paired-reverse c r e =
-      let three : getD b (type-at t) 0 ≡ 3 = eqb-true (getD b (type-at t) 0) 3 (link-byte b t (getD b (type-at t) 0) h refl ∙ ap is-link e) in
-      let other : getD b (type-at t + value-offset) 0 ≡ 4 → ⊥ = λ f. apart (sym (shows-designation b t three f) ∙ sym (kind-is b t h) ∙ e) in
-      (other, reverse-same (sym e ∙ kind-is b t h ∙ shows-paired b t three other))
-    where
-      apart : designation ≡ paired c r → ⊥
-      apart q = let z : _≡_ {A = ℕ} 0 1 = cc in omega arith
-
-      reverse-same : paired c r ≡ paired (getD b (type-at t + value-offset) 0) (getD b (type-at t + reverse-offset) 0)
-          → r ≡ getD b (type-at t + reverse-offset) 0
-      reverse-same q = cc
-
   pub link-paired : is-link (kind-of (schema-of b) t) ≡ true → (getD b (type-at t + value-offset) 0 ≡ 4 → ⊥) → kind-of (schema-of b) t ≡ paired (getD b
       (type-at t + value-offset) 0) (getD b (type-at t + reverse-offset) 0)
   link-paired e n =

@@ -1,9 +1,10 @@
 -- Bytes in numbers: the order of the numbers is that of the bytes. Assumes nothing.
 use Prim.Native.Nat.{ℕ, zero, suc, _+_, _*_, _-_, _^_, _≤_, _<_}
 use native.Mathlib.Nat.{add-zero, zero-add}
+use native.Mathlib.Numerals.{add-one}
 use native.Mathlib.Omega.{arith}
-use mathlib.Core.Path.{_≡_, refl, sym, ap, _∙_}
-use mathlib.Core.List.{List, [], _∷_, _++_}
+use mathlib.Core.Path.{_≡_, refl, sym, ap, ap₂, _∙_}
+use mathlib.Core.List.{List, [], _∷_, _++_, append-nil}
 use mathlib.Core.Bool.{Bool, true, false, _&&_, _||_, and-false, or-false}
 use lib.Dec.{ltb, eqb}
 use lib.ListN.{length, getD}
@@ -11,10 +12,11 @@ use lib.Pow.{pow-add, pow-mono}
 use borrow.Author.Tests.{ltb-true, ltb-false, lt-ltb, le-ltb, eq-eqb, ne-eqb}
 use Rattle.rules.specs.01-Lists.{bytes-before}
 use Rattle.rows.specs.declared.order.Key.{Key}
-use Rattle.rows.specs.Rows.{part}
-use Rattle.rows.specs.Order.{number, numbers-of, Keyed}
+use Rattle.rows.specs.Rows.{part, row-at, Rising}
+use Rattle.rows.specs.Order.{number, number-passed, Climbs, numbers-of, Keyed}
 use Rattle.rows.proofs.Rows.{part-byte}
 use Rattle.rows.proofs.Scan.{part-cons, length-part}
+use Rattle.rows.proofs.TableLaws.{row-fits}
 
 abbrev Small : List ℕ → Type 0
 Small l = (i : ℕ) → i < length l → getD l i 0 < 256
@@ -94,24 +96,95 @@ small-part b at n s h i l =
     let long = length-part b at n h in
     rw (part-byte b at n i (omega arith)) (s (at + i))
 
-row-parts : (b : List ℕ) (at : ℕ) → at + 17 ≤ length b → part b at 17 ≡ part b at 8 ++ (part b (at + 8) 8 ++ (getD b (at + 16) 0 ∷ []))
+-- rows as numbers
+pub numbers-before : (b : List ℕ) (a c w : ℕ) → ((i : ℕ) → getD b i 0 < 256) → a + w ≤ length b → c + w ≤ length b
+    → bytes-before (part b a w) (part b c w) ≡ ltb (number 0 (part b a w)) (number 0 (part b c w))
+unfolding bytes-before
+numbers-before b a c w s h l =
+    let x = part b a w in
+    let y = part b c w in
+    sym (ap₂ bytes-before (append-nil x) (append-nil y))
+    ∙ number-before x y [] [] 0 (length-part b a w h ∙ sym (length-part b c w l)) (small-part b a w s h) (small-part b c w s l)
+    ∙ ap (λ (t : Bool). ltb (number 0 x) (number 0 y) || t) (and-false (eqb (number 0 x) (number 0 y)))
+    ∙ or-false (ltb (number 0 x) (number 0 y))
+
+-- ---- n rows rise exactly where their numbers do
+
+pub passed-first : (x : ℕ) (b : List ℕ) (start w : ℕ) → x ≡ number-passed x b start w 0
+unfolding number-passed
+passed-first x b start w = refl
+
+pub passed-next : (x : ℕ) (b : List ℕ) (start w i : ℕ) → number 0 (row-at b start w i) ≡ number-passed x b start w (i + 1)
+unfolding number-passed
+passed-next x b start w i = rw (add-one i)
+
+module _ (x : ℕ) (b : List ℕ) (start w n : ℕ) (small : (i : ℕ) → getD b i 0 < 256) (room : start + n * w ≤ length b) where
+  rows-before : (i : ℕ) → suc i < n → bytes-before (row-at b start w i) (row-at b start w (suc i))
+      ≡ ltb (number 0 (row-at b start w i)) (number 0 (row-at b start w (suc i)))
+  rows-before i h =
+      let this : i < n = omega arith in
+      numbers-before b (start + i * w) (start + suc i * w) w small (omega (arith, row-fits w this)) (omega (arith, row-fits w h))
+
+  pub climbs-rising : ((i : ℕ) → i < n → Climbs x b start w i) → Rising b start w w n
+  unfolding number-passed
+  climbs-rising climbs i h =
+      rows-before i h ∙ lt-ltb (number 0 (row-at b start w i)) (number 0 (row-at b start w (suc i))) (climbs (suc i) h)
+
+  pub rising-climbs : Rising b start w w n → (0 < n → x < number 0 (row-at b start w 0)) → (i : ℕ) → i < n → Climbs x b start w i
+  unfolding number-passed
+  rising-climbs rise first zero h = first h
+  rising-climbs rise first (suc i) h =
+      ltb-true (number 0 (row-at b start w i)) (number 0 (row-at b start w (suc i))) (sym (rows-before i h) ∙ rise i h)
+
+row-parts : (b : List ℕ) (at : ℕ) → at + 17 ≤ length b → part b at 17 ≡ getD b at 0 ∷ (part b (at + 1) 8 ++ part b (at + 9) 8)
 row-parts b at h =
-    let far : at + 8 + 8 ≡ at + 16 = omega arith in
-    part-append b at 8 9 (omega arith)
-    ∙ ap (λ (l : List ℕ). part b at 8 ++ l) (part-append b (at + 8) 8 1 (omega arith)
-    ∙ ap (λ (l : List ℕ). part b (at + 8) 8 ++ l) (rw far (part-cons b (at + 16) 1 0 (omega arith) refl)))
+    let far : at + 1 + 8 ≡ at + 9 = omega arith in
+    part-cons b at 17 16 (omega arith) refl ∙ ap (λ (l : List ℕ). getD b at 0 ∷ l) (rw (← far) (part-append b (at + 1) 8 8 (omega arith)))
 
 pub keyed-before : (b : List ℕ) (a c : ℕ) (k m : Key) → ((i : ℕ) → getD b i 0 < 256) → a + 17 ≤ length b → c + 17 ≤ length b
     → Keyed b a k → Keyed b c m → bytes-before (part b a 17) (part b c 17) ≡ bytes-before (numbers-of k) (numbers-of m)
 unfolding bytes-before
 keyed-before b a c k m s h l x y =
-    rw (row-parts b a h, row-parts b c l, x .first, x .second, x .last, y .first, y .second, y .last)
-    (number-before (part b a 8) (part b c 8) (part b (a + 8) 8 ++ (getD b (a + 16) 0 ∷ [])) (part b (c + 8) 8 ++ (getD b (c + 16) 0 ∷ [])) 0
-    (length-part b a 8 (omega arith) ∙ sym (length-part b c 8 (omega arith))) (small-part b a 8 s (omega arith)) (small-part b c 8 s (omega arith))
-    ∙ ap (λ (t : Bool). ltb (number 0 (part b a 8)) (number 0 (part b c 8)) || (eqb (number 0 (part b a 8)) (number 0 (part b c 8)) && t))
-    (number-before (part b (a + 8) 8) (part b (c + 8) 8) (getD b (a + 16) 0 ∷ []) (getD b (c + 16) 0 ∷ []) 0
-    (length-part b (a + 8) 8 (omega arith) ∙ sym (length-part b (c + 8) 8 (omega arith)))
-    (small-part b (a + 8) 8 s (omega arith)) (small-part b (c + 8) 8 s (omega arith))))
+    rw (row-parts b a h, row-parts b c l, x .sds, x .first, x .second, y .sds, y .first, y .second)
+    (ap (λ (t : Bool). ltb (getD b a 0) (getD b c 0) || (eqb (getD b a 0) (getD b c 0) && t))
+    (number-before (part b (a + 1) 8) (part b (c + 1) 8) (part b (a + 9) 8) (part b (c + 9) 8) 0
+    (length-part b (a + 1) 8 (omega arith) ∙ sym (length-part b (c + 1) 8 (omega arith)))
+    (small-part b (a + 1) 8 s (omega arith)) (small-part b (c + 1) 8 s (omega arith))
+    ∙ ap
+    (λ (t : Bool).
+    ltb (number 0 (part b (a + 1) 8)) (number 0 (part b (c + 1) 8)) || (eqb (number 0 (part b (a + 1) 8)) (number 0 (part b (c + 1) 8)) && t))
+    (numbers-before b (a + 9) (c + 9) 8 s (omega arith) (omega arith) ∙ sym (before-last (number 0 (part b (a + 9) 8)) (number 0 (part b (c + 9) 8))))))
+
+-- ---- the number of a row of 3 or 4 bytes
+
+three : (x y z : ℕ) → number 0 (x ∷ y ∷ z ∷ []) ≡ (x * 256 + y) * 256 + z
+unfolding number
+three x y z = omega arith
+
+four : (x y z u : ℕ) → number 0 (x ∷ y ∷ z ∷ u ∷ []) ≡ ((x * 256 + y) * 256 + z) * 256 + u
+unfolding number
+four x y z u = omega arith
+
+module _ (b : List ℕ) (at : ℕ) where
+  pub number-three : at + 3 ≤ length b → number 0 (part b at 3) ≡ (getD b at 0 * 256 + getD b (at + 1) 0) * 256 + getD b (at + 2) 0
+  number-three h =
+      let two : at + 1 + 1 ≡ at + 2 = omega arith in
+      rw (part-cons b at 3 2 (omega arith) refl, part-cons b (at + 1) 2 1 (omega arith) refl, two, part-cons b (at + 2) 1 0 (omega arith) refl)
+      (three (getD b at 0) (getD b (at + 1) 0) (getD b (at + 2) 0))
+
+  pub number-four : at + 4 ≤ length b
+      → number 0 (part b at 4) ≡ ((getD b at 0 * 256 + getD b (at + 1) 0) * 256 + getD b (at + 2) 0) * 256 + getD b (at + 3) 0
+  number-four h =
+      let two : at + 1 + 1 ≡ at + 2 = omega arith in
+      let three : at + 2 + 1 ≡ at + 3 = omega arith in
+      rw (
+        part-cons b at 4 3 (omega arith) refl,
+        part-cons b (at + 1) 3 2 (omega arith) refl,
+        two,
+        part-cons b (at + 2) 2 1 (omega arith) refl,
+        three,
+        part-cons b (at + 3) 1 0 (omega arith) refl,
+      ) (four (getD b at 0) (getD b (at + 1) 0) (getD b (at + 2) 0) (getD b (at + 3) 0))
 
 -- ---- a number read byte by byte
 

@@ -1,19 +1,19 @@
--- What loops over bytes need: a part's first byte, bytes that are all zero, two parts compared byte by byte. Assumes nothing.
+-- What loops over bytes need: a part's first byte, bytes that are all zero, rows that rise, counts. Assumes nothing.
 use Prim.Native.Nat.{ℕ, zero, suc, _+_, _*_, _-_, _≤_, _<_}
 use native.Mathlib.Nat.{add-zero, suc-mul}
 use native.Mathlib.Numerals.{add-one}
 use native.Mathlib.Omega.{arith}
 use mathlib.Core.Path.{_≡_, refl, sym, ap, _∙_, subst}
 use mathlib.Core.List.{List, _∷_}
-use mathlib.Core.Bool.{Bool, true, false, _&&_, _||_, true≢false}
-use lib.Dec.{ltb, eqb}
+use mathlib.Core.Bool.{Bool, true, false, true≢false}
+use lib.Dec.{ltb}
 use lib.ListN.{length, getD, take, drop, replicate, getD-replicate, length-take, length-drop}
 use lib.Seq.{drop-cons, drop-drop}
-use borrow.Author.Tests.{ltb-true, ltb-false, lt-ltb, le-ltb, eq-eqb, ne-eqb}
+use borrow.Author.Tests.{ltb-true, ltb-false}
 use Rattle.rules.specs.01-Lists.{same-bytes, bytes-before}
 use Rattle.rules.proofs.01-Lists.{same-bytes-is, same-bytes-refl, before-transitive, before-first}
 use Rattle.name_fields.specs.Field.{blank-field}
-use Rattle.rows.specs.Rows.{part, row-at, Rising, Filled, Zero-first, Counted, Level, filled}
+use Rattle.rows.specs.Rows.{part, row-at, Rising, Filled, Zero-first, Parted, Halved, Counted, Level, filled}
 use Rattle.rows.specs.Decides.{Decides}
 use Rattle.rows.proofs.Rows.{part-byte, filled-is}
 use Rattle.rows.proofs.Decides.{decides-iff, decides-test}
@@ -39,38 +39,6 @@ zeros-blank b from to r h l e =
     decides-iff (λ q. sym (same-bytes-is zeros bytes (sym test ∙ q)))
     (λ q. test ∙ ap (same-bytes zeros) q ∙ same-bytes-refl zeros)
     (decides-test e)
-
--- ---- two parts compared: what is left of them decides
-
-module _ (b : List ℕ) (a c w j : ℕ) (la : a + w ≤ length b) (lc : c + w ≤ length b) where
-  abbrev rest-before : ℕ → Bool
-  rest-before i = bytes-before (part b (a + i) (w - i)) (part b (c + i) (w - i))
-
-  step : j < w → rest-before j ≡ ltb (getD b (a + j) 0) (getD b (c + j) 0) || (eqb (getD b (a + j) 0) (getD b (c + j) 0) && rest-before (j + 1))
-  unfolding bytes-before
-  step h =
-      let one : w - j ≡ suc (w - (j + 1)) = omega arith in
-      let pa : a + j + 1 ≡ a + (j + 1) = omega arith in
-      let pc : c + j + 1 ≡ c + (j + 1) = omega arith in
-      rw (part-cons b (a + j) (w - j) (w - (j + 1)) (omega arith) one, part-cons b (c + j) (w - j) (w - (j + 1)) (omega arith) one, pa, pc)
-
-  pub before-less : j < w → getD b (a + j) 0 < getD b (c + j) 0 → rest-before j ≡ true
-  before-less h l = step h ∙ rw (lt-ltb (getD b (a + j) 0) (getD b (c + j) 0) l)
-
-  pub before-more : j < w → getD b (c + j) 0 < getD b (a + j) 0 → rest-before j ≡ false
-  before-more h l =
-      step h ∙ rw (le-ltb (getD b (a + j) 0) (getD b (c + j) 0) (omega arith), ne-eqb (getD b (a + j) 0) (getD b (c + j) 0) (λ e. omega arith))
-
-  pub before-same : j < w → getD b (a + j) 0 ≡ getD b (c + j) 0 → rest-before j ≡ rest-before (j + 1)
-  before-same h e =
-      step h ∙ rw (le-ltb (getD b (a + j) 0) (getD b (c + j) 0) (omega arith), eq-eqb (getD b (a + j) 0) (getD b (c + j) 0) e)
-
-  pub before-none : w ≤ j → rest-before j ≡ false
-  unfolding bytes-before
-  before-none h = let none : w - j ≡ 0 = omega arith in rw none
-
-pub before-start : (b : List ℕ) (a c w : ℕ) → bytes-before (part b a w) (part b c w) ≡ bytes-before (part b (a + 0) (w - 0)) (part b (c + 0) (w - 0))
-before-start b a c w = let all : w - 0 ≡ w = omega arith in rw (all, add-zero a, add-zero c)
 
 -- ---- rows that rise, one more at a time
 
@@ -147,3 +115,42 @@ rising-level b start stride w n l r i j h k =
     let y = start + j * stride in
     before-first (getD b x 0) (part b (x + 1) w) (getD b y 0) (part b (y + 1) w)
     (rw (← part-cons b x (suc w) w (l i (omega arith)) refl, ← part-cons b y (suc w) w (l j k) refl) (rising-far b start stride (suc w) n r i j h k))
+
+-- ---- halving: where the rows part, they part between low and high
+
+pub record Halving (b : List ℕ) (first w n low high : ℕ) : Type 0 where
+  pub order : low ≤ high
+  pub most : high ≤ n
+  pub around : (k : ℕ) → Parted b first w n k → (low ≤ k) × (k ≤ high)
+
+pub halving-start : (b : List ℕ) (first w n : ℕ) → Halving b first w n 0 n
+halving-start b first w n = record { order = omega arith; most = omega arith; around = λ k p. (omega arith, p .fits) }
+
+module _ {b : List ℕ} {first w n low high : ℕ} (h : Halving b first w n low high) where
+  pub halving-up : (mid : ℕ) → low ≤ mid → mid < high → (getD b (first + mid * w) 0 ≡ 0 → ⊥) → Halving b first w n (mid + 1) high
+  halving-up mid l m used = record {
+    order = omega arith;
+    most = h .most;
+    around = λ k p. (go k p (ltb mid k) refl, h .around k p .1);
+  }
+    where
+      go : (k : ℕ) → Parted b first w n k → (t : Bool) → ltb mid k ≡ t → mid + 1 ≤ k
+      go k p true q = omega (arith, ltb-true mid k q)
+      go k p false q = absurd (used (p .free mid (ltb-false mid k q) (omega (arith, h .most))))
+
+  pub halving-down : (mid : ℕ) → low ≤ mid → mid < high → getD b (first + mid * w) 0 ≡ 0 → Halving b first w n low mid
+  halving-down mid l m free = record {
+    order = l;
+    most = omega (arith, h .most);
+    around = λ k p. (h .around k p .0, go k p (ltb mid k) refl);
+  }
+    where
+      go : (k : ℕ) → Parted b first w n k → (t : Bool) → ltb mid k ≡ t → k ≤ mid
+      go k p true q = absurd (p .used mid (ltb-true mid k q) free)
+      go k p false q = ltb-false mid k q
+
+  pub halving-met : high ≤ low → Halved b first w n low
+  halving-met m = record {
+    fits = omega (arith, h .order, h .most);
+    is = λ k p. omega (arith, h .around k p);
+  }

@@ -41,6 +41,17 @@ pub record Zero-first (b : List ℕ) (start w n from r : ℕ) : Type 0 where
   pub fits : r ≤ n
   pub others : (k : ℕ) → from ≤ k → k < r → getD b (start + k * w) 0 ≡ 0 → ⊥
 
+-- of n rows of width w the first k have a byte that is not 0 in a certain place, and no other has; that of row 0 stands at `first`
+pub record Parted (b : List ℕ) (first w n k : ℕ) : Type 0 where
+  pub fits : k ≤ n
+  pub used : (i : ℕ) → i < k → getD b (first + i * w) 0 ≡ 0 → ⊥
+  pub free : (i : ℕ) → k ≤ i → i < n → getD b (first + i * w) 0 ≡ 0
+
+-- r is where the rows part, if they do
+pub record Halved (b : List ℕ) (first w n r : ℕ) : Type 0 where
+  pub fits : r ≤ n
+  pub is : (k : ℕ) → Parted b first w n k → r ≡ k
+
 -- r is a count, and at most what there is room for
 pub record Counted (count most r : ℕ) : Type 0 where
   pub is : r ≡ count

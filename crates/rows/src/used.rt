@@ -2,7 +2,7 @@
 ghost use mathlib.Core.Path.{_≡_};
 ghost use Prim.Native.Nat.{ℕ, _+_, _*_, _-_, _≤_, _<_};
 ghost use lib.ListN.{length, replicate};
-ghost use Rattle.rows.specs.Rows.{part, Filled, Zero-first};
+ghost use Rattle.rows.specs.Rows.{part, Filled, Zero-first, Halved};
 ghost use Rattle.rows.specs.Decides.{Decides};
 
 // How many of n rows stand before the first unused one. Of the used ones one begins with 0, that of SDS 0: the others are passed by
@@ -39,6 +39,26 @@ fn zero_first(base: &[u8], start: usize, width: usize, n: usize, from: usize) ->
         k += 1;
     }
     k
+}
+
+// How many of n rows have a byte that is not 0 in a certain place, if these stand before all others: by halving. The byte of row 0 stands at
+// `first`. Whoever asks sees to it that it is so.
+pub fn halved(base: &[u8], first: usize, width: usize, n: usize) -> usize
+    requires { ⌜ ((k : ℕ) → k < n → first + k * width < length (now base)) ⌝ }
+    requires { ⌜ (n < 65536) × (first + n * width < 65536) ⌝ }
+    ensures { λ r. ⌜ Halved (now (base .entry)) first width n r ⌝ }
+{
+    let mut low = 0;
+    let mut high = n;
+    while low < high {
+        let mid = low + ((high - low) >> 1);
+        if base[first + mid * width] != 0 {
+            low = mid + 1;
+        } else {
+            high = mid;
+        }
+    }
+    low
 }
 
 pub fn is_zero(base: &[u8], from: usize, to: usize) -> bool

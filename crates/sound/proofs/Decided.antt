@@ -3,34 +3,29 @@
 use Prim.Native.Nat.{ℕ}
 use mathlib.Core.Path.{_≡_}
 use mathlib.Core.List.{List}
-use mathlib.Core.Bool.{true}
 use lib.ListN.{length}
-use Rattle.rules.specs.04-Schema.{Schema, kind-of, is-object}
-use Rattle.rules.specs.05-Descent.{Parent}
 use Rattle.rules.specs.07-Picture.{Sound, base-length}
-use Rattle.rules.specs.Parts.{Parents, Reverses, Acyclic, Parts}
+use Rattle.rules.specs.Parts.{Acyclic, Parts}
+use Rattle.rules.proofs.05-Descent.{used-below}
 use Rattle.rules.proofs.Parts.{parent-in, parts-of, whole}
 use Rattle.base.specs.Back.{schema-of, Canonical}
 use Rattle.base.proofs.Back.{sound-canonical, sound-good, is-sound}
-use Rattle.check_types.specs.TypeRows.{KindsFine}
-use Rattle.check_rows.specs.Fine.{Sdss-fine, Presences-fine, Rest-fine}
-use Rattle.check_uses.specs.Uses.{Sdss-closed}
+use Rattle.lookup.specs.Parents.{Parental}
+use Rattle.check_held.specs.Fine.{Sdss-fine, Presences-fine, Types-fine, Applications-fine, Ends-fine}
 
 -- all that is decided
 pub record Decided (b : List ℕ) : Type 0 where
   pub long : length b ≡ base-length
   pub sdss : Sdss-fine b
-  pub kinds : KindsFine b
-  pub parents : Parents ((schema-of b) .types)
-  pub reverses : Reverses ((schema-of b) .types)
-  pub acyclic : Acyclic ((schema-of b) .types)
   pub presences : Presences-fine b
-  pub rest : Rest-fine b
-  pub closed : Sdss-closed b
+  pub types : Types-fine b
+  pub acyclic : Acyclic ((schema-of b) .types)
+  pub applications : Applications-fine b
+  pub ends : Ends-fine b
 
--- as the later checks ask for it
-pub parents-objects : {s : Schema} → Parents (s .types) → (t a : ℕ) → Parent s t a → is-object (kind-of s a) ≡ true
-parents-objects p t a by = p .objects t a (parent-in t a by)
+-- as the check for cycles asks for it
+pub parental : {b : List ℕ} → length b ≡ base-length → Types-fine b → Parental b
+parental long t = record { long = long; type-rows = t .type-rows; parents-objects = λ u a by. t .parents .objects u a (parent-in u a by) }
 
 pub decided-of : {b : List ℕ} → Sound b → Decided b
 decided-of {b} s =
@@ -39,29 +34,29 @@ decided-of {b} s =
     record {
       long = c .long;
       sdss = record { sds-fields = c .sds-fields; sdss = p .sdss };
-      kinds = record { type-rows = c .type-rows; kinds = p .types .kinds };
-      parents = p .types .parents;
-      reverses = p .types .reverses;
-      acyclic = p .types .acyclic;
       presences = record {
         presence-rows = c .presence-rows;
         presence-rest = c .presence-rest;
         rows = p .presences .rows;
-        typed = p .presences .typed;
-      };
-      rest = record {
-        application-rest = c .application-rest;
-        applications = p .applications .rows;
-        end-rows = c .end-rows;
-        end-rest = c .end-rest;
-        ends = p .ends .rows;
-      };
-      closed = record {
         once = p .presences .once;
+        small = λ q m. used-below (sound-good s) (q .type) (p .presences .typed q m);
+      };
+      types = record {
+        type-rows = c .type-rows;
+        kinds = p .types .kinds;
+        parents = p .types .parents;
+        reverses = p .types .reverses;
+        typed = p .presences .typed;
         closed = p .presences .closed;
         somewhere = p .presences .somewhere;
-        applications = p .applications .each;
-        ends = p .ends .each;
+      };
+      acyclic = p .types .acyclic;
+      applications = record { application-rest = c .application-rest; rows = p .applications .rows; each = p .applications .each };
+      ends = record {
+        end-rows = c .end-rows;
+        end-rest = c .end-rest;
+        rows = p .ends .rows;
+        each = p .ends .each;
         mirrored = p .ends .mirrored;
       };
     }
@@ -73,25 +68,25 @@ decided-sound b w = is-sound b canonical (whole parts)
     canonical = record {
       long = w .long;
       sds-fields = w .sdss .sds-fields;
-      type-rows = w .kinds .type-rows;
+      type-rows = w .types .type-rows;
       presence-rows = w .presences .presence-rows;
-      end-rows = w .rest .end-rows;
+      end-rows = w .ends .end-rows;
       presence-rest = w .presences .presence-rest;
-      application-rest = w .rest .application-rest;
-      end-rest = w .rest .end-rest;
+      application-rest = w .applications .application-rest;
+      end-rest = w .ends .end-rest;
     }
 
     parts : Parts (schema-of b)
     parts = record {
       sdss = w .sdss .sdss;
-      types = record { kinds = w .kinds .kinds; parents = w .parents; reverses = w .reverses; acyclic = w .acyclic };
+      types = record { kinds = w .types .kinds; parents = w .types .parents; reverses = w .types .reverses; acyclic = w .acyclic };
       presences = record {
         rows = w .presences .rows;
-        once = w .closed .once;
-        typed = w .presences .typed;
-        closed = w .closed .closed;
-        somewhere = w .closed .somewhere;
+        once = w .presences .once;
+        typed = w .types .typed;
+        closed = w .types .closed;
+        somewhere = w .types .somewhere;
       };
-      applications = record { rows = w .rest .applications; each = w .closed .applications };
-      ends = record { rows = w .rest .ends; each = w .closed .ends; mirrored = w .closed .mirrored };
+      applications = record { rows = w .applications .rows; each = w .applications .each };
+      ends = record { rows = w .ends .rows; each = w .ends .each; mirrored = w .ends .mirrored };
     }

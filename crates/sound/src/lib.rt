@@ -1,6 +1,7 @@
 // The check of soundness: exactly the pictures of good schemas. Each part of it decides some fields of `Good`, and what they need of
 // the bytes; every call of the keeper begins with it.
 use base::Base;
+use rules::Limits;
 ghost use Rattle.rules.specs.07-Picture.{Sound};
 ghost use Rattle.rows.specs.Decides.{Decides};
 
@@ -10,26 +11,24 @@ pub fn is_sound(base: &[u8]) -> bool
     if base.len() != Base::LENGTH {
         return false;
     }
-    if !check_rows::named::sdss_fine(base) {
+    if !check_sdss::sdss_fine(base) {
         return false;
     }
-    if !check_types::kinds_fine(base) {
+    let mut held = [0u16; Limits::TYPES];
+    if !check_presences::presences_fine(base, base::used::presences_halved(base), &mut held) {
         return false;
     }
-    if !check_ties::parents_fine(base) {
+    let types = check_types::types_fine(base, &held);
+    if types == 0 {
         return false;
     }
-    if !check_ties::reverses_fine(base) {
+    // A byte for each type: the way up, and then where groups of ends start.
+    let mut bytes = [0u8; Limits::TYPES];
+    if !graph::is_acyclic(base, types == 1, &mut bytes) {
         return false;
     }
-    if !graph::is_acyclic(base) {
+    if !check_applications::applications_fine(base, base::used::applications_halved(base), &held) {
         return false;
     }
-    if !check_rows::named::presences_fine(base) {
-        return false;
-    }
-    if !check_rows::rest::rest_fine(base) {
-        return false;
-    }
-    check_uses::closed_fine(base)
+    check_ends::ends_fine(base, base::used::ends_halved(base), &held, &mut bytes)
 }

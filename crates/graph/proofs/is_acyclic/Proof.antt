@@ -1,7 +1,7 @@
 -- `graph::is_acyclic` meets its contract: a walk goes up, down, or on to the next type. The measure: a step up takes one from the room
 -- of the way, a step down gives one back and settles a type, and a type that is passed counts once. Assumes nothing.
 use Prim.Native.Nat.{_+_, _-_, _*_, _≤_, _<_}
-use mathlib.Core.Path.{_≡_, refl, _∙_}
+use mathlib.Core.Path.{_≡_, _∙_}
 use native.Mathlib.Omega.{arith}
 use lib.ListN.{length, length-set}
 use Rattle.rules.specs.05-Descent.{members}
@@ -15,31 +15,30 @@ use Rattle.graph.proofs.is_acyclic.Statement.{statement}
 use Rattle.graph.proofs.is_acyclic.Tie as tie
 
 abbrev Inv-loop : tie.InvT-loop
-Inv-loop base way₀ at₀ settled₀ t₀ way at settled t = (t ≤ 128) × (at ≤ 128) × (length way ≡ 128) × Walk (schema-of base) (has settled) t way at
+Inv-loop base falls way₀ at₀ settled₀ t₀ way at settled t = (t ≤ 128) × (at ≤ 128) × (length way ≡ 128) × Walk (schema-of base) (has settled) t way at
 
 abbrev μ-loop : tie.MeasureT-loop
-μ-loop base way₀ at₀ settled₀ t₀ way at settled t = 2 * (128 - length (members (has settled))) + at + (128 - t)
-
-parents-below-requires : tie.Need-parents-below-requires Inv-loop μ-loop
-parents-below-requires c κs = c .before .pre
+μ-loop base falls way₀ at₀ settled₀ t₀ way at settled t = 2 * (128 - length (members (has settled))) + at + (128 - t)
 
 returns : tie.Need-returns Inv-loop μ-loop
-returns c = decides-yes (falling-acyclic (c .before .parents-below .ensures (c .if1 .taken)))
+returns c = decides-yes (falling-acyclic (c .before .before .before .pre .1 .0 (c .if1 .taken)))
 
 empty-requires : tie.Need-empty-requires Inv-loop μ-loop
 empty-requires c κs = tt
 
 loop-holds : tie.Need-loop-holds Inv-loop μ-loop
-loop-holds c = (omega arith, omega arith, refl, walk-none _ _ refl (c .empty .ensures))
+loop-holds c =
+    let long = c .before .before .before .before .pre .1 .1 in
+    (omega arith, omega arith, long, walk-none _ _ long (c .empty .ensures))
+
+same-length : tie.Need-same-length Inv-loop μ-loop
+same-length c = omega (arith, c .before .before .loop .inv .2, c .before .before .before .before .before .before .before .pre .1 .1)
 
 returns-2 : tie.Need-returns-2 Inv-loop μ-loop
 returns-2 c =
     let start = c .before .before .before .before .before .before .before in
     let l = c .before .before .loop in
-    decides-no (too-long (start .pre) (l .t) (omega arith) (l .inv .3) (l .inv .2) (omega arith))
-
-slice-aggregate-reached : tie.Need-slice-aggregate-reached Inv-loop μ-loop
-slice-aggregate-reached c = omega arith
+    decides-no (too-long (start .pre .0) (l .t) (omega arith) (l .inv .3) (l .inv .2) (omega arith))
 
 reached-requires : tie.Need-reached-requires Inv-loop μ-loop
 reached-requires c κs = tt
@@ -48,7 +47,7 @@ unsettled-parent-requires : tie.Need-unsettled-parent-requires Inv-loop μ-loop
 unsettled-parent-requires c κs =
     let start = c .before .before .before .before .before .before .before .before .before in
     let l = c .before .before .before .before .loop in
-    (start .pre, reached-below (start .pre) (l .t) (omega arith) (l .inv .3) (c .reached .ensures))
+    (start .pre .0, reached-below (start .pre .0) (l .t) (omega arith) (l .inv .3) (c .reached .ensures))
 
 sub-at : tie.Need-sub-at Inv-loop μ-loop
 sub-at c = omega arith
@@ -56,8 +55,8 @@ sub-at c = omega arith
 cast-way : tie.Need-cast-way Inv-loop μ-loop
 cast-way c = omega arith
 
-array-write-way : tie.Need-array-write-way Inv-loop μ-loop
-array-write-way c = omega arith
+slice-write-way : tie.Need-slice-write-way Inv-loop μ-loop
+slice-write-way c = omega (arith, c .before .before .before .before .before .before .loop .inv .2)
 
 loop-less : tie.Need-loop-less Inv-loop μ-loop
 loop-less c = omega arith
@@ -77,7 +76,7 @@ add-requires : tie.Need-add-requires Inv-loop μ-loop
 add-requires c κs =
     let start = c .before .before .before .before .before .before .before .before .before .before .before in
     let l = c .before .before .before .before .before .before .loop in
-    reached-below (start .pre) (l .t) (omega arith) (l .inv .3) (c .before .before .reached .ensures)
+    reached-below (start .pre .0) (l .t) (omega arith) (l .inv .3) (c .before .before .reached .ensures)
 
 add-at : tie.Need-add-at Inv-loop μ-loop
 add-at c = omega arith
@@ -88,7 +87,7 @@ loop-less-2 c =
     let here = c .before .before .before .before .reached .ensures in
     let parents = c .before .before .before .unsettled-parent .ensures .none (omega arith) in
     let start = c .before .before .before .before .before .before .before .before .before .before .before .before .before in
-    let small = reached-below (start .pre) (l .t) (omega arith) (l .inv .3) here in
+    let small = reached-below (start .pre .0) (l .t) (omega arith) (l .inv .3) here in
     let more = settles-more (l .inv .3) here parents (c .before .add .ensures) (omega arith) small in
     omega (arith, members-most (has (c .before .add .result)))
 
@@ -116,6 +115,9 @@ loop-again-3 c =
     let parents = c .before .before .before .unsettled-parent .ensures .none (omega arith) in
     (omega arith, omega arith, l .inv .2, walk-next (l .inv .3) here parents (c .before .add .ensures) (omega arith))
 
+same-length-2 : tie.Need-same-length-2 Inv-loop μ-loop
+same-length-2 c = omega (arith, c .before .loop .inv .2, c .before .before .before .before .before .before .pre .1 .1)
+
 returns-3 : tie.Need-returns-3 Inv-loop μ-loop
 returns-3 c = decides-yes (walk-done _ (c .before .loop .inv .3) (omega arith))
 
@@ -125,17 +127,16 @@ is-acyclic-spec =
     (tie.spec
     Inv-loop
     μ-loop
-    parents-below-requires
     returns
     empty-requires
     loop-holds
+    same-length
     returns-2
-    slice-aggregate-reached
     reached-requires
     unsettled-parent-requires
     sub-at
     cast-way
-    array-write-way
+    slice-write-way
     loop-less
     loop-again
     add-requires
@@ -145,4 +146,5 @@ is-acyclic-spec =
     add-t
     loop-less-3
     loop-again-3
+    same-length-2
     returns-3)

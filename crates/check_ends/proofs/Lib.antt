@@ -1,0 +1,4 @@
+pub mod CountLaws
+pub mod RowLaws
+pub mod MirrorLaws
+pub mod EndLaws

@@ -1,0 +1,5 @@
+pub mod RowLaws
+pub mod OrderLaws
+pub mod GatherLaws
+pub mod PassedLaws
+pub mod PresenceLaws

@@ -1,0 +1,165 @@
+-- Rows of bytes that rise are presences that rise, and those of their bytes that are compared tell names apart.
+-- Assumes nothing.
+use Prim.Native.Nat.{ℕ, suc, _<_}
+use native.Mathlib.Omega.{arith}
+use mathlib.Core.Path.{_≡_, refl, sym, ap, _∙_}
+use mathlib.Core.Logic.{⊎-elim}
+use mathlib.Core.List.{List, [], _∷_}
+use mathlib.Core.Bool.{Bool, true, false, not, _&&_, _||_, true≢false, false≢true}
+use lib.Dec.{ltb, eqb}
+use lib.ListN.{take, drop}
+use lib.Seq.{take-at, take-take}
+use borrow.Author.Tests.{ltb-true, ltb-false, le-ltb, eqb-true, eq-eqb}
+use Rattle.rules.specs.01-Lists.{_∈_, bytes-before, rising}
+use Rattle.rules.specs.02-Limits.{limits}
+use Rattle.rules.specs.03-Names.{well-formed, same-name, name-before}
+use Rattle.rules.specs.04-Schema.{Presence, system-presence}
+use Rattle.rules.specs.06-Good.{presence-before}
+use Rattle.rules.specs.07-Picture.{pad, presence-row, presence-width}
+use Rattle.rules.proofs.Bools.{or-cases, and-both, fails}
+use Rattle.rules.proofs.01-Lists.{rising-at, at-rising}
+use Rattle.rules.proofs.03-Names.{same-name-refl, same-turned, name-connected, name-irreflexive, apart, pad-apart}
+use Rattle.rules.proofs.07-Picture.{length-pad}
+use Rattle.rows.specs.Rows.{part}
+use Rattle.rows.proofs.Scan.{rising-far}
+use Rattle.base.specs.Tables.{In-order, by-name, presences, Written, row-of, shown}
+use Rattle.base.specs.Rows.{presence-at}
+use Rattle.base.specs.Back.{schema-of, presence-count, presence-shown}
+use Rattle.base.proofs.Shown.{presences-long, presence-is, presence-in, presence-there, presence-read}
+
+-- neither of two numbers is less
+pub equal : (i j : ℕ) → (i < j → ⊥) → (j < i → ⊥) → i ≡ j
+equal i j f g = go (ltb i j) refl (ltb j i) refl
+  where
+    go : (x : Bool) → ltb i j ≡ x → (y : Bool) → ltb j i ≡ y → i ≡ j
+    go true p y q = absurd (f (ltb-true i j p))
+    go false p true q = absurd (g (ltb-true j i q))
+    go false p false q = omega (arith, ltb-false i j p, ltb-false j i q)
+
+-- ---- presences: by SDS and name
+
+-- what the bytes of a row that are compared say
+abbrev front : Presence → List ℕ
+front p = p .sds ∷ pad (limits .name) (p .name)
+
+abbrev front-before : Presence → Presence → Bool
+front-before p q = ltb (p .sds) (q .sds) || (eqb (p .sds) (q .sds) && apart (p .name) (q .name))
+
+front-is : (p q : Presence) → well-formed (p .name) ≡ true → well-formed (q .name) ≡ true → bytes-before (front p) (front q) ≡ front-before p q
+unfolding bytes-before
+front-is p q f g = ap (λ (t : Bool). ltb (p .sds) (q .sds) || (eqb (p .sds) (q .sds) && t)) (pad-apart (p .name) (q .name) f g)
+
+front-presence : (p q : Presence) → front-before p q ≡ true → presence-before p q ≡ true
+unfolding presence-before
+front-presence p q e = go (ltb (p .sds) (q .sds)) (eqb (p .sds) (q .sds)) (name-before (p .name) (q .name)) (not (same-name (p .name) (q .name))) e
+  where
+    rest : Bool
+    rest = not (name-before (q .name) (p .name)) && ltb (p .type) (q .type)
+
+    go : (x y z o : Bool) → x || (y && (z && o)) ≡ true → x || (y && (z || rest)) ≡ true
+    go true y z o h = refl
+    go false true true o h = refl
+    go false true false o h = absurd (false≢true h)
+    go false false z o h = absurd (false≢true h)
+
+presence-front : (p q : Presence) → presence-before p q ≡ true → (p .sds ≡ q .sds → same-name (p .name) (q .name) ≡ true → ⊥) → front-before p q ≡ true
+unfolding presence-before
+presence-front p q e n =
+    go (ltb (p .sds) (q .sds)) (eqb (p .sds) (q .sds)) refl (name-before (p .name) (q .name)) refl (name-before (q .name) (p .name)) refl e
+  where
+    go : (x y : Bool) → eqb (p .sds) (q .sds) ≡ y → (z : Bool) → name-before (p .name) (q .name) ≡ z → (v : Bool) → name-before (q .name) (p .name) ≡ v
+        → x || (y && (z || (not v && ltb (p .type) (q .type)))) ≡ true → x || (y && (z && not (same-name (p .name) (q .name)))) ≡ true
+    go true y f z g v k h = refl
+    go false true f true g v k h = ap not (fails (same-name (p .name) (q .name)) (n (eqb-true (p .sds) (q .sds) f)))
+    go false true f false g true k h = absurd (false≢true h)
+    go false true f false g false k h =
+        absurd (n (eqb-true (p .sds) (q .sds) f) (rw (name-connected (p .name) (q .name) g k) (same-name-refl (q .name))))
+    go false false f z g v k h = absurd (false≢true h)
+
+front-other : (p q : Presence) → front-before p q ≡ true → p .sds ≡ q .sds → same-name (p .name) (q .name) ≡ true → ⊥
+front-other p q e d s =
+    ⊎-elim
+    (λ h. omega (arith, ltb-true (p .sds) (q .sds) h))
+    (λ h.
+    let (before, other) = and-both (name-before (p .name) (q .name)) (not (same-name (p .name) (q .name)))
+    (and-both (eqb (p .sds) (q .sds)) (apart (p .name) (q .name)) h .1) in
+    true≢false (sym other ∙ ap not s))
+    (or-cases (ltb (p .sds) (q .sds)) (eqb (p .sds) (q .sds) && apart (p .name) (q .name)) e)
+
+presence-irreflexive : (p : Presence) → presence-before p p ≡ false
+unfolding presence-before
+presence-irreflexive p = rw (
+  le-ltb (p .sds) (p .sds) (omega arith),
+  eq-eqb (p .sds) (p .sds) refl,
+  name-irreflexive (p .name),
+  le-ltb (p .type) (p .type)
+      (omega arith),
+)
+
+-- the front of a row that is as it would be written
+row-front : (b : List ℕ) (i : ℕ) → presence-row (shown presences b i) ≡ row-of presences b i
+    → part b (presence-at i) (by-name .key) ≡ front (presence-shown b i)
+unfolding presence-row
+row-front b i e =
+    let p = presence-shown b i in
+    let w = limits .name in
+    sym (take-take (by-name .key) presence-width (drop (presence-at i) b) (omega arith))
+    ∙ ap (take (by-name .key)) (sym e ∙ ap presence-row (presence-read b i))
+    ∙ ap (λ (l : List ℕ). p .sds ∷ l) (take-at (pad w (p .name)) (p .type ∷ []) w (length-pad w (p .name)))
+
+module _ (b : List ℕ)
+    (written : Written presences (presence-count b) b)
+    (named : (i : ℕ) → i < presence-count b → well-formed ((presence-shown b i) .name) ≡ true) where
+  fronts : (i j : ℕ) → i < presence-count b → j < presence-count b
+      → bytes-before (part b (presence-at i) (by-name .key)) (part b (presence-at j) (by-name .key)) ≡ front-before (presence-shown b i) (presence-shown b j)
+  fronts i j h k =
+      rw (row-front b i (written i h), row-front b j (written j k)) (front-is (presence-shown b i) (presence-shown b j) (named i h) (named j k))
+
+  pub rise-presences : In-order by-name b (presence-count b) → rising presence-before ((schema-of b) .presences) ≡ true
+  rise-presences r =
+      at-rising presence-before system-presence ((schema-of b) .presences)
+      (λ i h.
+      let k : suc i < presence-count b = omega (arith, presences-long b) in
+      rw (presence-is b i system-presence (omega arith), presence-is b (suc i) system-presence k)
+      (front-presence (presence-shown b i) (presence-shown b (suc i)) (sym (fronts i (suc i) (omega arith) k) ∙ r i k)))
+
+  -- rows of one SDS and the same name are one row: one that stands before another is apart from it
+  name-once : In-order by-name b (presence-count b) → (i j : ℕ) → i < presence-count b → j < presence-count b
+      → (presence-shown b i) .sds ≡ (presence-shown b j) .sds → same-name ((presence-shown b i) .name) ((presence-shown b j) .name) ≡ true → i ≡ j
+  name-once r i j h k d e =
+      equal i j (λ l. never i j h k l d e) (λ l. never j i k h l (sym d) (same-turned ((presence-shown b j) .name) ((presence-shown b i) .name) ∙ e))
+    where
+      never : (i j : ℕ) → i < presence-count b → j < presence-count b → i < j → (presence-shown b i) .sds ≡ (presence-shown b j) .sds
+          → same-name ((presence-shown b i) .name) ((presence-shown b j) .name) ≡ true → ⊥
+      never i j h k l = front-other (presence-shown b i) (presence-shown b j)
+          (sym (fronts i j h k) ∙ rising-far b (presences .start) (presences .width) (by-name .key) (presence-count b) r i j l k)
+
+  -- rows that show one presence are one row
+  pub row-once : In-order by-name b (presence-count b) → (i j : ℕ) → i < presence-count b → j < presence-count b
+      → presence-shown b i ≡ presence-shown b j → i ≡ j
+  row-once r i j h k e =
+      name-once r i j h k (ap (λ (p : Presence). p .sds) e)
+      (ap (λ (p : Presence). same-name (p .name) ((presence-shown b j) .name)) e ∙ same-name-refl ((presence-shown b j) .name))
+
+  pub rise-unique : In-order by-name b (presence-count b) → (p q : Presence) → p ∈ (schema-of b) .presences → q ∈ (schema-of b) .presences
+      → p .sds ≡ q .sds → same-name (p .name) (q .name) ≡ true → p ≡ q
+  rise-unique r p q m n s e =
+      let (i, h, pi) = presence-in b p m in
+      let (j, k, qj) = presence-in b q n in
+      let d : (presence-shown b i) .sds ≡ (presence-shown b j) .sds = ap (λ (x : Presence). x .sds) (sym pi) ∙ s ∙ ap (λ (x : Presence). x .sds) qj in
+      pi ∙ ap (presence-shown b) (name-once r i j h k d (sym (λ x. same-name (pi x .name) (qj x .name)) ∙ e)) ∙ sym qj
+
+  pub presences-rise : rising presence-before ((schema-of b) .presences) ≡ true
+      → ((p q : Presence) → p ∈ (schema-of b) .presences → q ∈ (schema-of b) .presences → p .sds ≡ q .sds → same-name (p .name) (q .name) ≡ true → p ≡ q)
+      → In-order by-name b (presence-count b)
+  presences-rise r u i k =
+      let p = presence-shown b i in
+      let q = presence-shown b (suc i) in
+      let before : presence-before p q ≡ true
+      = rw (presence-is b i system-presence (omega arith), presence-is b (suc i) system-presence k)
+      at (rising-at presence-before system-presence ((schema-of b) .presences) r i (omega (arith, presences-long b))) in
+      let apart : p .sds ≡ q .sds → same-name (p .name) (q .name) ≡ true → ⊥
+      = λ s e.
+      let one : p ≡ q = u p q (presence-there b i (omega arith)) (presence-there b (suc i) k) s e in
+      true≢false (sym before ∙ ap (presence-before p) (sym one) ∙ presence-irreflexive p) in
+      fronts i (suc i) (omega arith) k ∙ presence-front p q before apart

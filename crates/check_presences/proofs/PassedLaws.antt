@@ -1,0 +1,115 @@
+-- What the loop over the presences keeps of the rows passed, and what its tests say of the next one. Assumes nothing.
+use Prim.Native.Nat.{ℕ, _+_, _≤_, _<_}
+use native.Mathlib.Omega.{arith}
+use mathlib.Core.Path.{_≡_, refl, sym, ap, ap₂, _∙_, subst}
+use mathlib.Core.List.{List}
+use mathlib.Core.Bool.{Bool, true, false, true≢false, false≢true}
+use lib.Dec.{ltb}
+use lib.ListN.{length, getD, set, replicate}
+use borrow.Author.Count.{below-none, below-more}
+use borrow.Author.Tests.{ltb-true, ltb-false}
+use Rattle.rules.specs.01-Lists.{bytes-before}
+use Rattle.rules.specs.02-Limits.{limits}
+use Rattle.rules.specs.04-Schema.{used-sds}
+use Rattle.rules.specs.07-Picture.{base-length}
+use Rattle.rules.specs.Read.{type-offset}
+use Rattle.type_set.specs.Set.{bit}
+use Rattle.rows.specs.declared.order.Key.{Key}
+use Rattle.rows.specs.Order.{numbers-of, Keyed}
+use Rattle.rows.specs.Rows.{part}
+use Rattle.rows.proofs.Decides.{decides-yes, decides-no}
+use Rattle.rows.proofs.OrderLaws.{keyed-before}
+use Rattle.rows.proofs.Scan.{rising-one, rising-more, rising-not}
+use Rattle.base.specs.Tables.{presences, by-name}
+use Rattle.base.specs.Rows.{presence-at}
+use Rattle.base.specs.Back.{schema-of}
+use Rattle.check_held.specs.Held.{marked}
+use Rattle.check_presences.specs.Rows.{Row-fine, System-first, Rows-fine}
+use Rattle.check_presences.specs.Gathered.{Gathers, Rows-gathered}
+use Rattle.check_presences.proofs.GatherLaws.{gathers-first, gathers-more}
+use Rattle.check_presences.proofs.RowLaws.{object-named}
+
+-- the rows up to row k are fine and gathered, and the key is that of row k
+pub record Passed (b : List ℕ) (k : ℕ) (row : Key) (held : List ℕ) : Type 0 where
+  pub key : Keyed b (presence-at k) row
+  pub fine : Rows-fine b (k + 1)
+  pub gathers : Gathers b (k + 1) held
+
+pub rows-refused : {b : List ℕ} {n : ℕ} {held : List ℕ} → (Rows-fine b n → ⊥) → Rows-gathered b n held false
+rows-refused f = record { fine = decides-no f; gathers = λ e. absurd (false≢true e) }
+
+pub passed-first : {b : List ℕ} {n : ℕ} {row : Key} (held : List ℕ) → System-first b n → used-sds (schema-of b) 0 ≡ true
+    → held ≡ replicate {A = ℕ} (limits .types) 0 → Keyed b (presence-at 0) row → Passed b 0 row (set held 0 1)
+passed-first {b} held s u e key = record {
+  key = key;
+  fine = record {
+    each = below-more _ 0 (below-none _) (record { named = object-named _ (s .name); small = omega (arith, s .type) });
+    in-used = below-more _ 0 (below-none _) (ap (used-sds (schema-of b)) (s .sds) ∙ u);
+    rise = rising-one b (presences .start) (presences .width) (by-name .key);
+    once = λ i j l h. absurd (omega arith);
+  };
+  gathers = gathers-first b held e (s .type) (s .sds);
+}
+
+-- the SDS of the row passed last is used
+pub passed-sds : {b held : List ℕ} {k : ℕ} {row : Key} → Passed b k row held → used-sds (schema-of b) (row .sds) ≡ true
+passed-sds {b} {k = k} p = ap (used-sds (schema-of b)) (p .key .sds) ∙ p .fine .in-used k (omega arith)
+
+-- all are passed
+pub passed-all : {b held : List ℕ} {n k : ℕ} {row : Key} → Passed b k row held → n ≡ k + 1 → Rows-gathered b n held true
+passed-all {b} {held} p e =
+    subst (λ (m : ℕ). Rows-gathered b m held true) (sym e) (record { fine = decides-yes (p .fine); gathers = λ _. p .gathers })
+
+-- ---- the next row
+
+-- the rows up to row k are passed, there is a next one, and `next` is its key
+pub record Next (b : List ℕ) (n k : ℕ) (row : Key) (held : List ℕ) (next : Key) : Type 0 where
+  pub long : length b ≡ base-length
+  pub few : n ≤ limits .presences
+  pub bytes : (j : ℕ) → getD b j 0 < 256
+  pub passed : Passed b k row held
+  pub below : k + 1 < n
+  pub key : Keyed b (presence-at (k + 1)) next
+
+module _ {b held : List ℕ} {n k : ℕ} {row next : Key} (x : Next b n k row held next) where
+  -- the test of the keys of two rows
+  keys : {r : Bool} → r ≡ bytes-before (numbers-of row) (numbers-of next)
+      → bytes-before (part b (presence-at k) (by-name .key)) (part b (presence-at k + presences .width) (by-name .key)) ≡ r
+  keys e =
+      let next-at : presence-at (k + 1) ≡ presence-at k + presences .width = omega arith in
+      keyed-before b (presence-at k) (presence-at k + presences .width) row next (x .bytes) (omega (arith, x .long, x .few, x .below))
+      (omega (arith, x .long, x .few, x .below)) (x .passed .key) (subst (λ (m : ℕ). Keyed b m next) next-at (x .key))
+      ∙ sym e
+
+  pub not-rising : {r : Bool} → r ≡ bytes-before (numbers-of row) (numbers-of next) → r ≡ false → Rows-fine b n → ⊥
+  not-rising e f fine =
+      rising-not b (presences .start) (presences .width) (by-name .key) k (presence-at k) n refl (omega (arith, x .below)) (keys e ∙ f) (fine .rise)
+
+  module _ (t d : ℕ) (is-t : t ≡ getD b (presence-at (k + 1) + type-offset) 0) (is-d : d ≡ next .sds) (ht : t < 128) (hd : d < 16) where
+    -- a bit that is there already: an SDS holds a type twice
+    pub held-twice : bit (getD held t 0) d ≡ true → Rows-fine b n → ⊥
+    held-twice q fine =
+        let (i, h, s, e) = x .passed .gathers .marks t d ht hd q in
+        fine .once i (k + 1) h (x .below) (s ∙ is-d ∙ x .key .sds) (e ∙ is-t)
+
+    pub passed-more : {r : Bool} → r ≡ bytes-before (numbers-of row) (numbers-of next) → r ≡ true → used-sds (schema-of b) d ≡ true
+        → Row-fine b (k + 1) → bit (getD held t 0) d ≡ false → Passed b (k + 1) next (marked held t d)
+    passed-more e f used fine new = record {
+      key = x .key;
+      fine = record {
+        each = below-more _ (k + 1) (x .passed .fine .each) fine;
+        in-used = below-more _ (k + 1) (x .passed .fine .in-used) (ap (used-sds (schema-of b)) (sym (x .key .sds) ∙ sym is-d) ∙ used);
+        rise = rising-more b (presences .start) (presences .width) (by-name .key) k (presence-at k) refl (x .passed .fine .rise) (keys e ∙ f);
+        once = λ i j l h s y. go i j l h s y (ltb j (k + 1)) refl;
+      };
+      gathers = gathers-more (x .passed .gathers) t d is-t (is-d ∙ x .key .sds) ht hd;
+    }
+      where
+        go : (i j : ℕ) → i < j → j < k + 1 + 1 → getD b (presence-at i) 0 ≡ getD b (presence-at j) 0
+            → getD b (presence-at i + type-offset) 0 ≡ getD b (presence-at j + type-offset) 0 → (r : Bool) → ltb j (k + 1) ≡ r → ⊥
+        go i j l h s y true q = x .passed .fine .once i j l (ltb-true j (k + 1) q) s y
+        go i j l h s y false q =
+            let here : j ≡ k + 1 = omega (arith, ltb-false j (k + 1) q) in
+            let same-d : getD b (presence-at i) 0 ≡ d = s ∙ ap (λ (m : ℕ). getD b (presence-at m) 0) here ∙ sym (is-d ∙ x .key .sds) in
+            let same-t : getD b (presence-at i + type-offset) 0 ≡ t = y ∙ ap (λ (m : ℕ). getD b (presence-at m + type-offset) 0) here ∙ sym is-t in
+            true≢false (sym (x .passed .gathers .marked i (omega arith)) ∙ ap₂ (λ (u e : ℕ). bit (getD held u 0) e) same-t same-d ∙ new)

@@ -1,0 +1,78 @@
+-- A presence as its row is written, and the first byte of its name. Assumes nothing.
+use Prim.Native.Nat.{ℕ, _+_, _<_}
+use native.Mathlib.Nat.{add-zero}
+use native.Mathlib.Omega.{arith}
+use mathlib.Core.Path.{_≡_, refl, sym, ap, _∙_}
+use mathlib.Core.List.{List, [], _∷_, _++_, tail-eq-of-cons-eq, append-cancel-right}
+use mathlib.Core.Bool.{true}
+use lib.ListN.{length, getD, take, drop, replicate}
+use lib.Seq.{drop-drop, take-add}
+use Rattle.rules.specs.01-Lists.{same-bytes, all}
+use Rattle.rules.specs.02-Limits.{limits}
+use Rattle.rules.specs.03-Names.{letter, letter-or-digit, well-formed}
+use Rattle.rules.specs.04-Schema.{system-presence}
+use Rattle.rules.specs.07-Picture.{pad, presence-row, base-length, presence-width}
+use Rattle.rules.proofs.01-Lists.{same-bytes-is, same-bytes-refl}
+use Rattle.rules.specs.Read.{strip, name-offset, type-offset}
+use Rattle.name_fields.specs.Field.{name-field}
+use Rattle.name_fields.proofs.NamedFields.{name-field-of, name-field-padded, formed-first}
+use Rattle.rows.specs.Rows.{part}
+use Rattle.rows.proofs.Rows.{part-byte}
+use Rattle.rows.proofs.Scan.{part-cons}
+use Rattle.base.specs.Tables.{presences, row-of, shown}
+use Rattle.base.specs.Rows.{presence-at}
+use Rattle.base.specs.Back.{presence-shown}
+use Rattle.base.proofs.Shown.{presence-read}
+
+module _ (b : List ℕ) (long : length b ≡ base-length) (i : ℕ) (h : i < limits .presences) where
+  -- a row is its SDS, its field and its type
+  pub row-parts : row-of presences b i
+      ≡ getD b (presence-at i) 0 ∷ (part b (presence-at i + name-offset) (limits .name) ++ (getD b (presence-at i + type-offset) 0 ∷ []))
+  row-parts =
+      let at = presence-at i in
+      let w = limits .name in
+      part-cons b at presence-width type-offset (omega arith) refl
+      ∙ ap (λ (l : List ℕ). getD b at 0 ∷ l) (take-add w 1 (drop (at + name-offset) b)
+      ∙ ap (λ (l : List ℕ). part b (at + name-offset) w ++ l) (ap (take 1) (drop-drop w (at + name-offset) b) ∙ last))
+    where
+      last : part b (presence-at i + name-offset + limits .name) 1 ≡ getD b (presence-at i + type-offset) 0 ∷ []
+      last =
+          let same : presence-at i + name-offset + limits .name ≡ presence-at i + type-offset = omega arith in
+          rw same (part-cons b (presence-at i + type-offset) 1 0 (omega arith) refl)
+
+  pub named-written : name-field (part b (presence-at i + name-offset) (limits .name)) ≡ true → presence-row (shown presences b i) ≡ row-of presences b i
+  unfolding presence-row
+  named-written e = ap presence-row (presence-read b i) ∙ rw (name-field-padded (part b (presence-at i + name-offset) (limits .name)) e) (sym row-parts)
+
+  pub written-named : well-formed ((presence-shown b i) .name) ≡ true → presence-row (shown presences b i) ≡ row-of presences b i
+      → name-field (part b (presence-at i + name-offset) (limits .name)) ≡ true
+  unfolding presence-row
+  written-named w e =
+      let f = part b (presence-at i + name-offset) (limits .name) in
+      let last = getD b (presence-at i + type-offset) 0 ∷ [] in
+      let rest : pad (limits .name) (strip f) ++ last ≡ f ++ last = tail-eq-of-cons-eq (sym (ap presence-row (presence-read b i)) ∙ e ∙ row-parts) in
+      name-field-of f w (append-cancel-right (pad (limits .name) (strip f)) f last rest)
+
+-- the first byte of a name is not 0, and so the row is not blank
+pub name-first : (b : List ℕ) (i : ℕ) → well-formed ((presence-shown b i) .name) ≡ true → getD b (presence-at i + name-offset) 0 ≡ 0 → ⊥
+name-first b i w z =
+    let at = presence-at i + name-offset in
+    formed-first (part b at (limits .name)) w (part-byte b at (limits .name) 0 (omega arith) ∙ ap (λ (k : ℕ). getD b k 0) (add-zero at) ∙ z)
+
+pub name-used : (b : List ℕ) (i : ℕ) → well-formed ((presence-shown b i) .name) ≡ true → row-of presences b i ≡ replicate (presences .width) 0 → ⊥
+name-used b i w e =
+    name-first b i w (sym (part-byte b (presence-at i) (presences .width) name-offset (omega arith)) ∙ ap (λ (l : List ℕ). getD l name-offset 0) e)
+
+-- ---- the field of the name that a fresh base has
+
+pub object-field : (f : List ℕ) → f ≡ pad (limits .name) (system-presence .name) → same-bytes f (111 ∷ 98 ∷ 106 ∷ 101 ∷ 99 ∷ 116 ∷ replicate 10 0) ≡ true
+unfolding pad
+object-field f e = rw e (same-bytes-refl (111 ∷ 98 ∷ 106 ∷ 101 ∷ 99 ∷ 116 ∷ replicate 10 0))
+
+pub field-object : (f : List ℕ) → same-bytes f (111 ∷ 98 ∷ 106 ∷ 101 ∷ 99 ∷ 116 ∷ replicate 10 0) ≡ true → f ≡ pad (limits .name) (system-presence .name)
+unfolding pad
+field-object f e = same-bytes-is f (111 ∷ 98 ∷ 106 ∷ 101 ∷ 99 ∷ 116 ∷ replicate 10 0) e
+
+pub object-named : (f : List ℕ) → f ≡ pad (limits .name) (system-presence .name) → name-field f ≡ true
+unfolding name-field well-formed letter letter-or-digit all same-bytes pad strip
+object-named f e = rw e

@@ -1,4 +1,0 @@
-pub mod NamedLaws
-pub mod OrderLaws
-pub mod PresenceLaws
-pub mod RestLaws

@@ -1,0 +1,76 @@
+-- `check_sdss::alone_after` meets its contract: the loop keeps that each field passed behind d has another name.
+-- Assumes nothing.
+use borrow.Author.Needs.{needs}
+use Prim.Native.Nat.{ℕ, _≤_, _<_, _-_}
+use native.Mathlib.Omega.{arith}
+use mathlib.Core.Path.{_≡_, sym, ap₂, _∙_}
+use mathlib.Core.Bool.{true, true≢false}
+use borrow.Author.Count.{below-more}
+use Rattle.rules.specs.02-Limits.{limits}
+use Rattle.rules.specs.03-Names.{same-name}
+use Rattle.rows.specs.Rows.{part}
+use Rattle.rows.proofs.Decides.{decides-yes, decides-no}
+use Rattle.base.specs.Rows.{sds-at}
+use Rattle.check_sdss.proofs.alone_after.Statement.{statement}
+use Rattle.check_sdss.proofs.alone_after.Tie as tie
+
+abbrev Inv-loop : tie.InvT-loop
+Inv-loop base d e₀ e = (d < e) × (e ≤ 16) ×
+    ((k : ℕ) → k < e → d < k → same-name (part base (sds-at d) (limits .name)) (part base (sds-at k) (limits .name)) ≡ true → ⊥)
+
+abbrev μ-loop : tie.MeasureT-loop
+μ-loop base d e₀ e = 16 - e
+
+add-e : tie.Need-add-e Inv-loop μ-loop
+add-e c = search needs
+
+loop-holds : tie.Need-loop-holds Inv-loop μ-loop
+loop-holds c = (omega arith, omega arith, λ k h l. absurd (omega arith))
+
+sds-field-requires : tie.Need-sds-field-requires Inv-loop μ-loop
+sds-field-requires c κs = search needs
+
+sds-field-requires-2 : tie.Need-sds-field-requires-2 Inv-loop μ-loop
+sds-field-requires-2 c κs = search needs
+
+is-same-requires : tie.Need-is-same-requires Inv-loop μ-loop
+is-same-requires c κs = search needs
+
+returns : tie.Need-returns Inv-loop μ-loop
+returns c =
+    let at = c .before .before .before .before .before in
+    let same = ap₂ same-name (sym (c .before .before .before .sds-field .ensures)) (sym (c .before .before .sds-field2 .ensures)) in
+    decides-no (λ f. f (at .loop .e) (c .before .before .before .before .loop-test .taken) (at .loop .inv .0)
+    (same ∙ sym (c .before .is-same .ensures) ∙ c .if1 .taken))
+
+add-e-2 : tie.Need-add-e-2 Inv-loop μ-loop
+add-e-2 c = search needs
+
+loop-less : tie.Need-loop-less Inv-loop μ-loop
+loop-less c = search needs
+
+loop-again : tie.Need-loop-again Inv-loop μ-loop
+loop-again c =
+    let at = c .before .before .before .before .before in
+    let same = ap₂ same-name (sym (c .before .before .before .sds-field .ensures)) (sym (c .before .before .sds-field2 .ensures)) in
+    (omega arith, omega arith, below-more _ _ (at .loop .inv .2) (λ l q. true≢false (sym q ∙ same ∙ sym (c .before .is-same .ensures) ∙ c .if1 .left)))
+
+returns-2 : tie.Need-returns-2 Inv-loop μ-loop
+returns-2 c = decides-yes (λ k h l. c .before .loop .inv .2 k (omega arith) l)
+
+pub alone-after-spec : {M : Type 1} → statement M
+alone-after-spec =
+    tie.close
+    (tie.spec
+    Inv-loop
+    μ-loop
+    add-e
+    loop-holds
+    sds-field-requires
+    sds-field-requires-2
+    is-same-requires
+    returns
+    add-e-2
+    loop-less
+    loop-again
+    returns-2)

@@ -1,2 +1,0 @@
-pub mod UseLaws
-pub mod GroupLaws

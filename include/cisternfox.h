@@ -21,7 +21,7 @@
 #include <stddef.h>
 #include <stdint.h>
 
-#define CF_VERSION "0.1.1"
+#define CF_VERSION "0.2.0"
 
 /* What a base has room for, and its length in bytes. tests/c/test.c holds these to the library. */
 #define CF_BASE_LENGTH 13312
@@ -198,9 +198,9 @@ cf_answer cf_rename(uint8_t *base, size_t base_len, size_t sds, const uint8_t *n
  * 1: the base is not sound; 2: no SDS has the number; 6: the type is not in that SDS. */
 cf_answer cf_name(const uint8_t *base, size_t base_len, size_t sds, size_t type);
 
-/* The calls below ask under a working schema, `schema`: a list of SDS numbers, a byte each. An empty list stands for
- * every SDS in number order. A type is visible if a listed SDS holds it. Only visible types are given, and only what
- * is applied, an origin or a destination in a listed SDS counts.
+/* The calls below ask under a working schema, `schema`: a list of SDS numbers, a byte each. A type is visible if
+ * a listed SDS holds it; an empty list shows nothing: 6. Only visible types are given, and only what is applied, an
+ * origin or a destination in a listed SDS counts.
  *
  * `output` takes a list: types in rising number, each once, an entry being two bytes, low byte first. Its room is
  * counted in whole entries, and what lies beyond the entries put down stays as it was. CF_OUTPUT_LENGTH bytes are enough

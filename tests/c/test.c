@@ -478,7 +478,6 @@ static void a_fresh_base_asked(void)
     ANSWERS(DEPTH("\0", 0), 0, 0, 0, 0);
     ANSWERS(DESCENDANT_SET("\0", 0), 0, 0, 0, 0);
     ANSWERS(FIND("\0", "object"), 0, 0, 0, 0);
-    ANSWERS(FIND("", "object"), 0, 0, 0, 0);
     ANSWERS(SCAN_LINK("\0", 0, 0), 7, 0, 0, 0);
     EXPECT(is_kept());
 }
@@ -493,7 +492,7 @@ static void every_descendant(void)
     LISTS(SCAN_OBJECT("\1", TEMPLATE, 1), "\4\5", 2, 0, 0);
     LISTS(SCAN_OBJECT("\1", RADIO, 1), "\4\5", 2, 0, 0);
     LISTS(SCAN_OBJECT("\1", TEMPLATE, 0), "\5", 1, 0, 0);
-    LISTS(SCAN_OBJECT("", ADC, 3), "\0\1\2\3\5", 5, 0, 0);
+    LISTS(SCAN_OBJECT("\0\1", ADC, 3), "\0\1\2\3\5", 5, 0, 0);
     ANSWERS(DEPTH("\1", ADC), 0, 4, 0, 0);
     ANSWERS(DESCENDANT_SET("\1", TEMPLATE), 0, 1 << 4 | 1 << 5, 0, 2);
     ANSWERS(FIND("\1", "adc"), 0, ADC, 0, 0);
@@ -532,12 +531,12 @@ static void every_code(void)
     LISTS(SCAN_OBJECT("\2", TOP, 4), "", 0, 0, 0);
     LISTS(SCAN_OBJECT("\1", LOW, 5), "\5\6", 2, 0, 0);
     LISTS(SCAN_OBJECT("\1", LOW, 6), "\x9", 1, 0, 0);
-    LISTS(SCAN_OBJECT("", LOW, 7), "\7\x8\x9", 3, 0, 0);
+    LISTS(SCAN_OBJECT("\0\1\2", LOW, 7), "\7\x8\x9", 3, 0, 0);
     LISTS(SCAN_OBJECT("\2\1", TOP, 8), "\7\x9", 2, 0, 0);
     LISTS(SCAN_OBJECT("\1", LOW, 9), "\x8\x9", 2, 0, 0);
     LISTS(SCAN_LINK("\1", SEVEN, 0), "\2", 1, 0, 0);
     LISTS(SCAN_LINK("\1", SEVEN, 1), "\2\4", 2, 0, 0);
-    LISTS(SCAN_LINK("", EIGHT, 2), "\2", 1, 0, 0);
+    LISTS(SCAN_LINK("\0\1\2", EIGHT, 2), "\2", 1, 0, 0);
     LISTS(SCAN_LINK("\2\1", SEVEN, 3), "\1\2\3\4", 4, 0, 0);
     LISTS(SCAN_LINK("\2", SEVEN, 3), "\1\2", 2, 0, 0);
     LISTS(SCAN_LINK("\1", NINE, 4), "\5", 1, 0, 0);
@@ -552,7 +551,7 @@ static void the_first_listed_has_it(void)
     a_base_with_links();
     ANSWERS(FIND("\1\2", "five"), 0, FIVE, 0, 0);
     ANSWERS(FIND("\2\1", "five"), 0, SIX, 0, 0);
-    ANSWERS(FIND("", "five"), 0, FIVE, 0, 0);
+    ANSWERS(FIND("\0\1\2", "five"), 0, FIVE, 0, 0);
     ANSWERS(FIND("\2\1", "low"), 0, LOW, 0, 0);
     ANSWERS(FIND("\2", "low"), 6, 0, 0, 0);
     ANSWERS(FIND("\1", "Five"), 6, 0, 0, 0);
@@ -567,6 +566,30 @@ static void the_first_listed_has_it(void)
 
 /* Each call with all the faults that come after the number too; an SDS twice is 8 only where no lower number holds,
  * and before 15. */
+/* Each question with an empty list, and with the SDSs. */
+static void an_empty_list_shows_nothing(void)
+{
+    a_base_with_links();
+    output_length = OUTPUT;
+    ANSWERS(SCAN_OBJECT("", TOP, 0), 6, 0, 0, 0);
+    ANSWERS(SCAN_LINK("", SEVEN, 0), 6, 0, 0, 0);
+    ANSWERS(PROFILE("", LOW), 6, 0, 0, 0);
+    ANSWERS(FIND("", "object"), 6, 0, 0, 0);
+    ANSWERS(DEPTH("", 0), 6, 0, 0, 0);
+    ANSWERS(DESCENDANT_SET("", TOP), 6, 0, 0, 0);
+    ANSWERS(FIND("", "1object"), 4, 0, 0, 0);
+    ANSWERS(SCAN_OBJECT("", TOP, 10), 5, 0, 0, 0);
+    ANSWERS(SCAN_LINK("", SEVEN, 5), 5, 0, 0, 0);
+    EXPECT(is_kept());
+    LISTS(SCAN_OBJECT("\1", TOP, 0), "\2\3", 2, 0, 0);
+    LISTS(SCAN_LINK("\1", SEVEN, 0), "\2", 1, 0, 0);
+    LISTS(PROFILE("\1", LOW), "\0\1\2\3\5\6\7\x9", 4, 2, 2);
+    ANSWERS(FIND("\0", "object"), 0, 0, 0, 0);
+    ANSWERS(DEPTH("\0", 0), 0, 0, 0, 0);
+    ANSWERS(DESCENDANT_SET("\1", TOP), 0, 1 << 2 | 1 << 3 | 1 << 4, 0, 3);
+    EXPECT(is_guarded());
+}
+
 static void refusals_in_order(void)
 {
     a_base_with_links();
@@ -821,6 +844,7 @@ int main(void)
     a_long_chain();
     every_code();
     the_first_listed_has_it();
+    an_empty_list_shows_nothing();
     refusals_in_order();
     asked_at_full_width();
     a_spoiled_base_asked();

@@ -7,7 +7,6 @@ use mathlib.Core.Bool.{Bool, true, false, not}
 use Rattle.rules.specs.01-Lists.{first}
 use Rattle.rules.specs.03-Names.{Name, well-formed}
 use Rattle.rules.specs.04-Schema.{Schema, bears, type-named}
-use Rattle.rules.specs.08-Working.{listed-sdss}
 use Rattle.rules.specs.09-Refusals.{Outcome, malformed, no-name-listed}
 use Rattle.rules.specs.09-Refusals.Outcome.{done}
 use Rattle.rules.specs.11-Asks.{find, find-refusals}
@@ -15,7 +14,7 @@ use Rattle.rules.proofs.09-Refusals.{Left}
 use Rattle.working.specs.Listed.{Named-first}
 
 abbrev pub find-effect : List ℕ → Name → Schema → Outcome (List ℕ)
-find-effect w n s = done (type-named s (first (λ d. bears s d n) 0 (listed-sdss s w)) n) 0 0 []
+find-effect w n s = done (type-named s (first (λ d. bears s d n) 0 w) n) 0 0 []
 
 -- before the first test
 pub find-left : (w : List ℕ) (n : Name) (s : Schema) → Left (find w n s) (find-refusals w n s) (find-effect w n s)

@@ -14,14 +14,16 @@ use Rattle.rules.specs.05-Descent.{Descends, Chain, depth, members}
 use Rattle.rules.specs.06-Good.{Good}
 use Rattle.rules.specs.07-Picture.{picture}
 use Rattle.rules.specs.08-Working.{visible}
-use Rattle.rules.specs.09-Refusals.{Outcome, Refusals, verdict, answer-of, no-object}
+use Rattle.rules.specs.09-Refusals.{Outcome, Refusals, verdict, answer-of, refusal, no-object}
 use Rattle.rules.specs.09-Refusals.Outcome.{done}
 use Rattle.rules.specs.11-Asks.{object-scan-list, scan-object, scan-object-refusals, object-refusals, depth-of, descendant-set}
 use Rattle.rules.specs.12-Contracts.{entries, room, output-after, Listed, Answered}
+use Rattle.rules.specs.13-History.{ask-rule}
 use Rattle.rules.proofs.Bools.{and-both}
 use Rattle.rules.proofs.05-Descent.{chain-short, depth-greatest, depth-reached}
 use Rattle.rules.proofs.09-Refusals.{Passed, passed-none, passed-more, numbers-beyond}
 use Rattle.rules.proofs.11-Asks.{set-counts-list, whole-list}
+use Rattle.rules.proofs.Questions.{Question, under, unseen, empty-shows-nothing}
 
 -- ---- a verdict that is done has passed every test, if each number is above 0
 
@@ -96,3 +98,14 @@ module _ (b w : List ℕ) (t : ℕ) (s : Schema) (good : Good s) (shown : b ≡ 
     depth-longest =
         let chain : Chain s t (a .one) = rw is-depth (depth-reached good t object) in
         (chain, (λ n c. rw is-depth (depth-greatest good t n c)), chain-short good t (a .one) chain)
+
+-- ---- the empty working schema (02, Q-7): nothing is told and nothing put down, whichever of the calls asks
+
+module _ (b : List ℕ) (s : Schema) (good : Good s) (shown : b ≡ picture s) (q : Question) (a : Answer) where
+  pub nothing-listed : (before after : List ℕ) → Listed b (ask-rule (under [] q)) a before after → (a ≡ refusal (unseen q)) × (after ≡ before)
+  nothing-listed before after keeps =
+      let (e, f) = keeps .kept s good shown in
+      (e ∙ ap answer-of (empty-shows-nothing q s), f ∙ ap (output-after before) (empty-shows-nothing q s))
+
+  pub nothing-answered : Answered b (ask-rule (under [] q)) a → a ≡ refusal (unseen q)
+  nothing-answered keeps = keeps .kept s good shown ∙ ap answer-of (empty-shows-nothing q s)

@@ -10,7 +10,7 @@ use Rattle.rules.specs.01-Lists.{any, among}
 use Rattle.rules.specs.04-Schema.{Schema, Side, is-parent, side-code}
 use Rattle.rules.specs.04-Schema.Side.{origin, destination}
 use Rattle.rules.specs.05-Descent.{descends, members}
-use Rattle.rules.specs.08-Working.{listed-sdss, applied-in, end-in, upward}
+use Rattle.rules.specs.08-Working.{applied-in, end-in, upward}
 use Rattle.rules.proofs.Bools.{same-test}
 use Rattle.rules.proofs.01-Lists.{any-at, any-where, among-in, in-among}
 use Rattle.rules.proofs.05-Descent.{members-in, members-of}
@@ -152,7 +152,7 @@ module _ (s : Schema) (t : ℕ) (sdss : ℕ → Bool) where
   with-descendants p f e k = ap₂ _||_ (e k) (members-turned p (descends s k) ∙ any-alike p f e (members (descends s k)))
 
   module _ (code : ℕ) (u : code < 4) (p : ℕ → Bool) (made : (k : ℕ) → p k ≡ ends-on (code / 2) k) where
-    plain : (side : Side) (w : List ℕ) → code / 2 ≡ side-code side → ((d : ℕ) → sdss d ≡ among (listed-sdss s w) d) → (k : ℕ) → p k ≡ end-in s w t side k
+    plain : (side : Side) (w : List ℕ) → code / 2 ≡ side-code side → ((d : ℕ) → sdss d ≡ among w d) → (k : ℕ) → p k ≡ end-in s w t side k
     plain side w e listed k = made k ∙ ap (λ (x : ℕ). ends-on x k) e ∙ objects-are s w sdss listed side t k
 
     half-low : code < 2 → code / 2 ≡ 0
@@ -164,7 +164,7 @@ module _ (s : Schema) (t : ℕ) (sdss : ℕ → Bool) where
     pub end-scans : code % 2 ≡ 0 → Scanned s sdss (λ w. link-scan s w t code) p
     end-scans even = record { is = λ w listed k. go w listed k (ltb code 2) refl }
       where
-        go : (w : List ℕ) → ((d : ℕ) → sdss d ≡ among (listed-sdss s w) d) → (k : ℕ) → (x : Bool) → ltb code 2 ≡ x → p k ≡ link-scan s w t code k
+        go : (w : List ℕ) → ((d : ℕ) → sdss d ≡ among w d) → (k : ℕ) → (x : Bool) → ltb code 2 ≡ x → p k ≡ link-scan s w t code k
         go w listed k true e =
             let same : code ≡ 0 = omega (arith, ltb-true code 2 e) in
             plain origin w (half-low (ltb-true code 2 e)) listed k ∙ ap (λ (c : ℕ). link-scan s w t c k) (sym same)
@@ -176,12 +176,12 @@ module _ (s : Schema) (t : ℕ) (sdss : ℕ → Bool) where
         → Scanned s sdss (λ w. link-scan s w t code) r
     end-all-scans odd q r down joined = record { is = λ w listed k. go w listed k (ltb code 2) refl }
       where
-        all-of : (side : Side) (w : List ℕ) → code / 2 ≡ side-code side → ((d : ℕ) → sdss d ≡ among (listed-sdss s w) d) → (k : ℕ)
+        all-of : (side : Side) (w : List ℕ) → code / 2 ≡ side-code side → ((d : ℕ) → sdss d ≡ among w d) → (k : ℕ)
             → r k ≡ any (λ a. end-in s w t side a) (upward s k)
         all-of side w e listed k =
             joined k ∙ ap (λ (x : Bool). p k || x) (down k) ∙ with-descendants p (λ a. end-in s w t side a) (plain side w e listed) k
 
-        go : (w : List ℕ) → ((d : ℕ) → sdss d ≡ among (listed-sdss s w) d) → (k : ℕ) → (x : Bool) → ltb code 2 ≡ x → r k ≡ link-scan s w t code k
+        go : (w : List ℕ) → ((d : ℕ) → sdss d ≡ among w d) → (k : ℕ) → (x : Bool) → ltb code 2 ≡ x → r k ≡ link-scan s w t code k
         go w listed k true e =
             let same : code ≡ 1 = omega (arith, ltb-true code 2 e) in
             all-of origin w (half-low (ltb-true code 2 e)) listed k ∙ ap (λ (c : ℕ). link-scan s w t c k) (sym same)

@@ -6,7 +6,7 @@ use mathlib.Core.Bool.{Bool, true, false, not}
 use Rattle.rules.specs.01-Lists.{any, among, repeated}
 use Rattle.rules.specs.04-Schema.{Schema, Kind, kind-of, is-object, is-link}
 use Rattle.rules.specs.07-Picture.{Sound}
-use Rattle.rules.specs.08-Working.{listed-sdss, visible}
+use Rattle.rules.specs.08-Working.{visible}
 use Rattle.rules.specs.09-Refusals.{_when_, Refusals, unknown-sds, not-visible}
 use Rattle.base.specs.Back.{schema-of}
 use Rattle.base.specs.Tested.{Tested}
@@ -33,7 +33,7 @@ pub record Through (b w : List ℕ) (t : ℕ) (link : Bool) (v : View) : Type 0 
   pub sound : Sound b
   pub below : t < 128
   pub kind : of-kind link (kind-of (schema-of b) t) ≡ true
-  pub listed : (d : ℕ) → has (v .listed) d ≡ among (listed-sdss (schema-of b) w) d
+  pub listed : (d : ℕ) → has (v .listed) d ≡ among w d
   pub visible : (k : ℕ) → has (v .visible) k ≡ visible (schema-of b) w k
 
 pub record Viewed (b w : List ℕ) (t : ℕ) (link known : Bool) (v : View) : Type 0 where

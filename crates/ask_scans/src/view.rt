@@ -49,7 +49,7 @@ pub fn of(base: &[u8], schema: &[u8], t: usize, link: bool, known: bool) -> View
     if !known {
         return refused(5);
     }
-    let listed = working::listed::listed(base, schema);
+    let listed = working::listed::listed(schema);
     let visible = visible::visible(base, listed);
     if !visible.holds(t) {
         return refused(6);

@@ -11,7 +11,7 @@ use Rattle.rules.specs.04-Schema.{Schema, Presence, kind-of, is-used, ho
 use Rattle.rules.specs.05-Descent.{Descends}
 use Rattle.rules.specs.05-Descent.Descends.{by-parent, by-step}
 use Rattle.rules.specs.06-Good.{Good}
-use Rattle.rules.specs.08-Working.{listed-sdss, visible, shown}
+use Rattle.rules.specs.08-Working.{visible, shown}
 use Rattle.rules.proofs.Bools.{and-both, and-of}
 use Rattle.rules.proofs.01-Lists.{any-at, any-where}
 use Rattle.rules.proofs.05-Descent.{used-below, members-in, members-of}
@@ -44,7 +44,7 @@ module _ {s : Schema} (good : Good s) where
 
   pub visible-used : (w : List ℕ) (t : ℕ) → visible s w t ≡ true → is-used (kind-of s t) ≡ true
   unfolding visible
-  visible-used w t e = let (d, i, h) = any-where (λ d. present s d t) (listed-sdss s w) e in present-used d t h
+  visible-used w t e = let (d, i, h) = any-where (λ d. present s d t) w e in present-used d t h
 
   ancestors-present : (d : ℕ) {t a : ℕ} → present s d t ≡ true → Descends s t a → present s d a ≡ true
   ancestors-present d {t} {a} e (by-parent by) = good .parents-present d t a e by
@@ -54,7 +54,7 @@ module _ {s : Schema} (good : Good s) where
   pub ancestors-visible : (w : List ℕ) (t a : ℕ) → visible s w t ≡ true → Descends s t a → visible s w a ≡ true
   unfolding visible
   ancestors-visible w t a e r =
-      let (d, i, h) = any-where (λ d. present s d t) (listed-sdss s w) e in
+      let (d, i, h) = any-where (λ d. present s d t) w e in
       any-at (λ d. present s d a) i (ancestors-present d h r)
 
   -- what a list shows

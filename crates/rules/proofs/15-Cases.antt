@@ -8,7 +8,7 @@ use Rattle.rules.specs.04-Schema.{fresh, used-sds, parents, is-parent, r
 use Rattle.rules.specs.06-Good.{presence-before, application-before, end-before}
 use Rattle.rules.specs.05-Descent.{climbs, descends, height, depth, members}
 use Rattle.rules.specs.07-Picture.{pad, sds-row, type-row, table, name-start}
-use Rattle.rules.specs.08-Working.{listed-sdss, visible, applied-in, end-in, shown, upward}
+use Rattle.rules.specs.08-Working.{visible, applied-in, end-in, shown, upward}
 use Rattle.rules.specs.09-Refusals as Refusals
 use Rattle.rules.specs.10-Changes as Changes
 use Rattle.rules.specs.11-Asks as Asks
@@ -23,7 +23,7 @@ unfolding
     presence-before application-before end-before
     climbs descends greatest height depth members
     pad sds-row type-row table name-start
-    listed-sdss visible applied-in end-in shown upward
+    visible applied-in end-in shown upward
     Refusals.verdict Refusals.unknown-sds Refusals.system-sds Refusals.malformed Refusals.malformed-new Refusals.unknown-value-kind
     Refusals.no-pair Refusals.unknown-object-scan Refusals.unknown-link-scan Refusals.not-1-to-4 Refusals.no-such-name
     Refusals.no-name-listed Refusals.not-visible Refusals.not-present Refusals.no-object Refusals.no-attribute Refusals.no-link

@@ -11,4 +11,5 @@ pub mod 09-Refusals
 pub mod NameTests
 pub mod 11-Asks
 pub mod 12-Contracts
+pub mod Questions
 pub mod 15-Cases

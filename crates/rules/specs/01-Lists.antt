@@ -1,4 +1,5 @@
--- The rules of document 01 as definitions. Read the files in the order of their numbers, with document 01 beside them:
+-- The rules of document 01, as document 02 amends them, as definitions. Read the files in the order of their numbers, with both beside
+-- them (docs/changes has the requests of 02 that are in):
 --
 --   01 Lists      words on lists and bytes that the others use
 --   02 Limits     the room of a base
@@ -16,8 +17,8 @@
 --   14 Run        the run program
 --   15 Cases      the marked cases
 --
--- A comment in quotation marks is 01's own sentence. Nothing here is proved; the laws stand in proofs/, in files named alike. The
--- files without a number, Read and Parts, are the code's and the proofs': no numbered file uses them.
+-- A comment in quotation marks is 01's own sentence; one of 02's has its request behind it. Nothing here is proved; the laws stand in
+-- proofs/, in files named alike. The files without a number, Read and Parts, are the code's and the proofs': no numbered file uses them.
 --
 -- How to read a definition, for a reader of Ada or C:
 --

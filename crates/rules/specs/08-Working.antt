@@ -2,27 +2,21 @@
 use Prim.Native.Nat.{ℕ}
 use mathlib.Core.List.{List, [], _∷_}
 use mathlib.Core.Bool.{Bool, _&&_}
-use Rattle.rules.specs.01-Lists.{any, numbers}
-use Rattle.rules.specs.02-Limits.{limits}
-use Rattle.rules.specs.04-Schema.{Schema, Side, used-sds, is-parent, present, applied, has-end}
+use Rattle.rules.specs.01-Lists.{any}
+use Rattle.rules.specs.04-Schema.{Schema, Side, is-parent, present, applied, has-end}
 use Rattle.rules.specs.04-Schema.Side.{origin, destination}
 use Rattle.rules.specs.05-Descent.{descends, members}
 
--- "An empty list stands for every SDS in number order."
-unfoldable pub listed-sdss : Schema → List ℕ → List ℕ
-listed-sdss s [] = numbers 0 (limits .sdss) (used-sds s)
-listed-sdss s (d ∷ ds) = d ∷ ds
-
--- "A type is visible if present in a listed SDS."
+-- "A type is visible if present in a listed SDS." "An empty list now makes nothing visible" (02, Q-7).
 unfoldable pub visible : Schema → List ℕ → ℕ → Bool
-visible s w t = any (λ d. present s d t) (listed-sdss s w)
+visible s w t = any (λ d. present s d t) w
 
 -- "only applications and ends of listed SDSs count"
 unfoldable pub applied-in : Schema → List ℕ → ℕ → ℕ → Bool
-applied-in s w t a = any (λ d. applied s d t a) (listed-sdss s w)
+applied-in s w t a = any (λ d. applied s d t a) w
 
 unfoldable pub end-in : Schema → List ℕ → ℕ → Side → ℕ → Bool
-end-in s w l side o = any (λ d. has-end s d l side o) (listed-sdss s w)
+end-in s w l side o = any (λ d. has-end s d l side o) w
 
 -- "only visible types are listed"
 unfoldable pub shown : Schema → List ℕ → (ℕ → Bool) → List ℕ

@@ -12,7 +12,7 @@ use Rattle.rules.specs.03-Names.{Name, well-formed, blank, same-name}
 use Rattle.rules.specs.04-Schema.{Schema, used-sds, kind-of, is-used, is-object, is-attribute, is-link, parents, is-parent, reverse}
 use Rattle.rules.specs.04-Schema.{present, bears, type-named}
 use Rattle.rules.specs.05-Descent.{members}
-use Rattle.rules.specs.08-Working.{listed-sdss, visible}
+use Rattle.rules.specs.08-Working.{visible}
 
 -- what a call comes to: refused by a number, with a value that it tells; or done, with its values and what it makes: of a changing
 -- call the next schema, of an asking call the list that it puts down
@@ -96,7 +96,7 @@ unfoldable pub no-such-name : Schema → ℕ → Name → Bool
 no-such-name s d n = not (bears s d n)
 
 unfoldable pub no-name-listed : Schema → List ℕ → Name → Bool
-no-name-listed s w n = not (any (λ d. bears s d n) (listed-sdss s w))
+no-name-listed s w n = not (any (λ d. bears s d n) w)
 
 unfoldable pub not-visible : Schema → List ℕ → ℕ → Bool
 not-visible s w t = not (visible s w t)

@@ -9,7 +9,7 @@ use Rattle.rules.specs.03-Names.{Name}
 use Rattle.rules.specs.04-Schema.{Schema, bears, holds-type, type-named, local-name}
 use Rattle.rules.specs.05-Descent.{descends, depth, members}
 use Rattle.rules.specs.07-Picture.{name-start}
-use Rattle.rules.specs.08-Working.{listed-sdss, visible, shown, object-scans, link-scans, ancestor, attribute-all, link-origin-all}
+use Rattle.rules.specs.08-Working.{visible, shown, object-scans, link-scans, ancestor, attribute-all, link-origin-all}
 use Rattle.rules.specs.09-Refusals.{Outcome, Refusals, _when_, verdict, unknown-sds, malformed, unknown-object-scan, unknown-link-scan}
 use Rattle.rules.specs.09-Refusals.{no-name-listed, not-visible, not-present, no-object, no-link, short-output}
 use Rattle.rules.specs.09-Refusals.Outcome.{done}
@@ -94,7 +94,7 @@ find-refusals w n s =
     ∷ []
 
 unfoldable pub find : List ℕ → Name → Schema → Outcome (List ℕ)
-find w n s = verdict (find-refusals w n s) (done (type-named s (first (λ d. bears s d n) 0 (listed-sdss s w)) n) 0 0 [])
+find w n s = verdict (find-refusals w n s) (done (type-named s (first (λ d. bears s d n) 0 w) n) 0 0 [])
 
 -- "Depth of an object type." Call 13 asks the same of its inputs.
 abbrev pub object-refusals : List ℕ → ℕ → Schema → Refusals

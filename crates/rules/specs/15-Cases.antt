@@ -138,8 +138,25 @@ applications-and-ends =
 
 abbrev pub own : List Row
 own =
-    -- an empty list stands for every SDS
-    calls (asks (find [] (bytes "object")) (success 0 0 0) [] ∷ asks (depth-of [] 0) (success 0 0 0) [] ∷ [])
+    -- an empty list shows nothing (02, Q-7): each question is 6, and done where the SDS is listed; 4 and 5 come first
+    calls
+    (ship
+    ++ (asks (scan-object [] 1 1 9) (refusal 6) []
+    ∷ asks (scan-object (1 ∷ []) 1 1 9) (success 1 0 0) (2 ∷ [])
+    ∷ asks (scan-link [] 5 4 9) (refusal 6) []
+    ∷ asks (scan-link (1 ∷ []) 5 4 9) (success 0 0 0) []
+    ∷ asks (profile [] 0 9) (refusal 6) []
+    ∷ asks (profile (1 ∷ []) 0 9) (success 0 0 0) []
+    ∷ asks (find [] (bytes "object")) (refusal 6) []
+    ∷ asks (find (0 ∷ []) (bytes "object")) (success 0 0 0) []
+    ∷ asks (depth-of [] 0) (refusal 6) []
+    ∷ asks (depth-of (0 ∷ []) 0) (success 0 0 0) []
+    ∷ asks (descendant-set [] 0) (refusal 6) []
+    ∷ asks (descendant-set (1 ∷ []) 0) (success 6 0 2) []
+    ∷ asks (find [] (bytes "1unit")) (refusal 4) []
+    ∷ asks (scan-object [] 1 10 9) (refusal 5) []
+    ∷ asks (scan-link [] 5 5 9) (refusal 5) []
+    ∷ []))
     -- a type that is not visible is 6, even if the list has an SDS twice
     ∷ calls (asks (scan-object (0 ∷ 0 ∷ []) 5 1 0) (refusal 6) [] ∷ asks (scan-object (0 ∷ 0 ∷ []) 0 1 0) (refusal 8) [] ∷ [])
     -- a pair comes together, by either name

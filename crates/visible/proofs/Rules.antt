@@ -7,7 +7,7 @@ use lib.Dec.{eqb}
 use borrow.Author.Tests.{eqb-true, eq-eqb}
 use Rattle.rules.specs.01-Lists.{_∈_, any, among}
 use Rattle.rules.specs.04-Schema.{Schema, Side, End, holds-type, present, is-application, applied, side-code, is-end, has-end}
-use Rattle.rules.specs.08-Working.{listed-sdss, visible, applied-in, end-in}
+use Rattle.rules.specs.08-Working.{visible, applied-in, end-in}
 use Rattle.rules.proofs.Bools.{same-test, and-both, and-of}
 use Rattle.rules.proofs.01-Lists.{any-at, any-where, among-in, in-among}
 use Rattle.visible.specs.Shown.{gathered}
@@ -25,23 +25,23 @@ module _ {A : Type 0} (test : A → Bool) (type : A → ℕ) (l : List A) (k : �
   unfolding gathered
   gathered-at {x} i t q = any-at (λ x. test x && eqb k (type x)) i (and-of (test x) (eqb k (type x)) t (eq-eqb k (type x) q))
 
-module _ (s : Schema) (w : List ℕ) (sdss : ℕ → Bool) (listed : (d : ℕ) → sdss d ≡ among (listed-sdss s w) d) where
-  inside : {d : ℕ} → sdss d ≡ true → d ∈ listed-sdss s w
-  inside {d} e = among-in (listed-sdss s w) d (sym (listed d) ∙ e)
+module _ (s : Schema) (w : List ℕ) (sdss : ℕ → Bool) (listed : (d : ℕ) → sdss d ≡ among w d) where
+  inside : {d : ℕ} → sdss d ≡ true → d ∈ w
+  inside {d} e = among-in w d (sym (listed d) ∙ e)
 
-  held : {d : ℕ} → d ∈ listed-sdss s w → sdss d ≡ true
+  held : {d : ℕ} → d ∈ w → sdss d ≡ true
   held {d} i = listed d ∙ in-among i
 
   pub visible-are : (k : ℕ) → gathered (λ p. sdss (p .sds)) (λ p. p .type) (s .presences) k ≡ visible s w k
   unfolding visible present
   visible-are k =
-      same-test (gathered (λ p. sdss (p .sds)) (λ p. p .type) (s .presences) k) (any (λ d. any (holds-type d k) (s .presences)) (listed-sdss s w))
+      same-test (gathered (λ p. sdss (p .sds)) (λ p. p .type) (s .presences) k) (any (λ d. any (holds-type d k) (s .presences)) w)
       (λ e.
       let (p, i, t, q) = gathered-where (λ p. sdss (p .sds)) (λ p. p .type) (s .presences) k e in
       any-at (λ d. any (holds-type d k) (s .presences)) (inside t)
       (any-at (holds-type (p .sds) k) i (and-of (eqb (p .sds) (p .sds)) (eqb (p .type) k) (eq-eqb (p .sds) (p .sds) refl) (eq-eqb (p .type) k (sym q)))))
       (λ e.
-      let (d, i, h) = any-where (λ d. any (holds-type d k) (s .presences)) (listed-sdss s w) e in
+      let (d, i, h) = any-where (λ d. any (holds-type d k) (s .presences)) w e in
       let (p, j, g) = any-where (holds-type d k) (s .presences) h in
       let (x, y) = and-both (eqb (p .sds) d) (eqb (p .type) k) g in
       gathered-at (λ p. sdss (p .sds)) (λ p. p .type) (s .presences) k j (ap sdss (eqb-true (p .sds) d x) ∙ held i) (sym (eqb-true (p .type) k y)))
@@ -52,18 +52,18 @@ module _ (s : Schema) (w : List ℕ) (sdss : ℕ → Bool) (listed : (d : ℕ) �
     unfolding applied-in applied
     attributes-are k =
         same-test (gathered (λ x. sdss (x .sds) && types (x .to)) (λ x. x .attribute) (s .applications) k)
-        (any (λ a. any (λ d. any (is-application d a k) (s .applications)) (listed-sdss s w)) l)
+        (any (λ a. any (λ d. any (is-application d a k) (s .applications)) w) l)
         (λ e.
         let (x, i, t, q) = gathered-where (λ x. sdss (x .sds) && types (x .to)) (λ x. x .attribute) (s .applications) k e in
         let (u, v) = and-both (sdss (x .sds)) (types (x .to)) t in
-        any-at (λ a. any (λ d. any (is-application d a k) (s .applications)) (listed-sdss s w)) (among-in l (x .to) (sym (of (x .to)) ∙ v))
+        any-at (λ a. any (λ d. any (is-application d a k) (s .applications)) w) (among-in l (x .to) (sym (of (x .to)) ∙ v))
         (any-at (λ d. any (is-application d (x .to) k) (s .applications)) (inside u)
         (any-at (is-application (x .sds) (x .to) k) i
         (and-of (eqb (x .sds) (x .sds)) (eqb (x .to) (x .to) && eqb (x .attribute) k) (eq-eqb (x .sds) (x .sds) refl)
         (and-of (eqb (x .to) (x .to)) (eqb (x .attribute) k) (eq-eqb (x .to) (x .to) refl) (eq-eqb (x .attribute) k (sym q)))))))
         (λ e.
-        let (a, i, h) = any-where (λ a. any (λ d. any (is-application d a k) (s .applications)) (listed-sdss s w)) l e in
-        let (d, j, g) = any-where (λ d. any (is-application d a k) (s .applications)) (listed-sdss s w) h in
+        let (a, i, h) = any-where (λ a. any (λ d. any (is-application d a k) (s .applications)) w) l e in
+        let (d, j, g) = any-where (λ d. any (is-application d a k) (s .applications)) w h in
         let (x, m, f) = any-where (is-application d a k) (s .applications) g in
         let (u, v) = and-both (eqb (x .sds) d) (eqb (x .to) a && eqb (x .attribute) k) f in
         let (y, z) = and-both (eqb (x .to) a) (eqb (x .attribute) k) v in
@@ -89,7 +89,7 @@ module _ (s : Schema) (w : List ℕ) (sdss : ℕ → Bool) (listed : (d : ℕ) �
     end-where : (l o : ℕ) → end-in s w l side o ≡ true → (e : End) × (e ∈ s .ends) × (counts e ≡ true) × (e .link ≡ l) × (e .object ≡ o)
     unfolding end-in has-end
     end-where l o h =
-        let (d, j, g) = any-where (λ d. any (is-end d l side o) (s .ends)) (listed-sdss s w) h in
+        let (d, j, g) = any-where (λ d. any (is-end d l side o) (s .ends)) w h in
         let (e, m, f) = any-where (is-end d l side o) (s .ends) g in
         let (u, v) = and-both (eqb (e .sds) d) (eqb (e .link) l && (eqb (side-code (e .side)) (side-code side) && eqb (e .object) o)) f in
         let (x, y) = and-both (eqb (e .link) l) (eqb (side-code (e .side)) (side-code side) && eqb (e .object) o) v in

@@ -1,22 +1,16 @@
--- What a list of SDSs stands for: what a walk over its numbers finds, as far as it has come. Assumes nothing.
+-- A walk over the numbers of a list of SDSs: what it has found, as far as it has come. Assumes nothing.
 use Prim.Native.Nat.{ℕ, zero, suc, _+_, _≤_, _<_}
-use native.Mathlib.Nat.{add-zero}
 use native.Mathlib.Numerals.{add-one}
 use native.Mathlib.Omega.{arith}
 use mathlib.Core.Path.{_≡_, refl, sym, ap, _∙_}
 use mathlib.Core.List.{List, [], _∷_}
-use mathlib.Core.Bool.{Bool, true, false, not, cond, _||_, or-false}
-use lib.Dec.{leb, eqb}
+use mathlib.Core.Bool.{Bool, true, false, _||_, or-false}
+use lib.Dec.{eqb}
 use lib.ListN.{length, getD, drop}
 use lib.Seq.{drop-cons}
 use borrow.Author.Tests.{eqb-true, eqb-false, eq-eqb, ne-eqb}
-use Rattle.rules.specs.01-Lists.{any, without, among, repeated, numbers}
-use Rattle.rules.specs.04-Schema.{Schema, used-sds}
-use Rattle.rules.specs.08-Working.{listed-sdss}
-use Rattle.rules.specs.09-Refusals.{unknown-sds}
-use Rattle.rules.proofs.Bools.{or-neither}
+use Rattle.rules.specs.01-Lists.{any, among, repeated}
 use Rattle.rules.proofs.01-Lists.{any-nowhere}
-use Rattle.working.specs.Listed.{drawn-from}
 
 -- what is left behind one place more, and behind the last
 drop-next : (l : List ℕ) (i : ℕ) → i < length l → drop i l ≡ getD l i 0 ∷ drop (i + 1) l
@@ -80,87 +74,22 @@ module _ {w : List ℕ} where
     unfolding any repeated
     met-all h = met .is ∙ rw (drop-past w i h)
 
--- ---- the numbers that pass, gathered
+-- ---- the numbers, gathered
 
--- p holds of the numbers before place i that are not left out, and of no other
-pub record Gathered (out : ℕ → Bool) (l : List ℕ) (i : ℕ) (p : ℕ → Bool) : Type 0 where
-  pub is : (k : ℕ) → among (without out l) k ≡ p k || among (without out (drop i l)) k
+-- p holds of the numbers before place i, and of no other
+pub record Gathered (w : List ℕ) (i : ℕ) (p : ℕ → Bool) : Type 0 where
+  pub is : (k : ℕ) → among w k ≡ p k || among (drop i w) k
 
-module _ {out : ℕ → Bool} {l : List ℕ} where
-  pub gathered-none : (p : ℕ → Bool) → ((k : ℕ) → p k ≡ false) → Gathered out l 0 p
-  gathered-none p none = record { is = λ k. ap (λ (b : Bool). b || among (without out l) k) (sym (none k)) }
+module _ {w : List ℕ} where
+  pub gathered-none : (p : ℕ → Bool) → ((k : ℕ) → p k ≡ false) → Gathered w 0 p
+  gathered-none p none = record { is = λ k. ap (λ (b : Bool). b || among w k) (sym (none k)) }
 
-  module _ {i : ℕ} {p : ℕ → Bool} (g : Gathered out l i p) where
-    pub gathered-skip : i < length l → out (getD l i 0) ≡ true → Gathered out l (i + 1) p
-    unfolding without
-    gathered-skip h e = record { is = λ k. g .is k ∙ rw (drop-next l i h, e) }
+  module _ {i : ℕ} {p : ℕ → Bool} (g : Gathered w i p) where
+    pub gathered-more : (q : ℕ → Bool) → i < length w → ((k : ℕ) → q k ≡ eqb k (getD w i 0) || p k) → Gathered w (i + 1) q
+    unfolding any
+    gathered-more q h add =
+        record { is = λ k. g .is k ∙ rw (drop-next w i h, add k) (either (p k) (eqb k (getD w i 0)) (among (drop (i + 1) w) k)) }
 
-    pub gathered-more : (q : ℕ → Bool) → i < length l → out (getD l i 0) ≡ false → ((k : ℕ) → q k ≡ eqb k (getD l i 0) || p k) → Gathered out l (i + 1) q
-    unfolding without any
-    gathered-more q h e add =
-        record { is = λ k. g .is k ∙ rw (drop-next l i h, e, add k) (either (p k) (eqb k (getD l i 0)) (among (without out (drop (i + 1) l)) k)) }
-
-    pub gathered-all : length l ≤ i → (k : ℕ) → p k ≡ among (without out l) k
-    unfolding without any
-    gathered-all h k = sym (g .is k ∙ rw (drop-past l i h) (or-false (p k)))
-
--- ---- what the numbers are
-
-every : ℕ → ℕ → List ℕ
-every a m = numbers a m (λ d. true)
-
-every-long : (a m : ℕ) → length (every a m) ≡ m
-unfolding every numbers
-every-long a zero = refl
-every-long a (suc m) = ap suc (every-long (suc a) m)
-
-every-at : (a m i : ℕ) → i < m → getD (every a m) i 0 ≡ a + i
-unfolding every numbers
-every-at a zero i h = absurd (omega arith)
-every-at a (suc m) zero h = sym (add-zero a)
-every-at a (suc m) (suc i) h = omega (arith, every-at (suc a) m i (omega arith))
-
--- of an empty list
-pub empty-long : (w : List ℕ) → length w ≡ 0 → 16 ≡ length (drawn-from w)
-unfolding drawn-from every
-empty-long [] e = sym (every-long 0 16)
-empty-long (d ∷ w) e = absurd (omega arith)
-
-pub empty-at : (w : List ℕ) (i : ℕ) → length w ≡ 0 → i < length (drawn-from w) → i ≡ getD (drawn-from w) i 0
-unfolding drawn-from every
-empty-at [] i e h = omega (arith, every-at 0 16 i (omega (arith, every-long 0 16)))
-empty-at (d ∷ w) i e h = absurd (omega arith)
-
--- of another
-pub itself : (w : List ℕ) → (length w ≡ 0 → ⊥) → w ≡ drawn-from w
-unfolding drawn-from
-itself [] n = absurd (n refl)
-itself (d ∷ w) n = refl
-
--- ---- those of them that are used are the SDSs listed
-
-abbrev pub unused-sds : Schema → ℕ → Bool
-unused-sds s d = not (used-sds s d)
-
-numbers-without : (p : ℕ → Bool) (a m : ℕ) → numbers a m p ≡ without (λ d. not (p d)) (every a m)
-unfolding every numbers without
-numbers-without p a zero = refl
-numbers-without p a (suc m) = go (p a) (numbers-without p (suc a) m)
-  where
-    go : (b : Bool) → numbers (suc a) m p ≡ without (λ d. not (p d)) (every (suc a) m)
-        → cond b (a ∷ numbers (suc a) m p) (numbers (suc a) m p)
-        ≡ cond (not b) (without (λ d. not (p d)) (every (suc a) m)) (a ∷ without (λ d. not (p d)) (every (suc a) m))
-    go true e = ap (λ (l : List ℕ). a ∷ l) e
-    go false e = e
-
-known-stay : (s : Schema) (l : List ℕ) → any (unknown-sds s) l ≡ false → without (unused-sds s) l ≡ l
-unfolding any without unknown-sds
-known-stay s [] e = refl
-known-stay s (d ∷ l) e =
-    let (here, rest) = or-neither (unknown-sds s d) (any (unknown-sds s) l) e in
-    rw (or-neither (leb 16 d) (not (used-sds s d)) here .1, known-stay s l rest)
-
-pub listed-is : (s : Schema) (w : List ℕ) → any (unknown-sds s) w ≡ false → listed-sdss s w ≡ without (unused-sds s) (drawn-from w)
-unfolding listed-sdss drawn-from every
-listed-is s [] e = numbers-without (used-sds s) 0 16
-listed-is s (d ∷ w) e = sym (known-stay s (d ∷ w) e)
+    pub gathered-all : length w ≤ i → (k : ℕ) → p k ≡ among w k
+    unfolding any
+    gathered-all h k = sym (g .is k ∙ rw (drop-past w i h) (or-false (p k)))

@@ -9,6 +9,19 @@ use std::collections::BTreeMap;
 /// Each number of each call should come up at least so often.
 const OFTEN: usize = 20;
 
+/// So should all that is answered under an empty list, on a sound base.
+const UNLISTED: [&str; 9] = [
+    "no SDS listed: scan_object 5",
+    "no SDS listed: scan_object 6",
+    "no SDS listed: scan_link 5",
+    "no SDS listed: scan_link 6",
+    "no SDS listed: profile 6",
+    "no SDS listed: find 4",
+    "no SDS listed: find 6",
+    "no SDS listed: depth 6",
+    "no SDS listed: descendant_set 6",
+];
+
 /// Calls that have something in common.
 #[derive(Clone, Copy, Default)]
 pub struct Seen {
@@ -55,11 +68,13 @@ impl Counts {
             0..10 => format!("{name}, code {code}"),
             _ => format!("{name}, a code over 9"),
         });
-        let list = match asked.schema {
-            [] => "no SDS listed",
+        let is_used = |&sds: &u8| schema.sdss.contains_key(&sds.into());
+        let list: &str = match asked.schema {
+            [] => &format!("no SDS listed: {name} {}", answer[0]),
             list if list.len() > Schema::SDSS => "more than 16 SDSs listed",
             list if list.iter().any(|&sds| usize::from(sds) >= Schema::SDSS) => "an SDS over 15 listed",
             list if (1..list.len()).any(|n| list[..n].contains(&list[n])) => "an SDS listed twice",
+            list if list.len() == schema.sdss.len() && list.iter().all(is_used) => "all SDSs listed",
             [_] => "one SDS listed",
             _ => "several SDSs listed",
         };
@@ -80,21 +95,23 @@ impl Counts {
         }
     }
 
-    /// The pairs of a call and a number that it can answer that came up too seldom, in words.
+    /// The pairs of a call and a number that it can answer that came up too seldom, in words; under an empty list too.
     pub fn seldom(&self) -> Vec<String> {
         let mut seldom = Vec::new();
         for (call, counts) in CALLS.iter().zip(&self.answered) {
             let numbers = [0].iter().chain(call.refusals).filter(|&&no| counts[no] < OFTEN);
             seldom.extend(numbers.map(|no| format!("{} {no}", call.name)));
         }
+        let is_seldom = |what: &&str| self.asked.get(*what).is_none_or(|seen| seen.calls < OFTEN);
+        seldom.extend(UNLISTED.into_iter().filter(is_seldom).map(String::from));
         seldom
     }
 
     pub fn print(&self) {
         self.print_answers();
-        println!("\n{:<28}{:>8}{:>8}{:>14}", "asked", "calls", "done", "longest list");
+        println!("\n{:<32}{:>8}{:>8}{:>14}", "asked", "calls", "done", "longest list");
         for (what, seen) in &self.asked {
-            println!("{what:<28}{:>8}{:>8}{:>14}", seen.calls, seen.done, seen.longest);
+            println!("{what:<32}{:>8}{:>8}{:>14}", seen.calls, seen.done, seen.longest);
         }
         println!("\n{:<28}{:>8}{:>10}", "spoiled", "sound", "not sound");
         for ((name, _), [sound, unsound]) in WAYS.iter().zip(&self.spoiled) {

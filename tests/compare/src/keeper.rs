@@ -593,12 +593,9 @@ impl Schema {
         Ok((working, what))
     }
 
-    /// The SDSs listed, none if one of them is unused. An empty list stands for every SDS in number order.
+    /// The SDSs listed, none if one of them is unused. An empty list makes nothing visible.
     fn working_schema(&self, list: &[u8]) -> Option<WorkingSchema<'_>> {
-        let sdss: Vec<&Sds> = match list {
-            [] => self.sdss.values().collect(),
-            list => list.iter().map(|&sds| self.sdss.get(&sds.into())).collect::<Option<_>>()?,
-        };
+        let sdss: Vec<&Sds> = list.iter().map(|&sds| self.sdss.get(&sds.into())).collect::<Option<_>>()?;
         let visible = sdss.iter().flat_map(|sds| sds.presences.values().copied()).collect();
         Some(WorkingSchema { sdss, visible })
     }

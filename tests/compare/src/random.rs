@@ -438,12 +438,14 @@ impl Caller {
 
     fn scan_object(&mut self, schema: &Schema) -> Call {
         let list = self.list(schema);
-        Call::ScanObject { ty: self.ty(schema, &list, Schema::is_object), code: self.code(10), schema: list }
+        let code = if list.is_empty() { self.odd_number(10) } else { self.code(10) };
+        Call::ScanObject { ty: self.ty(schema, &list, Schema::is_object), code, schema: list }
     }
 
     fn scan_link(&mut self, schema: &Schema) -> Call {
         let list = self.list(schema);
-        Call::ScanLink { ty: self.ty(schema, &list, Schema::is_link), code: self.code(5), schema: list }
+        let code = if list.is_empty() { self.odd_number(5) } else { self.code(5) };
+        Call::ScanLink { ty: self.ty(schema, &list, Schema::is_link), code, schema: list }
     }
 
     fn profile(&mut self, schema: &Schema) -> Call {
@@ -457,7 +459,9 @@ impl Caller {
             Some(sds) => sds.into(),
             None => self.sds(schema),
         };
-        Call::Find { name: self.borne_name(schema, sds, any_type), schema: list }
+        let is_malformed = list.is_empty() && self.random.one_in(3);
+        let name = if is_malformed { Text(self.malformed()) } else { self.borne_name(schema, sds, any_type) };
+        Call::Find { name, schema: list }
     }
 
     fn depth(&mut self, schema: &Schema) -> Call {
@@ -626,15 +630,15 @@ impl Caller {
         self.end(schema, sds)
     }
 
-    /// A working schema: none, some or all of the used SDSs; at times one twice, or one that is not used.
+    /// A working schema: some or all of the used SDSs; at times none, one twice, or one that is not used. Under an
+    /// empty list no call is done, so there an unknown code and a malformed name are drawn more often than elsewhere.
     fn list(&mut self, schema: &Schema) -> Vec<u8> {
         let used: Vec<u8> = schema.sdss.keys().map(|&sds| sds as u8).collect();
         let mut list = self.random.shuffled(used);
         match self.random.below(32) {
-            0..=7 => list.clear(),
-            8..=11 => {}
-            12 => list.extend(list.clone()),
-            13 => list = list.repeat(17),
+            0..=11 => {}
+            12 => list = list.repeat(if self.random.one_in(2) { 2 } else { 17 }),
+            13 => list.clear(),
             14 => {
                 list.truncate(1 + self.random.below(3));
                 list.push(self.random.pick(&list).expect("there is SDS 0"));
@@ -655,7 +659,7 @@ impl Caller {
         list
     }
 
-    /// A type number, mostly that of a visible type of the wanted kind.
+    /// A type number, mostly that of a visible type of the wanted kind; under an empty list, of any of that kind.
     fn ty(&mut self, schema: &Schema, list: &[u8], is_wanted: IsWanted) -> usize {
         let is_listed = |sds: usize| list.is_empty() || list.iter().any(|&listed| usize::from(listed) == sds);
         let listed = schema.sdss.iter().filter(|(&sds, _)| is_listed(sds));

@@ -5,6 +5,7 @@
 use crate::base::{from_bytes, is_sound, to_bytes, APPLICATIONS, ENDS, LENGTH, PRESENCES, SDSS, TYPES};
 use crate::calls::{apply as keep, Call, CALLS};
 use crate::cases::printed;
+use crate::coverage::Counts;
 use crate::random::{free_places, Mode, Random};
 use crate::run::Run;
 use crate::schema::{Application, End, Schema, Sds, Side, Type};
@@ -311,6 +312,9 @@ fn refused_calls() -> Vec<(usize, Call)> {
         (8, scan_object(&[1, 2, 1], UNIT, 3)),
         (8, scan_object(&[1; 17], UNIT, 3)),
         (15, scan_object(&[1], UNIT, 3)),
+        (5, scan_object(&[], 128, 10)),
+        (6, scan_object(&[], SIZE, 3)),
+        (6, scan_object(&[], UNIT, 3)),
         (2, scan_link(&[1, 1, 4], 128, 5)),
         (5, scan_link(&[1, 1], 128, 5)),
         (6, scan_link(&[1, 1], 128, 0)),
@@ -318,20 +322,29 @@ fn refused_calls() -> Vec<(usize, Call)> {
         (7, scan_link(&[1, 1], UNIT, 0)),
         (8, scan_link(&[1, 1], HAS, 0)),
         (15, scan_link(&[1], HAS, 0)),
+        (5, scan_link(&[], 128, 5)),
+        (6, scan_link(&[], UNIT, 0)),
+        (6, scan_link(&[], HAS, 0)),
         (2, profile(&[1, 1, 255], 128)),
         (6, profile(&[1, 1], 128)),
         (7, profile(&[1, 1], SIZE)),
         (8, profile(&[1, 1], UNIT)),
         (15, profile(&[1], UNIT)),
+        (6, profile(&[], SIZE)),
+        (6, profile(&[], UNIT)),
         (2, find(&[1, 1, 16], "0")),
         (4, find(&[1, 1], "0")),
         (4, find(&[1, 1], "")),
         (6, find(&[1, 1], "nope")),
         (8, find(&[1, 1], "unit")),
+        (4, find(&[], "0")),
+        (4, find(&[], "")),
+        (6, find(&[], "unit")),
         (2, depth(&[1, 1, 16], 128)),
         (6, depth(&[1, 1], 128)),
         (7, depth(&[1, 1], SIZE)),
         (8, depth(&[1, 1], UNIT)),
+        (6, depth(&[], SIZE)),
         (2, name(4, 128)),
         (2, name(16, 0)),
         (6, name(1, 128)),
@@ -340,6 +353,7 @@ fn refused_calls() -> Vec<(usize, Call)> {
         (6, descendant_set(&[1, 1], 128)),
         (7, descendant_set(&[1, 1], SIZE)),
         (8, descendant_set(&[1, 1], UNIT)),
+        (6, descendant_set(&[], SIZE)),
     ]
 }
 
@@ -531,6 +545,7 @@ fn fresh_base() {
     assert_eq!(keep(&mut lent.0, &mut [], &Call::Fresh), [0; 4]);
     assert!(lent.0 == Lent::fresh().0);
     assert_eq!(lent.call(&depth(&[0], 0)), [0; 4]);
+    assert_eq!(lent.number(&depth(&[], 0)), 6);
     assert_eq!(lent.call(&scan_object(&[0], 0, 1)), [0; 4]);
     assert_eq!(lent.call(&descendant_set(&[0], 0)), [0; 4]);
 }
@@ -756,7 +771,7 @@ fn scans_of_an_object_type() {
     let expected: [(&[u8], usize, usize, &[u16]); 28] = [
         (&[1], top, 0, &[2, 3]),
         (&[2], top, 0, &[2]),
-        (&[], 0, 0, &[1]),
+        (&[0, 1, 2], 0, 0, &[1]),
         (&[1], top, 1, &[2, 3, 4]),
         (&[2], 0, 1, &[1, 2]),
         (&[1], low, 2, &[2, 3]),
@@ -775,7 +790,7 @@ fn scans_of_an_object_type() {
         (&[2], left, 6, &[]),
         (&[1], low, 7, &[7, 9]),
         (&[2], left, 7, &[8]),
-        (&[], low, 7, &[7, 8, 9]),
+        (&[0, 1, 2], low, 7, &[7, 8, 9]),
         (&[1], left, 8, &[8]),
         (&[1], low, 8, &[]),
         (&[2, 1], top, 8, &[7, 9]),
@@ -801,7 +816,7 @@ fn scans_of_a_link_type() {
         (&[1, 2], eight, 1, &[1, 2, 3, 4]),
         (&[1], seven, 2, &[]),
         (&[2], seven, 2, &[1]),
-        (&[], eight, 2, &[2]),
+        (&[0, 1, 2], eight, 2, &[2]),
         (&[2], seven, 3, &[1, 2]),
         (&[2, 1], seven, 3, &[1, 2, 3, 4]),
         (&[1], nine, 3, &[1, 2, 3, 4]),
@@ -827,16 +842,30 @@ fn find_takes_the_first_listed() {
     assert_eq!(lent.done(&find(&[1, 2], "five")), 5);
     assert_eq!(lent.done(&find(&[2, 1], "five")), 6);
     assert_eq!(lent.done(&find(&[2, 1], "low")), 4);
-    assert_eq!(lent.done(&find(&[], "five")), 5);
+    assert_eq!(lent.done(&find(&[0, 1, 2], "five")), 5);
     assert_eq!(lent.number(&find(&[2], "low")), 6);
     assert_eq!(lent.number(&find(&[2, 2], "low")), 6);
+}
+
+/// With all SDSs listed each is done, with none it is 6, and nothing is put down.
+#[test]
+fn empty_list_shows_nothing() {
+    let mut lent = scanned_base();
+    for (list, number) in [(&[0, 1, 2][..], 0), (&[], 6)] {
+        let mut questions = vec![profile(list, 4), find(list, "low"), depth(list, 4), descendant_set(list, 1)];
+        questions.extend((0..10).map(|code| scan_object(list, 4, code)));
+        questions.extend((0..5).map(|code| scan_link(list, 7, code)));
+        for question in questions {
+            assert_eq!(lent.with_output(&question, 40).0[0], number, "{question:?}");
+        }
+    }
 }
 
 #[test]
 fn depth_is_the_longest_way() {
     let mut lent = scanned_base();
     let deep = lent.done(&new_object(1, "deep", "object low"));
-    assert_eq!(lent.call(&depth(&[], deep)), [0, 4, 0, 0]);
+    assert_eq!(lent.call(&depth(&[0, 1, 2], deep)), [0, 4, 0, 0]);
     assert_eq!(lent.number(&depth(&[2], deep)), 6);
     // Many ways up: a chain in which each type has the four before it as parents.
     let mut lent = two_sdss();
@@ -1071,6 +1100,18 @@ fn a_short_run() {
     // Codes known and unknown, lists and outputs.
     let kinds = asked.keys().map(|what| what.split(' ').next().unwrap_or_default());
     let count = |kind: &str| kinds.clone().filter(|found| *found == kind).count();
-    assert_eq!([count("scan_object,"), count("scan_link,"), count("output")], [11, 7, 7]);
-    assert_eq!(asked.len(), 11 + 7 + 7 + 6);
+    assert_eq!([count("scan_object,"), count("scan_link,"), count("output"), count("no")], [11, 7, 7, 9]);
+    assert_eq!(asked.len(), 11 + 7 + 7 + 9 + 6);
+}
+
+/// What was asked too seldom under an empty list is named.
+#[test]
+fn seldom_under_an_empty_list() {
+    let mut counts = Counts::new();
+    let is_named = |counts: &Counts| counts.seldom().contains(&"no SDS listed: find 6".into());
+    for _ in 0..20 {
+        assert!(is_named(&counts));
+        counts.ask(&Schema::fresh(), &find(&[], "object"), 0, [6, 0, 0, 0]);
+    }
+    assert!(!is_named(&counts));
 }

@@ -74,7 +74,7 @@ returns-3 c = answered-as (sound-1 (c .before .before .before .before .before))
     (c .refused3 .ensures)
 
 type-named-requires : tie.Need-type-named-requires
-type-named-requires c κs = (sound-1 (c .before .before .before .before), sym (c .before .before .before .has-unknown .ensures) ∙ c .before .before .if2 .left)
+type-named-requires c κs = sound-1 (c .before .before .before .before)
 
 refused-requires-4 : tie.Need-refused-requires-4
 refused-requires-4 c κs = search needs

@@ -75,7 +75,7 @@ returns-3 c = not-viewed (come-stops (at-5 (c .before .before)) (c .before .if3 
     (λ z. omega (arith, c .refused3 .ensures))
 
 listed-requires : tie.Need-listed-requires
-listed-requires c κs = (sound-long (at-6 c .sound), sym (c .before .before .has-unknown .ensures) ∙ c .before .if2 .left)
+listed-requires c κs = listed-small (at-6 c .sound) _ (sym (c .before .before .has-unknown .ensures) ∙ c .before .if2 .left)
 
 visible-requires : tie.Need-visible-requires
 visible-requires c κs = at-6 (c .before) .sound

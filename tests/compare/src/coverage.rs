@@ -3,8 +3,9 @@
 
 use crate::calls::{Call, CALLS};
 use crate::schema::Schema;
+use crate::shapes::{visible, SHAPES};
 use crate::spoil::WAYS;
-use std::collections::BTreeMap;
+use std::collections::{BTreeMap, BTreeSet};
 
 /// Each number of each call should come up at least so often.
 const OFTEN: usize = 20;
@@ -20,6 +21,17 @@ const UNLISTED: [&str; 9] = [
     "no SDS listed: find 6",
     "no SDS listed: depth 6",
     "no SDS listed: descendant_set 6",
+];
+
+/// Lists of descendants on the schemas drawn should come up so often, of each shape and with each of these, which one
+/// pass by number, first parents alone, too few passes or no look at presences would get wrong.
+const OFTEN_LISTED: usize = 200;
+const LISTED: [&str; 5] = [
+    "a type below its parents",
+    "a type by two parents",
+    "a type not by its first parent",
+    "126 types or more",
+    "a type not visible left out",
 ];
 
 /// Calls that have something in common.
@@ -88,30 +100,65 @@ impl Counts {
             _ => "output longer, even",
         });
         for what in [code, Some(list.into()), output.map(String::from)].into_iter().flatten() {
-            let seen = self.asked.entry(what).or_default();
-            seen.calls += 1;
-            seen.done += usize::from(answer[0] == 0);
-            seen.longest = seen.longest.max(entries);
+            self.see(what, answer[0] == 0, entries);
         }
     }
 
-    /// The pairs of a call and a number that it can answer that came up too seldom, in words; under an empty list too.
+    fn see(&mut self, what: String, is_done: bool, entries: usize) {
+        let seen = self.asked.entry(what).or_default();
+        seen.calls += 1;
+        seen.done += usize::from(is_done);
+        seen.longest = seen.longest.max(entries);
+    }
+
+    /// Counts a list or set of descendants that was given, if not empty, on the schema of the shape.
+    pub fn descend(&mut self, shape: &str, schema: &Schema, call: &Call, answer: [usize; 4]) {
+        let (list, asked) = match call {
+            Call::ScanObject { schema, ty, code: 1 } | Call::DescendantSet { schema, ty } => (schema, *ty),
+            _ => return,
+        };
+        let all = schema.descendants(asked);
+        let listed = &all & &visible(schema, list);
+        if answer[0] != 0 || listed.is_empty() {
+            return;
+        }
+        type IsSo<'a> = &'a dyn Fn(usize, &BTreeSet<usize>) -> bool;
+        let any = |is_so: IsSo| listed.iter().any(|&ty| is_so(ty, &schema.parents(ty)));
+        let leads = |parent: &&usize| **parent == asked || listed.contains(*parent);
+        let is_so = [
+            any(&|ty, parents| parents.iter().filter(leads).all(|&parent| parent != asked && parent > ty)),
+            any(&|_, parents| (parents & &listed).len() > 1),
+            any(&|_, parents| !parents.first().as_ref().is_some_and(leads)),
+            listed.len() >= Schema::TYPES - 2,
+            listed.len() < all.len(),
+        ];
+        let seen = LISTED.into_iter().zip(is_so).filter(|(_, is_so)| *is_so).map(|(what, _)| what);
+        for what in seen.chain([shape]) {
+            self.see(format!("descent: {what}"), true, listed.len());
+        }
+    }
+
+    /// The pairs of a call and a number that it can answer that came up too seldom, in words; under an empty list too,
+    /// and descents.
     pub fn seldom(&self) -> Vec<String> {
         let mut seldom = Vec::new();
         for (call, counts) in CALLS.iter().zip(&self.answered) {
             let numbers = [0].iter().chain(call.refusals).filter(|&&no| counts[no] < OFTEN);
             seldom.extend(numbers.map(|no| format!("{} {no}", call.name)));
         }
-        let is_seldom = |what: &&str| self.asked.get(*what).is_none_or(|seen| seen.calls < OFTEN);
-        seldom.extend(UNLISTED.into_iter().filter(is_seldom).map(String::from));
+        let is_seldom = |what: &str, often| self.asked.get(what).is_none_or(|seen| seen.calls < often);
+        seldom.extend(UNLISTED.into_iter().filter(|what| is_seldom(what, OFTEN)).map(String::from));
+        let descents = SHAPES.map(|(shape, _)| shape).into_iter().chain(LISTED);
+        let descents = descents.map(|what| format!("descent: {what}"));
+        seldom.extend(descents.filter(|what| is_seldom(what, OFTEN_LISTED)));
         seldom
     }
 
     pub fn print(&self) {
         self.print_answers();
-        println!("\n{:<32}{:>8}{:>8}{:>14}", "asked", "calls", "done", "longest list");
+        println!("\n{:<40}{:>8}{:>8}{:>14}", "asked", "calls", "done", "longest list");
         for (what, seen) in &self.asked {
-            println!("{what:<32}{:>8}{:>8}{:>14}", seen.calls, seen.done, seen.longest);
+            println!("{what:<40}{:>8}{:>8}{:>14}", seen.calls, seen.done, seen.longest);
         }
         println!("\n{:<28}{:>8}{:>10}", "spoiled", "sound", "not sound");
         for ((name, _), [sound, unsound]) in WAYS.iter().zip(&self.spoiled) {
@@ -137,7 +184,8 @@ impl Counts {
             println!("{:>7.0}%", 100.0 * counts[0] as f64 / on_sound.max(1) as f64);
         }
         let seldom = self.seldom();
-        println!("pairs of a call and a number that came up less than {OFTEN} times: {}", seldom.len());
+        let least = format!("{OFTEN} times, descents less than {OFTEN_LISTED}");
+        println!("pairs of a call and a number that came up less than {least}: {}", seldom.len());
         if !seldom.is_empty() {
             println!("    {}", seldom.join(", "));
         }

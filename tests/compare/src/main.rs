@@ -26,6 +26,7 @@ mod random;
 mod run;
 mod schema;
 mod served;
+mod shapes;
 mod spoil;
 mod sqlite;
 #[cfg(test)]

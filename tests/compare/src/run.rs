@@ -7,7 +7,11 @@ use crate::coverage::Counts;
 use crate::library::{Expected, Lent, Library};
 use crate::random::{Caller, Mode, Random};
 use crate::schema::Schema;
+use crate::shapes::{question, SHAPES};
 use crate::spoil::{spoiled, WAYS};
+
+/// Questions about each schema that is drawn.
+const QUESTIONS: usize = 20;
 
 pub struct Run {
     caller: Caller,
@@ -40,7 +44,9 @@ impl Run {
                 done += 1;
             }
         }
-        self.check_base()
+        self.check_base()?;
+        self.place = format!("seed {seed}, history {number}");
+        self.descents()
     }
 
     /// A fresh base over any bytes, to be led where the history's mode says.
@@ -58,17 +64,41 @@ impl Run {
     /// The next call, on the present base.
     pub fn step(&mut self) -> Result<(), String> {
         let call = self.caller.call(&self.schema);
-        let before = self.lent(self.base.clone(), &call);
-        let mut after = before.clone();
-        let answer = apply_to(&mut self.schema, &mut after.base, &mut after.output, &call);
-        self.compare(&call, &before, answer, &after)?;
-        self.counts.ask(&self.schema, &call, before.output.len(), answer);
-        self.base = after.base;
+        self.on_present(&call)?;
         // Reading a base costs more than all the rest.
         if self.caller.random.one_in(50) {
             self.check_base()?;
         }
         Ok(())
+    }
+
+    /// Questions about a schema of each shape; its base takes the place of the present one.
+    pub fn descents(&mut self) -> Result<(), String> {
+        let place = self.place.clone();
+        for (shape, draw) in SHAPES {
+            self.schema = draw(&mut self.caller.random);
+            self.base = to_bytes(&self.schema);
+            self.place = format!("{place}, {shape}");
+            self.check_base()?;
+            for number in 1..=QUESTIONS {
+                self.place = format!("{place}, {shape}, question {number}");
+                let call = question(&mut self.caller.random, &self.schema);
+                let answer = self.on_present(&call)?;
+                self.counts.descend(shape, &self.schema, &call, answer);
+            }
+        }
+        Ok(())
+    }
+
+    /// A call on the present base.
+    fn on_present(&mut self, call: &Call) -> Result<[usize; 4], String> {
+        let before = self.lent(self.base.clone(), call);
+        let mut after = before.clone();
+        let answer = apply_to(&mut self.schema, &mut after.base, &mut after.output, call);
+        self.compare(call, &before, answer, &after)?;
+        self.counts.ask(&self.schema, call, before.output.len(), answer);
+        self.base = after.base;
+        Ok(answer)
     }
 
     /// A call on the present base spoiled, which tells whether that is sound; the present base stays.

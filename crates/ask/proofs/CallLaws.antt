@@ -1,9 +1,9 @@
 -- The calls over their view: what it leaves of the rule, and what is then listed. Assumes nothing.
 use Prim.Native.Nat.{ℕ, _+_, _^_, _<_}
 use native.Mathlib.Omega.{arith}
-use mathlib.Core.Path.{_≡_, refl, sym, ap, ap₂, _∙_, subst}
+use mathlib.Core.Path.{_≡_, refl, sym, ap, subst}
 use mathlib.Core.List.{List, [], _∷_, _++_}
-use mathlib.Core.Bool.{Bool, true, false, not, _&&_}
+use mathlib.Core.Bool.{Bool, true, false, not}
 use lib.Dec.{ltb}
 use lib.ListN.{length}
 use borrow.Author.Tests.{ltb-true, ltb-false, lt-ltb, le-ltb}
@@ -12,7 +12,7 @@ use Rattle.rules.specs.01-Lists.{any, repeated}
 use Rattle.rules.specs.04-Schema.{Schema, kind-of, is-object, is-link}
 use Rattle.rules.specs.05-Descent.{depth, members}
 use Rattle.rules.specs.07-Picture.{Sound}
-use Rattle.rules.specs.08-Working.{visible, shown}
+use Rattle.rules.specs.08-Working.{shown}
 use Rattle.rules.specs.09-Refusals.{_when_, Outcome, Refusals, verdict, success, unknown-sds, unknown-object-scan, unknown-link-scan}
 use Rattle.rules.specs.09-Refusals.{not-visible, no-object, no-link, short-output}
 use Rattle.rules.specs.09-Refusals.Outcome.{done}
@@ -23,7 +23,7 @@ use Rattle.rules.proofs.09-Refusals.{Left}
 use Rattle.base.specs.Back.{schema-of}
 use Rattle.base.proofs.Kept.{listed-as}
 use Rattle.type_set.specs.declared.TypeSet.{TypeSet}
-use Rattle.type_set.specs.Set.{has}
+use Rattle.type_set.specs.Set.{bit, has}
 use Rattle.type_set.proofs.Members.{members-alike}
 use Rattle.type_set.proofs.Set.{words-are}
 use Rattle.ask_scans.specs.declared.view.View.{View}
@@ -81,25 +81,21 @@ module _ (w : List ℕ) (t : ℕ) where
 
 -- ---- what is visible of a scan is its list
 
-module _ {b w : List ℕ} {t : ℕ} {link : Bool} {v : View} (through : Through b w t link v) (q p : ℕ → Bool)
-    (met : (k : ℕ) → p k ≡ has (v .visible) k && q k) where
-  seen : (scan : List ℕ → ℕ → Bool) → Scanned (schema-of b) (has (v .listed)) scan q → (k : ℕ) → p k ≡ visible (schema-of b) w k && scan w k
-  seen scan scanned k = met k ∙ ap₂ _&&_ (through .visible k) (scanned .is w (through .listed) k)
-
-  pub object-list : (code : ℕ) → Scanned (schema-of b) (has (v .listed)) (λ w. object-scan (schema-of b) w t code) q
+module _ {b w : List ℕ} {t : ℕ} {link : Bool} {v : View} (through : Through b w t link v) (p : ℕ → Bool) where
+  pub object-list : (code : ℕ) → Scanned (schema-of b) (bit (v .listed)) (λ w. object-scan (schema-of b) w t code) p
       → members p ≡ object-scan-list w t code (schema-of b)
   unfolding object-scan-list shown
-  object-list code scanned = members-alike _ _ (λ k h. seen (λ w. object-scan (schema-of b) w t code) scanned k)
+  object-list code scanned = members-alike _ _ (λ k h. scanned .is w (through .listed) k)
 
-  pub link-list : (code : ℕ) → Scanned (schema-of b) (has (v .listed)) (λ w. link-scan (schema-of b) w t code) q
+  pub link-list : (code : ℕ) → Scanned (schema-of b) (bit (v .listed)) (λ w. link-scan (schema-of b) w t code) p
       → members p ≡ link-scan-list w t code (schema-of b)
   unfolding link-scan-list shown
-  link-list code scanned = members-alike _ _ (λ k h. seen (λ w. link-scan (schema-of b) w t code) scanned k)
+  link-list code scanned = members-alike _ _ (λ k h. scanned .is w (through .listed) k)
 
-  pub descendants-seen : Scanned (schema-of b) (has (v .listed)) (λ w. object-scan (schema-of b) w t 1) q → (k : ℕ)
+  pub descendants-seen : Scanned (schema-of b) (bit (v .listed)) (λ w. object-scan (schema-of b) w t 1) p → (k : ℕ)
       → p k ≡ visible-descendant w t (schema-of b) k
   unfolding visible-descendant
-  descendants-seen scanned k = seen (λ w. object-scan (schema-of b) w t 1) scanned k
+  descendants-seen scanned k = scanned .is w (through .listed) k
 
 -- ---- done, or refused for want of room
 

@@ -14,7 +14,7 @@ pub fn scan_object(base: &[u8], schema: &[u8], t: usize, code: usize, out: &mut 
         return Answer::refused(view.no);
     }
     let set = ask_scans::scan::of_object(base, view.listed, t, code);
-    ask_scans::lists::put(view.visible.meet(set), out)
+    ask_scans::lists::put(set, out)
 }
 
 // The like for a link type.
@@ -26,7 +26,7 @@ pub fn scan_link(base: &[u8], schema: &[u8], t: usize, code: usize, out: &mut [u
         return Answer::refused(view.no);
     }
     let set = ask_scans::scan::of_link(base, view.listed, t, code);
-    ask_scans::lists::put(view.visible.meet(set), out)
+    ask_scans::lists::put(set, out)
 }
 
 // Ancestors, attribute-all and link-origin-all of an object type, each list straight after the last.
@@ -38,12 +38,7 @@ pub fn profile(base: &[u8], schema: &[u8], t: usize, out: &mut [u8]) -> Answer
         return Answer::refused(view.no);
     }
     let lists = ask_scans::scan::of_profile(base, view.listed, t);
-    ask_scans::lists::put_three(
-        view.visible.meet(lists.ancestors),
-        view.visible.meet(lists.attributes),
-        view.visible.meet(lists.links),
-        out,
-    )
+    ask_scans::lists::put_three(lists.ancestors, lists.attributes, lists.links, out)
 }
 
 // The type that bears a local name in the first listed SDS that has it.
@@ -88,8 +83,7 @@ pub fn descendant_set(base: &[u8], schema: &[u8], t: usize) -> Answer
     if view.no != 0 {
         return Answer::refused(view.no);
     }
-    let descendants = ask_scans::scan::of_object(base, view.listed, t, 1);
-    let set = view.visible.meet(descendants);
+    let set = ask_scans::scan::of_object(base, view.listed, t, 1);
     Answer::done(set.low as usize, set.high as usize, set.count())
 }
 

@@ -8,6 +8,7 @@ use lib.Dec.{leb}
 use lib.ListN.{length, getD}
 use borrow.Author.Tests.{not-false}
 use Rattle.rules.specs.01-Lists.{any, all}
+use Rattle.rules.specs.02-Limits.{limits}
 use Rattle.rules.specs.04-Schema.{Kind, used-sds, is-object, is-link}
 use Rattle.rules.specs.07-Picture.{Sound}
 use Rattle.rules.specs.08-Working.{visible}
@@ -36,10 +37,10 @@ module _ {b : List ℕ} (s : Sound b) where
   pub visible-below : (w : List ℕ) (t : ℕ) → visible (schema-of b) w t ≡ true → t < 128
   visible-below w t e = used-below (sound-good s) t (visible-used (sound-good s) w t e)
 
-  -- every number of a list of SDSs is small
-  pub listed-small : (w : List ℕ) → any (unknown-sds (schema-of b)) w ≡ false → (i : ℕ) → i < length w → getD w i 0 < 128
+  -- every number of a list of SDSs is one of an SDS, and so small
+  pub listed-sds : (w : List ℕ) → any (unknown-sds (schema-of b)) w ≡ false → (i : ℕ) → i < length w → getD w i 0 < limits .sdss
   unfolding unknown-sds
-  listed-small w e i h =
+  listed-sds w e i h =
       let d = getD w i 0 in
       let known : unknown-sds (schema-of b) d ≡ false
       = not-all (unknown-sds (schema-of b) d) (λ q. any-at (unknown-sds (schema-of b)) (place-in 0 w i h) q) in
@@ -49,6 +50,9 @@ module _ {b : List ℕ} (s : Sound b) where
       not-all : (x : Bool) → (x ≡ true → any (unknown-sds (schema-of b)) w ≡ true) → x ≡ false
       not-all true f = absurd (true≢false (sym (f refl) ∙ e))
       not-all false f = refl
+
+  pub listed-small : (w : List ℕ) → any (unknown-sds (schema-of b)) w ≡ false → (i : ℕ) → i < length w → getD w i 0 < 128
+  listed-small w e i h = omega (arith, listed-sds w e i h)
 
 module _ (b w : List ℕ) (t : ℕ) where
   pub not-seen : {x : Bool} → x ≡ visible (schema-of b) w t → not x ≡ true → not-visible (schema-of b) w t ≡ true

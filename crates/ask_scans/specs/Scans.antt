@@ -2,11 +2,11 @@
 use Prim.Native.Nat.{ℕ}
 use mathlib.Core.Path.{_≡_}
 use mathlib.Core.List.{List, [], _∷_}
-use mathlib.Core.Bool.{Bool, true, false}
+use mathlib.Core.Bool.{Bool, true, false, _&&_}
 use lib.ListN.{getD}
 use Rattle.rules.specs.01-Lists.{among}
 use Rattle.rules.specs.04-Schema.{Schema}
-use Rattle.rules.specs.08-Working.{upward, object-scans, link-scans}
+use Rattle.rules.specs.08-Working.{visible, upward, object-scans, link-scans}
 use Rattle.type_set.specs.Set.{has}
 use Rattle.ask_scans.specs.declared.scan.Profile.{Profile}
 
@@ -22,9 +22,9 @@ abbrev pub sources : Schema → Bool → ℕ → List ℕ
 sources s true t = upward s t
 sources s false t = t ∷ []
 
--- p is the scan under every working schema whose SDSs are these
+-- p is what is visible of the scan, under every working schema whose SDSs are these
 pub record Scanned (s : Schema) (sdss : ℕ → Bool) (scan : List ℕ → ℕ → Bool) (p : ℕ → Bool) : Type 0 where
-  pub is : (w : List ℕ) → ((d : ℕ) → sdss d ≡ among w d) → (k : ℕ) → p k ≡ scan w k
+  pub is : (w : List ℕ) → ((d : ℕ) → sdss d ≡ among w d) → (k : ℕ) → p k ≡ visible s w k && scan w k
 
 -- the scans of a profile: ancestor, attribute-all and link-origin-all
 pub record Profiled (s : Schema) (sdss : ℕ → Bool) (t : ℕ) (r : Profile) : Type 0 where

@@ -1,6 +1,5 @@
 // What the calls that ask about a type test of their inputs, once, in the order of their refusals; and what they then look through.
 use base::Base;
-use type_set::TypeSet;
 ghost use mathlib.Core.Path.{_≡_};
 ghost use lib.ListN.{length};
 ghost use Rattle.rules.specs.04-Schema.{kind-of};
@@ -8,21 +7,16 @@ ghost use Rattle.rules.specs.07-Picture.{base-length};
 ghost use Rattle.base.specs.Back.{schema-of};
 ghost use Rattle.ask_scans.specs.View.{of-kind, Viewed};
 
-// The number of the refusal, 0 where there is none; then the SDSs that are listed, and the types that are visible.
+// The number of the refusal, 0 where there is none; then the SDSs that are listed.
 pub struct View {
     pub no: usize,
-    pub listed: TypeSet,
-    pub visible: TypeSet,
+    pub listed: u16,
 }
 
 fn refused(no: usize) -> View
     ensures { λ r. ⌜ r .no ≡ no ⌝ }
 {
-    View {
-        no,
-        listed: TypeSet::empty(),
-        visible: TypeSet::empty(),
-    }
+    View { no, listed: 0 }
 }
 
 // Whether t is a link type, or else an object type.
@@ -50,8 +44,7 @@ pub fn of(base: &[u8], schema: &[u8], t: usize, link: bool, known: bool) -> View
         return refused(5);
     }
     let listed = working::listed::listed(schema);
-    let visible = visible::visible(base, listed);
-    if !visible.holds(t) {
+    if !visible::is_visible(base, listed, t) {
         return refused(6);
     }
     if !is_of_kind(base, t, link) {
@@ -60,9 +53,5 @@ pub fn of(base: &[u8], schema: &[u8], t: usize, link: bool, known: bool) -> View
     if working::listed::has_repeated(schema) {
         return refused(8);
     }
-    View {
-        no: 0,
-        listed,
-        visible,
-    }
+    View { no: 0, listed }
 }

@@ -26,13 +26,14 @@ use Rattle.base.specs.Rows.{presence-at}
 use Rattle.base.specs.Back.{schema-of, presence-count, presence-shown}
 use Rattle.base.proofs.Halved.{confirmed, halved-right}
 use Rattle.base.proofs.Shown.{presences-long, presence-in, presence-there}
+use Rattle.lookup.proofs.RowBytes.{name-first}
 use Rattle.lookup.proofs.SdsShown.{used-below}
 use Rattle.check_held.specs.Held.{Holds}
 use Rattle.check_held.specs.Fine.{Presences-fine}
 use Rattle.check_held.proofs.HeldLaws.{present-shown}
 use Rattle.check_presences.specs.Rows.{System-first, Rows-fine}
 use Rattle.check_presences.specs.Gathered.{Gathers, Rows-gathered, Gathered}
-use Rattle.check_presences.proofs.RowLaws.{named-written, written-named, name-first, name-used}
+use Rattle.check_presences.proofs.RowLaws.{named-written, written-named, name-used}
 use Rattle.check_presences.proofs.OrderLaws.{equal, row-once, rise-presences, rise-unique, presences-rise}
 
 record Found (b : List ℕ) (n : ℕ) : Type 0 where

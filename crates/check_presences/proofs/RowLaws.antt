@@ -1,6 +1,5 @@
--- A presence as its row is written, and the first byte of its name. Assumes nothing.
+-- A presence as its row is written. Assumes nothing.
 use Prim.Native.Nat.{ℕ, _+_, _<_}
-use native.Mathlib.Nat.{add-zero}
 use native.Mathlib.Omega.{arith}
 use mathlib.Core.Path.{_≡_, refl, sym, ap, _∙_}
 use mathlib.Core.List.{List, [], _∷_, _++_, tail-eq-of-cons-eq, append-cancel-right}
@@ -15,7 +14,7 @@ use Rattle.rules.specs.07-Picture.{pad, presence-row, base-length, presence-wid
 use Rattle.rules.proofs.01-Lists.{same-bytes-is, same-bytes-refl}
 use Rattle.rules.specs.Read.{strip, name-offset, type-offset}
 use Rattle.name_fields.specs.Field.{name-field}
-use Rattle.name_fields.proofs.NamedFields.{name-field-of, name-field-padded, formed-first}
+use Rattle.name_fields.proofs.NamedFields.{name-field-of, name-field-padded}
 use Rattle.rows.specs.Rows.{part}
 use Rattle.rows.proofs.Rows.{part-byte}
 use Rattle.rows.proofs.Scan.{part-cons}
@@ -23,6 +22,7 @@ use Rattle.base.specs.Tables.{presences, row-of, shown}
 use Rattle.base.specs.Rows.{presence-at}
 use Rattle.base.specs.Back.{presence-shown}
 use Rattle.base.proofs.Shown.{presence-read}
+use Rattle.lookup.proofs.RowBytes.{name-first}
 
 module _ (b : List ℕ) (long : length b ≡ base-length) (i : ℕ) (h : i < limits .presences) where
   -- a row is its SDS, its field and its type
@@ -53,12 +53,7 @@ module _ (b : List ℕ) (long : length b ≡ base-length) (i : ℕ) (h : i < lim
       let rest : pad (limits .name) (strip f) ++ last ≡ f ++ last = tail-eq-of-cons-eq (sym (ap presence-row (presence-read b i)) ∙ e ∙ row-parts) in
       name-field-of f w (append-cancel-right (pad (limits .name) (strip f)) f last rest)
 
--- the first byte of a name is not 0, and so the row is not blank
-pub name-first : (b : List ℕ) (i : ℕ) → well-formed ((presence-shown b i) .name) ≡ true → getD b (presence-at i + name-offset) 0 ≡ 0 → ⊥
-name-first b i w z =
-    let at = presence-at i + name-offset in
-    formed-first (part b at (limits .name)) w (part-byte b at (limits .name) 0 (omega arith) ∙ ap (λ (k : ℕ). getD b k 0) (add-zero at) ∙ z)
-
+-- a row with a name is not blank
 pub name-used : (b : List ℕ) (i : ℕ) → well-formed ((presence-shown b i) .name) ≡ true → row-of presences b i ≡ replicate (presences .width) 0 → ⊥
 name-used b i w e =
     name-first b i w (sym (part-byte b (presence-at i) (presences .width) name-offset (omega arith)) ∙ ap (λ (l : List ℕ). getD l name-offset 0) e)

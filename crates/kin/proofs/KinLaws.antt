@@ -129,12 +129,7 @@ module _ {b : List ℕ} (rows : Parental b) (t : ℕ) (h : t < 128) where
 
 -- ---- the parents of a set, type by type
 
--- what is left of a set p without one type t
-pub taken-out : (p q one none : ℕ → Bool) (t : ℕ) → ((k : ℕ) → none k ≡ false) → ((k : ℕ) → one k ≡ eqb k t || none k)
-    → ((k : ℕ) → q k ≡ p k && not (one k)) → (k : ℕ) → q k ≡ p k && not (eqb k t)
-taken-out p q one none t empty alone out k =
-    out k ∙ ap (λ (x : Bool). p k && not x) (alone k ∙ ap (λ (x : Bool). eqb k t || x) (empty k) ∙ or-false (eqb k t))
-
+-- q is what is left of a set p without one type t
 module _ (p q : ℕ → Bool) (t : ℕ) (h : t < 128) (e : p t ≡ true) (out : (k : ℕ) → q k ≡ p k && not (eqb k t)) where
   pub fewer-left : length (members q) < length (members p)
   fewer-left =

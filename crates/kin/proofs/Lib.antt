@@ -1,3 +1,4 @@
 pub mod KinLaws
 pub mod ReachLaws
+pub mod PassLaws
 pub mod DepthLaws

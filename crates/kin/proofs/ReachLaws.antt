@@ -1,5 +1,5 @@
--- Laws of what a set reaches, step by step, whichever the step is: up to ancestors, taken one by one, and down to descendants, round by
--- round. Assumes nothing.
+-- Laws of what a set reaches, step by step, whichever the step is: up to ancestors, taken one by one, and down to descendants, pass by
+-- pass over the presences. Assumes nothing.
 use Prim.Native.Nat.{ℕ, _≤_, _<_}
 use native.Mathlib.Omega.{arith}
 use mathlib.Core.Path.{_≡_, refl, sym, ap, ap₂, _∙_}
@@ -12,11 +12,14 @@ use Rattle.rules.specs.04-Schema.{Schema, is-parent}
 use Rattle.rules.specs.05-Descent.{Descends, descends, members}
 use Rattle.rules.specs.05-Descent.Descends.{by-parent, by-step}
 use Rattle.rules.specs.06-Good.{Good}
-use Rattle.rules.proofs.Bools.{same-test, or-cases, or-left, or-right, and-both}
+use Rattle.rules.specs.01-Lists.{any}
+use Rattle.rules.proofs.Bools.{same-test, or-cases, or-left, or-right, and-both, and-of}
 use Rattle.rules.proofs.01-Lists.{any-at, numbers-none}
 use Rattle.rules.proofs.05-Descent.{members-of, past, descends-sound, descends-full}
 use Rattle.type_set.proofs.Members.{members-same, members-fewer}
-use Rattle.kin.specs.Kin.{parents-of, children-of, ancestors-of, descendants-of}
+use Rattle.visible.specs.Shown.{held-in}
+use Rattle.visible.proofs.Rules.{held-up}
+use Rattle.kin.specs.Kin.{parents-of, ancestors-of, descendants-of, with-descendants, Passed}
 use Rattle.kin.proofs.KinLaws.{any-member, parent-is, is-parent-of}
 
 -- ---- R t k says that k is one step from t
@@ -104,15 +107,20 @@ module _ {R : ℕ → ℕ → Bool} {p left found : ℕ → Bool} (so-far : Taki
     taking-done {k} (at-start e) = all-found k (so-far .start k e)
     taking-done {k} (a-step-on {t = t} way h) = all-found k (so-far .further t k (taking-done way) h)
 
--- ---- round by round, until a round adds none
+-- ---- pass by pass, until a pass adds none
 
--- q grows from p to what p reaches: it has kept the n types that it had a step before, and has what is one step from these
+-- steps from what steps reach
+pub reach-on : {R : ℕ → ℕ → Bool} {p q : ℕ → Bool} → ((k : ℕ) → q k ≡ true → Reach R p k) → {k : ℕ} → Reach R q k → Reach R p k
+reach-on from {k} (at-start e) = from k e
+reach-on from (a-step-on way h) = a-step-on (reach-on from way) h
+
+-- q grows from p to what p reaches: it has kept the n types that it had a pass before, and has what is one step from these
 pub record Growing (R : ℕ → ℕ → Bool) (p : ℕ → Bool) (n : ℕ) (q : ℕ → Bool) : Type 0 where
   pub before : ℕ → Bool
   pub many : n ≡ length (members before)
   pub kept : (k : ℕ) → before k ≡ true → q k ≡ true
   pub start : (k : ℕ) → p k ≡ true → q k ≡ true
-  pub further : (t k : ℕ) → t < 128 → before t ≡ true → R t k ≡ true → q k ≡ true
+  pub further : (t k : ℕ) → before t ≡ true → R t k ≡ true → q k ≡ true
   pub only : (k : ℕ) → q k ≡ true → Reach R p k
 
 pub growing-none : (R : ℕ → ℕ → Bool) (p : ℕ → Bool) → Growing R p 0 p
@@ -122,34 +130,28 @@ growing-none R p = record {
   many = sym (ap length (numbers-none (λ k. false) 0 128 (λ k l u. refl)));
   kept = λ k e. absurd (false≢true e);
   start = λ k e. e;
-  further = λ t k l e h. absurd (false≢true e);
+  further = λ t k e h. absurd (false≢true e);
   only = λ k e. at-start e;
 }
 
 module _ {R : ℕ → ℕ → Bool} {p q : ℕ → Bool} {n : ℕ} (so-far : Growing R p n q) where
-  pub growing-more : {q₁ : ℕ → Bool} (r : ℕ → Bool) (m : ℕ) → Stepped R q q₁ → ((k : ℕ) → r k ≡ q k || q₁ k) → m ≡ length (members q) → Growing R p m r
-  growing-more {q₁} r m step made e = record {
+  pub growing-more : (r : ℕ → Bool) (m : ℕ) → ((k : ℕ) → q k ≡ true → r k ≡ true) → ((t k : ℕ) → q t ≡ true → R t k ≡ true → r k ≡ true)
+      → ((k : ℕ) → r k ≡ true → Reach R q k) → m ≡ length (members q) → Growing R p m r
+  growing-more r m stays step only e = record {
     before = q;
     many = e;
     kept = stays;
     start = λ k g. stays k (so-far .start k g);
-    further = λ t k l g h. made k ∙ or-right (q k) (q₁ k) (step .all t k l g h);
-    only = λ k g. ⊎-elim (so-far .only k) (new k) (or-cases (q k) (q₁ k) (sym (made k) ∙ g));
+    further = step;
+    only = λ k g. reach-on (so-far .only) (only k g);
   }
-    where
-      stays : (k : ℕ) → q k ≡ true → r k ≡ true
-      stays k g = made k ∙ or-left (q k) (q₁ k) g
-
-      new : (k : ℕ) → q₁ k ≡ true → Reach R p k
-      new k g = let (t, l, h, last) = step .only k g in a-step-on (so-far .only t h) last
 
   -- with no more types than before it has those that it had, so that it has what is one step from its own
   pub growing-done : length (members q) ≤ n → ((k : ℕ) → q k ≡ true → k < 128) → {k : ℕ} → Reach R p k → q k ≡ true
   growing-done le below {k} (at-start e) = so-far .start k e
   growing-done le below {k} (a-step-on {t = t} way h) =
       let at = growing-done le below way in
-      let l = below t at in
-      so-far .further t k l (members-same (so-far .before) q (so-far .kept) (omega (arith, so-far .many)) t l at) h
+      so-far .further t k (members-same (so-far .before) q (so-far .kept) (omega (arith, so-far .many)) t (below t at) at) h
 
 -- ---- up
 
@@ -192,37 +194,61 @@ ancestors-all {s} good p q {left} {r} made taken none k =
 
 -- ---- down
 
--- k is a child of t
-abbrev pub is-child : Schema → ℕ → ℕ → Bool
-is-child s t k = is-parent s k t
+-- k is a child of t, in one of these SDSs
+abbrev pub child-in : Schema → (ℕ → Bool) → ℕ → ℕ → Bool
+child-in s sdss t k = is-parent s k t && held-in s sdss k
 
-module _ (s : Schema) (p q : ℕ → Bool) where
-  pub children-stepped : ((k : ℕ) → q k ≡ children-of s p k) → Stepped (is-child s) p q
-  unfolding children-of
-  children-stepped made = record {
-    only = λ k e. any-member (λ t. is-parent s k t) p (sym (made k) ∙ e);
-    all = λ t k l e h. made k ∙ any-at (λ t. is-parent s k t) (members-of p t l e) h;
-  }
+module _ {s : Schema} (good : Good s) (sdss p : ℕ → Bool) where
+  reach-below : {k : ℕ} → Reach (child-in s sdss) p k → (p k ≡ true) ⊎ ((held-in s sdss k ≡ true) × (t : ℕ) × (p t ≡ true) × Descends s k t)
+  reach-below (at-start e) = inl e
+  reach-below {k} (a-step-on {t = u} way h) =
+      let (x, held) = and-both (is-parent s k u) (held-in s sdss k) h in
+      let by = parent-is s k u x in
+      ⊎-elim
+      (λ e. inr (held, u, e, by-parent by))
+      (λ w. let (there, t, e, d) = w in inr (held, t, e, by-step by d))
+      (reach-below way)
 
-  module _ (step : Stepped (is-child s) p q) where
-    reach-below : {k : ℕ} → Reach (is-child s) q k → (t : ℕ) × (t < 128) × (p t ≡ true) × Descends s k t
-    reach-below {k} (at-start e) = let (t, l, g, h) = step .only k e in (t, l, g, by-parent (parent-is s k t h))
-    reach-below {k} (a-step-on {t = u} way h) = let (t, l, g, d) = reach-below way in (t, l, g, by-step (parent-is s k u h) d)
+  -- an SDS that holds a type holds all above it: every way down to it is there
+  below-reach : {t k : ℕ} → p t ≡ true → held-in s sdss k ≡ true → Descends s k t → Reach (child-in s sdss) p k
+  below-reach {t} {k} e held (by-parent by) = a-step-on (at-start e) (and-of (is-parent s k t) (held-in s sdss k) (is-parent-of s k t by) held)
+  below-reach {t} {k} e held (by-step {p = u} by d) =
+      a-step-on (below-reach e (held-up good sdss k u held by) d) (and-of (is-parent s k u) (held-in s sdss k) (is-parent-of s k u by) held)
 
-    below-reach : {t k : ℕ} → t < 128 → p t ≡ true → Descends s k t → Reach (is-child s) q k
-    below-reach {t} {k} l e (by-parent by) = at-start (step .all t k l e (is-parent-of s k t by))
-    below-reach {t} {k} l e (by-step {p = u} by d) = a-step-on (below-reach l e d) (is-parent-of s k u by)
+  module _ (below : (k : ℕ) → p k ≡ true → k < 128) where
+    pub reached-with : {k : ℕ} → Reach (child-in s sdss) p k → with-descendants s sdss p k ≡ true
+    unfolding with-descendants descendants-of
+    reached-with {k} way =
+        ⊎-elim
+        (λ e. or-left (p k) _ e)
+        (λ w.
+        let (held, t, e, d) = w in
+        or-right (p k) _
+        (and-of (held-in s sdss k) _ held (any-at (λ a. descends s k a) (members-of p t (below t e) e) (descends-full good k t d))))
+        (reach-below way)
 
--- what has grown is all that is below p, once a round adds none
-pub descendants-all : {s : Schema} → Good s → (p q : ℕ → Bool) {r : ℕ → Bool} {n : ℕ} → ((k : ℕ) → q k ≡ children-of s p k) → Growing (is-child s) q n r
-    → length (members r) ≤ n → ((k : ℕ) → r k ≡ true → k < 128) → (k : ℕ) → r k ≡ descendants-of s p k
-unfolding descendants-of
-descendants-all {s} good p q {r} made grown le below k =
-    let step = children-stepped s p q made in
-    same-test _ _
-    (λ e.
-    let (t, l, g, d) = reach-below s p q step (grown .only k e) in
-    any-at (λ t. descends s k t) (members-of p t l g) (descends-full good k t d))
-    (λ e.
-    let (t, l, g, h) = any-member (λ t. descends s k t) p e in
-    growing-done grown le below (below-reach s p q step l g (descends-sound good k t h)))
+  pub with-reached : (k : ℕ) → with-descendants s sdss p k ≡ true → Reach (child-in s sdss) p k
+  unfolding with-descendants descendants-of
+  with-reached k e =
+      ⊎-elim
+      at-start
+      (λ w.
+      let (held, x) = and-both (held-in s sdss k) (any (λ a. descends s k a) (members p)) w in
+      let (t, l, g, h) = any-member (λ a. descends s k a) p x in
+      below-reach g held (descends-sound good k t h))
+      (or-cases (p k) (held-in s sdss k && any (λ a. descends s k a) (members p)) e)
+
+-- a pass is such a step
+module _ {s : Schema} (good : Good s) (sdss : ℕ → Bool) {p q : ℕ → Bool} {n : ℕ} (so-far : Growing (child-in s sdss) p n q) where
+  pub passed-more : (r : ℕ → Bool) (m : ℕ) → Passed s sdss q r → m ≡ length (members q) → Growing (child-in s sdss) p m r
+  passed-more r m pass e =
+      growing-more so-far r m (pass .kept)
+      (λ t k g h. let (x, held) = and-both (is-parent s k t) (held-in s sdss k) h in pass .children t k g x held)
+      (λ k g. with-reached good sdss q k (pass .only k g)) e
+
+  pub descendants-all : length (members q) ≤ n → ((k : ℕ) → p k ≡ true → k < 128) → ((k : ℕ) → q k ≡ true → k < 128) → (k : ℕ)
+      → q k ≡ with-descendants s sdss p k
+  descendants-all le below-p below k =
+      same-test _ _
+      (λ e. reached-with good sdss p below-p (so-far .only k e))
+      (λ e. growing-done so-far le below (with-reached good sdss p k e))

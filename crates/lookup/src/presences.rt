@@ -1,13 +1,22 @@
-// Presences: the row of a type in an SDS, and whether an SDS holds any.
+// Presences: how many there are, the row of a type in an SDS, and whether an SDS holds any.
 ghost use mathlib.Core.Path.{_≡_};
 ghost use Prim.Native.Nat.{_<_};
 ghost use lib.ListN.{length};
 ghost use Rattle.rules.specs.02-Limits.{limits};
-ghost use Rattle.rules.specs.07-Picture.{base-length};
+ghost use Rattle.rules.specs.07-Picture.{Sound, base-length};
 ghost use Rattle.rules.specs.09-Refusals.{holds-presence};
+ghost use Rattle.rows.specs.Rows.{Counted};
 ghost use Rattle.rows.specs.Decides.{Decides};
 ghost use Rattle.base.specs.Back.{schema-of, presence-count};
 ghost use Rattle.lookup.specs.Found.{Row-of, Presence-row};
+
+// How many there are in a sound base: its used rows stand before the others, so halving finds it.
+pub fn count(base: &[u8]) -> usize
+    requires { ⌜ Sound (now base) ⌝ }
+    ensures { λ r. ⌜ Counted (presence-count (now (base .entry))) (limits .presences) r ⌝ }
+{
+    base::used::presences_halved(base)
+}
 
 // Whether some type is in SDS d.
 pub fn holds_presence(base: &[u8], d: usize) -> bool

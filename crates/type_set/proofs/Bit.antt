@@ -82,11 +82,14 @@ bit-pow (suc n) (suc k) =
     ∙ ap (λ (x : ℕ). bit x k) (ap (λ (x : ℕ). x / 2) (sym (one-mul (2 ^ suc n))) ∙ shifted-half 1 n ∙ one-mul (2 ^ n))
     ∙ bit-pow n k ∙ sym (eqb·suc-suc k n)
 
--- what the code's shifts and masks are: a bit set in a word of some width, and a bit read
-pub bit-set : (width w n k : ℕ) → n < width → bit (bitOr w (1 * 2 ^ n % 2 ^ width)) k ≡ bit w k || eqb k n
-bit-set width w n k h =
+-- what the code's shifts and masks are: a mark of a word of some width, a bit set, and a bit read
+pub bit-mark : (width n k : ℕ) → n < width → bit (1 * 2 ^ n % 2 ^ width) k ≡ eqb k n
+bit-mark width n k h =
     let one : 1 * 2 ^ n % 2 ^ width ≡ 2 ^ n = shl-exact 1 n width (lit< tt) (omega arith) ∙ one-mul (2 ^ n) in
-    ap (λ (x : ℕ). bit (bitOr w x) k) one ∙ bit-or w (2 ^ n) k ∙ ap (λ (x : Bool). bit w k || x) (bit-pow n k)
+    ap (λ (x : ℕ). bit x k) one ∙ bit-pow n k
+
+pub bit-set : (width w n k : ℕ) → n < width → bit (bitOr w (1 * 2 ^ n % 2 ^ width)) k ≡ bit w k || eqb k n
+bit-set width w n k h = bit-or w (1 * 2 ^ n % 2 ^ width) k ∙ ap (λ (x : Bool). bit w k || x) (bit-mark width n k h)
 
 pub bit-masked : (w n : ℕ) → eqb (bitAnd (w / 2 ^ n) 1) 1 ≡ bit w n
 unfolding bit

@@ -4,7 +4,7 @@ use Prim.Native.Nat.{ℕ, zero, suc, _+_, _-_, _*_, _/_, _%_, _^_, _≤_, _<_}
 use native.Mathlib.Omega.{arith}
 use mathlib.Core.Path.{_≡_, refl, sym, ap, ap₂, _∙_}
 use mathlib.Core.List.{[], _∷_}
-use mathlib.Core.Bool.{Bool, true, false, not, _&&_, _||_, or-comm}
+use mathlib.Core.Bool.{Bool, true, false, not, _&&_, _||_, and-true, or-comm}
 use lib.Bits.{bitAnd, bitOr}
 use lib.Count.{ones, trailingZeros, trailing-le}
 use lib.Dec.{eqb, ltb}
@@ -15,7 +15,7 @@ use Rattle.rules.specs.11-Asks.{one-if, marks}
 use Rattle.rules.proofs.11-Asks.{marks-bit, marks-fit}
 use Rattle.type_set.specs.declared.TypeSet.{TypeSet}
 use Rattle.type_set.specs.Set.{bit, words, has, Lowest}
-use Rattle.type_set.proofs.Bit.{bit-zero, bit-or, bit-and, bit-without, bit-set, trailing-first, trailing-marked, word-same}
+use Rattle.type_set.proofs.Bit.{bit-zero, bit-or, bit-and, bit-without, bit-mark, bit-set, trailing-first, trailing-marked, word-same}
 use Rattle.type_set.proofs.Members.{ones-members}
 
 -- ---- where a mark stands
@@ -119,6 +119,34 @@ has-add-high s n ln hn k =
     has-high r k l u ∙ bit-set 64 (s .high) (n - 64) (k - 64) (omega arith) ∙ or-comm (bit (s .high) (k - 64)) (eqb (k - 64) (n - 64))
     ∙ ap₂ _||_ (eqb-sub k n l ln) (sym (has-high s k l u)))
     (λ l. has-past r k l ∙ sym (has-past s k l) ∙ apart k n (λ e. omega arith) (has s k))
+
+-- one word without the mark of n, which is bit m of it
+less-word : (w m k : ℕ) → m < 64 → k < 64 → bit (bitAnd w (2 ^ 64 - 1 - 1 * 2 ^ m % 2 ^ 64)) k ≡ bit w k && not (eqb k m)
+less-word w m k h l = bit-without w (1 * 2 ^ m % 2 ^ 64) k (omega arith) l ∙ ap (λ (x : Bool). bit w k && not x) (bit-mark 64 m k h)
+
+-- a mark that is not the one taken out
+stays : (k n : ℕ) → (k ≡ n → ⊥) → (b : Bool) → b ≡ b && not (eqb k n)
+stays k n h b = rw (ne-eqb k n h) (sym (and-true b))
+
+pub has-less-low : (s : TypeSet) (n : ℕ) → n < 64 → (k : ℕ)
+    → has (record { low = bitAnd (s .low) (2 ^ 64 - 1 - 1 * 2 ^ n % 2 ^ 64); high = s .high }) k ≡ has s k && not (eqb k n)
+has-less-low s n hn k =
+    let r : TypeSet = record { low = bitAnd (s .low) (2 ^ 64 - 1 - 1 * 2 ^ n % 2 ^ 64); high = s .high } in
+    by-word _ k
+    (λ u. has-low r k u ∙ less-word (s .low) n k hn u ∙ ap (λ (b : Bool). b && not (eqb k n)) (sym (has-low s k u)))
+    (λ l u. has-high r k l u ∙ sym (has-high s k l u) ∙ stays k n (λ e. omega arith) (has s k))
+    (λ l. has-past r k l ∙ sym (has-past s k l) ∙ stays k n (λ e. omega arith) (has s k))
+
+pub has-less-high : (s : TypeSet) (n : ℕ) → 64 ≤ n → n < 128 → (k : ℕ)
+    → has (record { low = s .low; high = bitAnd (s .high) (2 ^ 64 - 1 - 1 * 2 ^ (n - 64) % 2 ^ 64) }) k ≡ has s k && not (eqb k n)
+has-less-high s n ln hn k =
+    let r : TypeSet = record { low = s .low; high = bitAnd (s .high) (2 ^ 64 - 1 - 1 * 2 ^ (n - 64) % 2 ^ 64) } in
+    by-word _ k
+    (λ u. has-low r k u ∙ sym (has-low s k u) ∙ stays k n (λ e. omega arith) (has s k))
+    (λ l u.
+    has-high r k l u ∙ less-word (s .high) (n - 64) (k - 64) (omega arith) (omega arith)
+    ∙ ap₂ (λ (a b : Bool). a && not b) (sym (has-high s k l u)) (eqb-sub k n l ln))
+    (λ l. has-past r k l ∙ sym (has-past s k l) ∙ stays k n (λ e. omega arith) (has s k))
 
 -- ---- the lowest mark
 

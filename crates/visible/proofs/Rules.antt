@@ -7,10 +7,12 @@ use lib.Dec.{eqb}
 use borrow.Author.Tests.{eqb-true, eq-eqb}
 use Rattle.rules.specs.01-Lists.{_∈_, any, among}
 use Rattle.rules.specs.04-Schema.{Schema, Side, End, holds-type, present, is-application, applied, side-code, is-end, has-end}
+use Rattle.rules.specs.05-Descent.{Parent}
+use Rattle.rules.specs.06-Good.{Good}
 use Rattle.rules.specs.08-Working.{visible, applied-in, end-in}
 use Rattle.rules.proofs.Bools.{same-test, and-both, and-of}
 use Rattle.rules.proofs.01-Lists.{any-at, any-where, among-in, in-among}
-use Rattle.visible.specs.Shown.{gathered}
+use Rattle.visible.specs.Shown.{gathered, held-in}
 
 -- a row that passes and puts k in
 module _ {A : Type 0} (test : A → Bool) (type : A → ℕ) (l : List A) (k : ℕ) where
@@ -25,6 +27,18 @@ module _ {A : Type 0} (test : A → Bool) (type : A → ℕ) (l : List A) (k : �
   unfolding gathered
   gathered-at {x} i t q = any-at (λ x. test x && eqb k (type x)) i (and-of (test x) (eqb k (type x)) t (eq-eqb k (type x) q))
 
+-- an SDS that holds a type holds its parents
+pub held-up : {s : Schema} → Good s → (sdss : ℕ → Bool) (k a : ℕ) → held-in s sdss k ≡ true → Parent s k a → held-in s sdss a ≡ true
+unfolding present
+held-up {s} good sdss k a e by =
+    let (p, i, t, q) = gathered-where (λ p. sdss (p .sds)) (λ p. p .type) (s .presences) k e in
+    let here : present s (p .sds) k ≡ true
+    = any-at (holds-type (p .sds) k) i
+    (and-of (eqb (p .sds) (p .sds)) (eqb (p .type) k) (eq-eqb (p .sds) (p .sds) refl) (eq-eqb (p .type) k (sym q))) in
+    let (x, j, g) = any-where (holds-type (p .sds) a) (s .presences) (good .parents-present (p .sds) k a here by) in
+    let (u, v) = and-both (eqb (x .sds) (p .sds)) (eqb (x .type) a) g in
+    gathered-at (λ p. sdss (p .sds)) (λ p. p .type) (s .presences) a j (ap sdss (eqb-true (x .sds) (p .sds) u) ∙ t) (sym (eqb-true (x .type) a v))
+
 module _ (s : Schema) (w : List ℕ) (sdss : ℕ → Bool) (listed : (d : ℕ) → sdss d ≡ among w d) where
   inside : {d : ℕ} → sdss d ≡ true → d ∈ w
   inside {d} e = among-in w d (sym (listed d) ∙ e)
@@ -32,10 +46,15 @@ module _ (s : Schema) (w : List ℕ) (sdss : ℕ → Bool) (listed : (d : ℕ) �
   held : {d : ℕ} → d ∈ w → sdss d ≡ true
   held {d} i = listed d ∙ in-among i
 
-  pub visible-are : (k : ℕ) → gathered (λ p. sdss (p .sds)) (λ p. p .type) (s .presences) k ≡ visible s w k
+  -- what one of these SDSs holds is visible
+  seen : (d k : ℕ) → sdss d ≡ true → present s d k ≡ true → visible s w k ≡ true
+  unfolding visible
+  seen d k e h = any-at (λ d. present s d k) (inside e) h
+
+  pub visible-are : (k : ℕ) → held-in s sdss k ≡ visible s w k
   unfolding visible present
   visible-are k =
-      same-test (gathered (λ p. sdss (p .sds)) (λ p. p .type) (s .presences) k) (any (λ d. any (holds-type d k) (s .presences)) w)
+      same-test (held-in s sdss k) (any (λ d. any (holds-type d k) (s .presences)) w)
       (λ e.
       let (p, i, t, q) = gathered-where (λ p. sdss (p .sds)) (λ p. p .type) (s .presences) k e in
       any-at (λ d. any (holds-type d k) (s .presences)) (inside t)
@@ -130,3 +149,30 @@ module _ (s : Schema) (w : List ℕ) (sdss : ℕ → Bool) (listed : (d : ℕ) �
         let (e, m, t, x, y) = end-where link k h in
         gathered-at (λ e. counts e && eqb (e .link) link) (λ e. e .object) (s .ends) k m
         (and-of (counts e) (eqb (e .link) link) t (eq-eqb (e .link) link x)) (sym y))
+
+  -- ---- and so is what is applied, or is an end, in one of these SDSs
+
+  module _ (good : Good s) where
+    pub attributes-seen : (types : ℕ → Bool) (k : ℕ)
+        → gathered (λ x. sdss (x .sds) && types (x .to)) (λ x. x .attribute) (s .applications) k ≡ true → visible s w k ≡ true
+    attributes-seen types k e =
+        let (x, i, t, q) = gathered-where (λ x. sdss (x .sds) && types (x .to)) (λ x. x .attribute) (s .applications) k e in
+        let (u, v) = and-both (present s (x .sds) (x .to)) (present s (x .sds) (x .attribute)) (good .application-present x i) in
+        seen (x .sds) k (and-both (sdss (x .sds)) (types (x .to)) t .0) (ap (present s (x .sds)) q ∙ v)
+
+    module _ (side : ℕ) (also : End → Bool) (k : ℕ) where
+      pub links-seen : gathered (λ e. (sdss (e .sds) && eqb (side-code (e .side)) side) && also e) (λ e. e .link) (s .ends) k ≡ true
+          → visible s w k ≡ true
+      links-seen h =
+          let (e, i, t, q) = gathered-where (λ e. (sdss (e .sds) && eqb (side-code (e .side)) side) && also e) (λ e. e .link) (s .ends) k h in
+          let (u, v) = and-both (present s (e .sds) (e .link)) (present s (e .sds) (e .object)) (good .end-present e i) in
+          seen (e .sds) k (and-both (sdss (e .sds)) _ (and-both (sdss (e .sds) && eqb (side-code (e .side)) side) (also e) t .0) .0)
+          (ap (present s (e .sds)) q ∙ u)
+
+      pub objects-seen : gathered (λ e. (sdss (e .sds) && eqb (side-code (e .side)) side) && also e) (λ e. e .object) (s .ends) k ≡ true
+          → visible s w k ≡ true
+      objects-seen h =
+          let (e, i, t, q) = gathered-where (λ e. (sdss (e .sds) && eqb (side-code (e .side)) side) && also e) (λ e. e .object) (s .ends) k h in
+          let (u, v) = and-both (present s (e .sds) (e .link)) (present s (e .sds) (e .object)) (good .end-present e i) in
+          seen (e .sds) k (and-both (sdss (e .sds)) _ (and-both (sdss (e .sds) && eqb (side-code (e .side)) side) (also e) t .0) .0)
+          (ap (present s (e .sds)) q ∙ v)

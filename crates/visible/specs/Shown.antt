@@ -4,7 +4,12 @@ use mathlib.Core.List.{List}
 use mathlib.Core.Bool.{Bool, _&&_}
 use lib.Dec.{eqb}
 use Rattle.rules.specs.01-Lists.{any}
+use Rattle.rules.specs.04-Schema.{Schema}
 
 -- k is the type that some row which passes puts in
 unfoldable pub gathered : {A : Type 0} → (A → Bool) → (A → ℕ) → List A → ℕ → Bool
 gathered test type rows k = any (λ x. test x && eqb k (type x)) rows
+
+-- k is in one of these SDSs
+abbrev pub held-in : Schema → (ℕ → Bool) → ℕ → Bool
+held-in s sdss = gathered (λ p. sdss (p .sds)) (λ p. p .type) (s .presences)

@@ -1,4 +1,4 @@
-// What a set of SDSs shows: each is a set of types, gathered row by row from one table.
+// What the SDSs of a word show: sets of types, each gathered row by row from one table.
 use type_set::TypeSet;
 ghost use mathlib.Core.Path.{_≡_};
 ghost use mathlib.Core.Bool.{_&&_};
@@ -6,20 +6,47 @@ ghost use Prim.Native.Nat.{ℕ, _<_};
 ghost use lib.Dec.{eqb};
 ghost use Rattle.rules.specs.04-Schema.{side-code};
 ghost use Rattle.rules.specs.07-Picture.{Sound};
-ghost use Rattle.base.specs.Back.{schema-of, application-count, end-count, application-shown, end-shown};
-ghost use Rattle.type_set.specs.Set.{has};
-ghost use Rattle.visible.specs.Shown.{gathered};
+ghost use Rattle.base.specs.Back.{schema-of, presence-count, application-count, end-count, presence-shown, application-shown, end-shown};
+ghost use Rattle.type_set.specs.Set.{bit, has};
+ghost use Rattle.visible.specs.Shown.{gathered, held-in};
+
+// Whether row i says that type t is in one of these SDSs.
+fn is_shown(base: &[u8], i: usize, sdss: u16, t: usize) -> bool
+    requires { ⌜ Sound (now base) × (i < presence-count (now base)) ⌝ }
+    ensures { λ r. ⌜ r ≡ bit sdss ((presence-shown (now (base .entry)) i) .sds) && eqb t ((presence-shown (now (base .entry)) i) .type) ⌝ }
+{
+    if !working::listed::lists(sdss, base::presence_sds(base, i)) {
+        return false;
+    }
+    t == base::presence_type(base, i)
+}
+
+// Whether type t is in one of these SDSs.
+pub fn is_visible(base: &[u8], sdss: u16, t: usize) -> bool
+    requires { ⌜ Sound (now base) ⌝ }
+    ensures { λ r. ⌜ r ≡ held-in (schema-of (now (base .entry))) (bit sdss) t ⌝ }
+{
+    let n = lookup::presences::count(base);
+    let mut i = 0;
+    while i < n {
+        if is_shown(base, i, sdss, t) {
+            return true;
+        }
+        i += 1;
+    }
+    false
+}
 
 // The types that are in these SDSs.
-pub fn visible(base: &[u8], sdss: TypeSet) -> TypeSet
+pub fn visible(base: &[u8], sdss: u16) -> TypeSet
     requires { ⌜ Sound (now base) ⌝ }
-    ensures { λ r. ⌜ ((k : ℕ) → has r k ≡ gathered (λ p. has sdss (p .sds)) (λ p. p .type) ((schema-of (now (base .entry))) .presences) k) ⌝ }
+    ensures { λ r. ⌜ ((k : ℕ) → has r k ≡ held-in (schema-of (now (base .entry))) (bit sdss) k) ⌝ }
 {
-    let n = base::used::presence_count(base);
+    let n = lookup::presences::count(base);
     let mut r = TypeSet::empty();
     let mut i = 0;
     while i < n {
-        if sdss.test(base::presence_sds(base, i)) {
+        if working::listed::lists(sdss, base::presence_sds(base, i)) {
             r = r.add(base::presence_type(base, i));
         }
         i += 1;
@@ -28,20 +55,20 @@ pub fn visible(base: &[u8], sdss: TypeSet) -> TypeSet
 }
 
 // Whether row i applies an attribute type, in one of these SDSs, to one of these types.
-fn is_applied(base: &[u8], i: usize, sdss: TypeSet, types: TypeSet) -> bool
+fn is_applied(base: &[u8], i: usize, sdss: u16, types: TypeSet) -> bool
     requires { ⌜ Sound (now base) × (i < application-count (now base)) ⌝ }
-    ensures { λ r. ⌜ r ≡ has sdss ((application-shown (now (base .entry)) i) .sds) && has types ((application-shown (now (base .entry)) i) .to) ⌝ }
+    ensures { λ r. ⌜ r ≡ bit sdss ((application-shown (now (base .entry)) i) .sds) && has types ((application-shown (now (base .entry)) i) .to) ⌝ }
 {
-    if !sdss.test(base::application_sds(base, i)) {
+    if !working::listed::lists(sdss, base::application_sds(base, i)) {
         return false;
     }
     types.test(base::application_to(base, i))
 }
 
 // The attribute types that are applied to these types in these SDSs.
-pub fn attributes(base: &[u8], sdss: TypeSet, types: TypeSet) -> TypeSet
+pub fn attributes(base: &[u8], sdss: u16, types: TypeSet) -> TypeSet
     requires { ⌜ Sound (now base) ⌝ }
-    ensures { λ r. ⌜ ((k : ℕ) → has r k ≡ gathered (λ x. has sdss (x .sds) && has types (x .to)) (λ x. x .attribute) ((schema-of (now (base .entry))) .applications) k) ⌝ }
+    ensures { λ r. ⌜ ((k : ℕ) → has r k ≡ gathered (λ x. bit sdss (x .sds) && has types (x .to)) (λ x. x .attribute) ((schema-of (now (base .entry))) .applications) k) ⌝ }
 {
     let n = base::used::application_count(base);
     let mut r = TypeSet::empty();
@@ -56,20 +83,20 @@ pub fn attributes(base: &[u8], sdss: TypeSet, types: TypeSet) -> TypeSet
 }
 
 // Whether row i is an end in one of these SDSs and on that side.
-fn is_end(base: &[u8], i: usize, sdss: TypeSet, side: usize) -> bool
+fn is_end(base: &[u8], i: usize, sdss: u16, side: usize) -> bool
     requires { ⌜ Sound (now base) × (i < end-count (now base)) ⌝ }
-    ensures { λ r. ⌜ r ≡ has sdss ((end-shown (now (base .entry)) i) .sds) && eqb (side-code ((end-shown (now (base .entry)) i) .side)) side ⌝ }
+    ensures { λ r. ⌜ r ≡ bit sdss ((end-shown (now (base .entry)) i) .sds) && eqb (side-code ((end-shown (now (base .entry)) i) .side)) side ⌝ }
 {
-    if !sdss.test(base::end_sds(base, i)) {
+    if !working::listed::lists(sdss, base::end_sds(base, i)) {
         return false;
     }
     base::end_side(base, i) == side
 }
 
 // Whether row i is such an end at one of these object types.
-fn is_end_at(base: &[u8], i: usize, sdss: TypeSet, side: usize, types: TypeSet) -> bool
+fn is_end_at(base: &[u8], i: usize, sdss: u16, side: usize, types: TypeSet) -> bool
     requires { ⌜ Sound (now base) × (i < end-count (now base)) ⌝ }
-    ensures { λ r. ⌜ r ≡ (has sdss ((end-shown (now (base .entry)) i) .sds) && eqb (side-code ((end-shown (now (base .entry)) i) .side)) side)
+    ensures { λ r. ⌜ r ≡ (bit sdss ((end-shown (now (base .entry)) i) .sds) && eqb (side-code ((end-shown (now (base .entry)) i) .side)) side)
         && has types ((end-shown (now (base .entry)) i) .object) ⌝ }
 {
     if !is_end(base, i, sdss, side) {
@@ -79,10 +106,10 @@ fn is_end_at(base: &[u8], i: usize, sdss: TypeSet, side: usize, types: TypeSet) 
 }
 
 // The link types that have one of these object types for an end, in these SDSs and on that side.
-pub fn links(base: &[u8], sdss: TypeSet, side: usize, types: TypeSet) -> TypeSet
+pub fn links(base: &[u8], sdss: u16, side: usize, types: TypeSet) -> TypeSet
     requires { ⌜ Sound (now base) ⌝ }
     ensures { λ r. ⌜ ((k : ℕ) → has r k
-        ≡ gathered (λ e. (has sdss (e .sds) && eqb (side-code (e .side)) side) && has types (e .object)) (λ e. e .link) ((schema-of (now (base .entry))) .ends) k) ⌝ }
+        ≡ gathered (λ e. (bit sdss (e .sds) && eqb (side-code (e .side)) side) && has types (e .object)) (λ e. e .link) ((schema-of (now (base .entry))) .ends) k) ⌝ }
 {
     let n = base::used::end_count(base);
     let mut r = TypeSet::empty();
@@ -97,9 +124,9 @@ pub fn links(base: &[u8], sdss: TypeSet, side: usize, types: TypeSet) -> TypeSet
 }
 
 // Whether row i is such an end of that link type.
-fn is_end_of(base: &[u8], i: usize, sdss: TypeSet, side: usize, link: usize) -> bool
+fn is_end_of(base: &[u8], i: usize, sdss: u16, side: usize, link: usize) -> bool
     requires { ⌜ Sound (now base) × (i < end-count (now base)) ⌝ }
-    ensures { λ r. ⌜ r ≡ (has sdss ((end-shown (now (base .entry)) i) .sds) && eqb (side-code ((end-shown (now (base .entry)) i) .side)) side)
+    ensures { λ r. ⌜ r ≡ (bit sdss ((end-shown (now (base .entry)) i) .sds) && eqb (side-code ((end-shown (now (base .entry)) i) .side)) side)
         && eqb ((end-shown (now (base .entry)) i) .link) link ⌝ }
 {
     if !is_end(base, i, sdss, side) {
@@ -109,10 +136,10 @@ fn is_end_of(base: &[u8], i: usize, sdss: TypeSet, side: usize, link: usize) -> 
 }
 
 // The object types that are ends of that link type, in these SDSs and on that side.
-pub fn objects(base: &[u8], sdss: TypeSet, side: usize, link: usize) -> TypeSet
+pub fn objects(base: &[u8], sdss: u16, side: usize, link: usize) -> TypeSet
     requires { ⌜ Sound (now base) ⌝ }
     ensures { λ r. ⌜ ((k : ℕ) → has r k
-        ≡ gathered (λ e. (has sdss (e .sds) && eqb (side-code (e .side)) side) && eqb (e .link) link) (λ e. e .object) ((schema-of (now (base .entry))) .ends) k) ⌝ }
+        ≡ gathered (λ e. (bit sdss (e .sds) && eqb (side-code (e .side)) side) && eqb (e .link) link) (λ e. e .object) ((schema-of (now (base .entry))) .ends) k) ⌝ }
 {
     let n = base::used::end_count(base);
     let mut r = TypeSet::empty();

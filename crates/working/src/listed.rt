@@ -1,13 +1,14 @@
-// What a list of SDSs is asked before it is used, and its SDSs as a set.
+// What a list of SDSs is asked before it is used, and its SDSs as one word, a bit each.
 use type_set::TypeSet;
 ghost use mathlib.Core.Path.{_≡_};
 ghost use Prim.Native.Nat.{ℕ, _<_};
 ghost use lib.ListN.{length, getD};
 ghost use Rattle.rules.specs.01-Lists.{any, among, repeated};
+ghost use Rattle.rules.specs.02-Limits.{limits};
 ghost use Rattle.rules.specs.07-Picture.{base-length};
 ghost use Rattle.rules.specs.09-Refusals.{unknown-sds};
 ghost use Rattle.base.specs.Back.{schema-of};
-ghost use Rattle.type_set.specs.Set.{has};
+ghost use Rattle.type_set.specs.Set.{bit};
 
 // ---- what refuses a list
 
@@ -46,16 +47,24 @@ pub fn has_repeated(schema: &[u8]) -> bool
 
 // ---- what it lists
 
-// The SDSs of the list, as a set.
-pub fn listed(schema: &[u8]) -> TypeSet
-    requires { ⌜ ((i : ℕ) → i < length (now schema) → getD (now schema) i 0 < 128) ⌝ }
-    ensures { λ r. ⌜ ((k : ℕ) → has r k ≡ among (now (schema .entry)) k) ⌝ }
+// The SDSs of the list.
+pub fn listed(schema: &[u8]) -> u16
+    requires { ⌜ ((i : ℕ) → i < length (now schema) → getD (now schema) i 0 < limits .sdss) ⌝ }
+    ensures { λ r. ⌜ ((k : ℕ) → bit r k ≡ among (now (schema .entry)) k) ⌝ }
 {
-    let mut s = TypeSet::empty();
+    let mut sdss: u16 = 0;
     let mut i = 0;
     while i < schema.len() {
-        s = s.add(rows::wide(schema[i]));
+        sdss = sdss | (1u16 << rows::wide(schema[i]));
         i += 1;
     }
-    s
+    sdss
+}
+
+// Whether SDS d is in the word.
+pub fn lists(sdss: u16, d: usize) -> bool
+    requires { ⌜ d < limits .sdss ⌝ }
+    ensures { λ r. ⌜ r ≡ bit sdss d ⌝ }
+{
+    (sdss >> d) & 1 == 1
 }

@@ -1,4 +1,5 @@
-//! The bases that the benchmark is run on: two as they come, and three that are hard on the check of soundness.
+//! The bases that the benchmark is run on: two as they come, three that are hard on the check of soundness, and one that is
+//! on a list of descendants.
 #![forbid(unsafe_code)]
 
 use crate::schema::{Name, Schema, Type};
@@ -17,6 +18,20 @@ pub fn full() -> Schema {
 pub fn chain() -> Schema {
     let mut s = with_sdss(1);
     add_chain(&mut s, Schema::TYPES - 1);
+    s
+}
+
+/// The chain with the names, whose order is that of the rows, turning round at each type: whoever goes over the rows, in
+/// either order, finds one more type each time.
+pub fn zigzag() -> Schema {
+    let mut s = chain();
+    let here = s.sdss.get_mut(&1).expect("a used SDS");
+    let names: Vec<Name> = here.presences.iter().filter(|(_, &ty)| ty != 0).map(|(name, _)| name.clone()).collect();
+    for (step, ty) in (1..=names.len()).rev().enumerate() {
+        let middle = names.len() / 2;
+        let place = if step % 2 == 0 { middle + step / 2 } else { middle - step.div_ceil(2) };
+        here.presences.insert(names[place].clone(), ty);
+    }
     s
 }
 
@@ -183,7 +198,7 @@ fn add_short_ends(s: &mut Schema, pairs: usize) {
 
 #[cfg(test)]
 mod tests {
-    use super::{chain, full, short, typical, worst};
+    use super::{chain, full, short, typical, worst, zigzag};
     use crate::base::{is_sound, to_bytes};
     use crate::schema::{End, Schema};
     use std::collections::BTreeSet;
@@ -198,6 +213,7 @@ mod tests {
             (typical(), (3, 100, [140, 60, 60])),
             (full(), (16, 128, [512, 256, 512])),
             (chain(), (2, 128, [129, 0, 0])),
+            (zigzag(), (2, 128, [129, 0, 0])),
             (short(), (16, 128, [512, 256, 512])),
             (worst(), (16, 128, [512, 256, 512])),
         ];
@@ -209,7 +225,7 @@ mod tests {
 
     #[test]
     fn long_chains() {
-        for (schema, length) in [(chain(), 127), (worst(), 108)] {
+        for (schema, length) in [(chain(), 127), (zigzag(), 127), (worst(), 108)] {
             assert_eq!(schema.longest_way_up(1), length);
             (1..length).for_each(|ty| assert_eq!(schema.parents(ty), [ty + 1].into()));
         }

@@ -3,7 +3,7 @@
 #![forbid(unsafe_code)]
 
 use crate::base::{is_sound, to_bytes};
-use crate::bases::{chain, full, short, typical, worst};
+use crate::bases::{chain, full, short, typical, worst, zigzag};
 use crate::calls::{apply, Call, Text};
 use crate::library::{Area, Lent};
 use crate::schema::Schema;
@@ -39,8 +39,14 @@ fn tables(sqlite: &str, program: &[String]) -> Result<(), String> {
         "{:<9}{:<12}{:>8}{:>8}{:>8}{:>16}{:>16}",
         "base", "", "library", "keeper", "memcmp", "library/keeper", "library/memcmp"
     );
-    let bases =
-        [("typical", typical()), ("full", full()), ("chain", chain()), ("short", short()), ("worst", worst())];
+    let bases = [
+        ("typical", typical()),
+        ("full", full()),
+        ("chain", chain()),
+        ("zigzag", zigzag()),
+        ("short", short()),
+        ("worst", worst()),
+    ];
     for (base, schema) in [("fresh", Schema::fresh())].iter().chain(&bases) {
         show_progress(base);
         let [library, keeper, memcmp] = check(&server, &to_bytes(schema))?;

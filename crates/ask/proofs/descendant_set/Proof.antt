@@ -27,10 +27,7 @@ returns c = let x = c .before .before .before .before .before .before .args in a
     (descendant-left (x .schema .now) (x .t) (schema-of (x .base .now))) (c .refused .ensures)
 
 of-object-requires : tie.Need-of-object-requires
-of-object-requires c κs = let th = c .before .before .of .ensures .through (c .if1 .left) in (th .sound, (th .below, omega arith))
-
-meet-requires : tie.Need-meet-requires
-meet-requires c κs = search needs
+of-object-requires c κs = let th = c .before .before .of .ensures .through (c .if1 .left) in (th .sound, (th .below, (omega arith, th .held)))
 
 count-requires : tie.Need-count-requires
 count-requires c κs = search needs
@@ -40,13 +37,13 @@ done-requires c κs = search needs
 
 returns-2 : tie.Need-returns-2
 returns-2 c =
-    let x = c .before .before .before .before .before .before .before .before .before .args in
-    let v = c .before .before .before .before .before .before .of .ensures in
-    let z = c .before .before .before .before .if1 .left in
+    let x = c .before .before .before .before .before .before .before .before .args in
+    let v = c .before .before .before .before .before .of .ensures in
+    let z = c .before .before .before .if1 .left in
     answered-as (v .through z .sound) (ends (viewed-passes v [] (descendant-left (x .schema .now) (x .t) (schema-of (x .base .now))) z))
     (c .done .ensures ∙ ap (success _ _) (c .before .count .ensures)
     ∙ set-answer _ (visible-descendant (x .schema .now) (x .t) (schema-of (x .base .now))) (search needs) (search needs)
-    (descendants-seen (v .through z) _ _ (c .before .before .meet .ensures) (c .before .before .before .of-object .ensures)))
+    (descendants-seen (v .through z) _ (c .before .before .of-object .ensures)))
 
 pub descendant-set-spec : {M : Type 1} → statement M
 descendant-set-spec =
@@ -56,7 +53,6 @@ descendant-set-spec =
     refused-requires
     returns
     of-object-requires
-    meet-requires
     count-requires
     done-requires
     returns-2)

@@ -23,16 +23,7 @@ returns c =
     (profile-left (x .schema .now) (x .t) (room (x .out .now)) (schema-of (x .base .now))) (c .refused .ensures)
 
 of-profile-requires : tie.Need-of-profile-requires
-of-profile-requires c κs = let th = c .before .before .of .ensures .through (c .if1 .left) in (th .sound, th .below)
-
-meet-requires : tie.Need-meet-requires
-meet-requires c κs = search needs
-
-meet-requires-2 : tie.Need-meet-requires-2
-meet-requires-2 c κs = search needs
-
-meet-requires-3 : tie.Need-meet-requires-3
-meet-requires-3 c κs = search needs
+of-profile-requires c κs = let th = c .before .before .of .ensures .through (c .if1 .left) in (th .sound, (th .below, th .held))
 
 put-three-requires : tie.Need-put-three-requires
 put-three-requires c κs = search needs
@@ -43,15 +34,15 @@ same-length c = search needs
 returns-2 : tie.Need-returns-2
 unfolding profile-list
 returns-2 c =
-    let x = c .before .before .before .before .before .before .before .before .before .before .before .before .before .before .args in
-    let v = c .before .before .before .before .before .before .before .before .before .before .of .ensures in
-    let z = c .before .before .before .before .before .before .before .before .if1 .left in
+    let x = c .before .before .before .before .before .before .before .before .before .before .before .args in
+    let v = c .before .before .before .before .before .before .before .of .ensures in
+    let z = c .before .before .before .before .before .if1 .left in
     let th = v .through z in
-    let lists = c .before .before .before .before .before .before .before .of-profile .ensures in
+    let lists = c .before .before .before .before .of-profile .ensures in
     listed-three (th .sound)
-    (object-list th _ _ (c .before .before .before .before .before .before .meet .ensures) 3 (lists .ancestors))
-    (object-list th _ _ (c .before .before .before .before .before .meet2 .ensures) 5 (lists .attributes))
-    (object-list th _ _ (c .before .before .before .before .meet3 .ensures) 7 (lists .links)) (c .before .before .put-three .ensures)
+    (object-list th _ 3 (lists .ancestors))
+    (object-list th _ 5 (lists .attributes))
+    (object-list th _ 7 (lists .links)) (c .before .before .put-three .ensures)
     (viewed-passes v (room-test (room (x .out .now)) (profile-list (x .schema .now) (x .t) (schema-of (x .base .now))))
     (profile-left (x .schema .now) (x .t) (room (x .out .now)) (schema-of (x .base .now))) z)
 
@@ -63,9 +54,6 @@ profile-spec =
     refused-requires
     returns
     of-profile-requires
-    meet-requires
-    meet-requires-2
-    meet-requires-3
     put-three-requires
     same-length
     returns-2)

@@ -29,9 +29,6 @@ of-link-requires c κs =
     let th = v .through (c .if1 .left) in
     (th .sound, (th .below, ltb-true (c .before .before .before .before .before .before .args .code) 5 (v .code-known (c .if1 .left))))
 
-meet-requires : tie.Need-meet-requires
-meet-requires c κs = search needs
-
 put-requires : tie.Need-put-requires
 put-requires c κs = search needs
 
@@ -40,12 +37,12 @@ same-length c = search needs
 
 returns-2 : tie.Need-returns-2
 returns-2 c =
-    let x = c .before .before .before .before .before .before .before .before .before .before .before .before .args in
-    let v = c .before .before .before .before .before .before .before .before .of .ensures in
-    let z = c .before .before .before .before .before .before .if1 .left in
+    let x = c .before .before .before .before .before .before .before .before .before .before .before .args in
+    let v = c .before .before .before .before .before .before .before .of .ensures in
+    let z = c .before .before .before .before .before .if1 .left in
     let l = link-scan-list (x .schema .now) (x .t) (x .code) (schema-of (x .base .now)) in
-    listed-put (v .through z .sound) _ l (link-list (v .through z) _ _ (c .before .before .before .before .meet .ensures) (x .code)
-    (c .before .before .before .before .before .of-link .ensures)) (c .before .before .put .ensures)
+    listed-put (v .through z .sound) _ l (link-list (v .through z) _ (x .code)
+    (c .before .before .before .before .of-link .ensures)) (c .before .before .put .ensures)
     (viewed-passes v (room-test (room (x .out .now)) l) (scan-link-left (x .schema .now) (x .t) (x .code) (room (x .out .now)) (schema-of (x .base .now))) z)
 
 pub scan-link-spec : {M : Type 1} → statement M
@@ -56,7 +53,6 @@ scan-link-spec =
     refused-requires
     returns
     of-link-requires
-    meet-requires
     put-requires
     same-length
     returns-2)

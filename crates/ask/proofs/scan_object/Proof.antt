@@ -27,10 +27,7 @@ of-object-requires : tie.Need-of-object-requires
 of-object-requires c κs =
     let v = c .before .before .of .ensures in
     let th = v .through (c .if1 .left) in
-    (th .sound, (th .below, ltb-true (c .before .before .before .before .before .before .args .code) 10 (v .code-known (c .if1 .left))))
-
-meet-requires : tie.Need-meet-requires
-meet-requires c κs = search needs
+    (th .sound, (th .below, (ltb-true (c .before .before .before .before .before .before .args .code) 10 (v .code-known (c .if1 .left)), th .held)))
 
 put-requires : tie.Need-put-requires
 put-requires c κs = search needs
@@ -40,12 +37,12 @@ same-length c = search needs
 
 returns-2 : tie.Need-returns-2
 returns-2 c =
-    let x = c .before .before .before .before .before .before .before .before .before .before .before .before .args in
-    let v = c .before .before .before .before .before .before .before .before .of .ensures in
-    let z = c .before .before .before .before .before .before .if1 .left in
+    let x = c .before .before .before .before .before .before .before .before .before .before .before .args in
+    let v = c .before .before .before .before .before .before .before .of .ensures in
+    let z = c .before .before .before .before .before .if1 .left in
     let l = object-scan-list (x .schema .now) (x .t) (x .code) (schema-of (x .base .now)) in
-    listed-put (v .through z .sound) _ l (object-list (v .through z) _ _ (c .before .before .before .before .meet .ensures) (x .code)
-    (c .before .before .before .before .before .of-object .ensures)) (c .before .before .put .ensures)
+    listed-put (v .through z .sound) _ l (object-list (v .through z) _ (x .code)
+    (c .before .before .before .before .of-object .ensures)) (c .before .before .put .ensures)
     (viewed-passes v (room-test (room (x .out .now)) l) (scan-object-left (x .schema .now) (x .t) (x .code) (room (x .out .now)) (schema-of (x .base .now))) z)
 
 pub scan-object-spec : {M : Type 1} → statement M
@@ -56,7 +53,6 @@ scan-object-spec =
     refused-requires
     returns
     of-object-requires
-    meet-requires
     put-requires
     same-length
     returns-2)

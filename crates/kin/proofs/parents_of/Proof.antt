@@ -1,32 +1,20 @@
 -- `kin::parents_of` meets its contract: each type is taken out of the set that is left when its parents are added. The measure is what is
 -- left. Assumes nothing.
-use Prim.Native.Nat.{ℕ}
 use native.Mathlib.Omega.{arith}
-use mathlib.Core.Path.{_≡_}
-use mathlib.Core.Bool.{not, _&&_}
-use lib.Dec.{eqb}
 use lib.ListN.{length}
 use Rattle.rules.specs.05-Descent.{members}
 use Rattle.base.specs.Back.{schema-of}
 use Rattle.type_set.specs.Set.{has, Lowest}
 use Rattle.type_set.proofs.Set.{lowest-none}
-use Rattle.kin.proofs.KinLaws.{taken-out, fewer-left, Parents-left, parents-none, parents-more, parents-all}
+use Rattle.kin.proofs.KinLaws.{fewer-left, Parents-left, parents-none, parents-more, parents-all}
 use Rattle.kin.proofs.parents_of.Statement.{statement}
 use Rattle.kin.proofs.parents_of.Tie as tie
 
 abbrev Inv-loop : tie.InvT-loop
-Inv-loop base none r₀ left₀ t₀ r left t = Lowest (has left) t × Parents-left (schema-of base) (has left₀) (has left) (has r)
+Inv-loop base r₀ left₀ t₀ r left t = Lowest (has left) t × Parents-left (schema-of base) (has left₀) (has left) (has r)
 
 abbrev μ-loop : tie.MeasureT-loop
-μ-loop base none r₀ left₀ t₀ r left t = length (members (has left))
-
--- what is left then is what was, but for the type
-left-after : (c : tie.After-lowest2 Inv-loop μ-loop) → let l = c .before .before .before .before .before .loop in
-    (k : ℕ) → has (c .before .without .result) k ≡ has (l .left) k && not (eqb k (l .t))
-left-after c =
-    let l = c .before .before .before .before .before .loop in
-    let none = c .before .before .before .before .before .before .before .empty in
-    taken-out (has (l .left)) _ _ _ (l .t) (none .ensures) (c .before .before .add .ensures) (c .before .without .ensures)
+μ-loop base r₀ left₀ t₀ r left t = length (members (has left))
 
 empty-requires : tie.Need-empty-requires Inv-loop μ-loop
 empty-requires c κs = tt
@@ -40,25 +28,23 @@ loop-holds c = (c .lowest .ensures, parents-none _ _ _ (c .before .empty .ensure
 add-parents-requires : tie.Need-add-parents-requires Inv-loop μ-loop
 add-parents-requires c κs = (c .before .before .before .before .before .pre, omega arith)
 
-add-requires : tie.Need-add-requires Inv-loop μ-loop
-add-requires c κs = omega arith
-
-without-requires : tie.Need-without-requires Inv-loop μ-loop
-without-requires c κs = tt
+less-requires : tie.Need-less-requires Inv-loop μ-loop
+less-requires c κs = omega arith
 
 lowest-requires-2 : tie.Need-lowest-requires-2 Inv-loop μ-loop
 lowest-requires-2 c κs = tt
 
 loop-less : tie.Need-loop-less Inv-loop μ-loop
 loop-less c =
-    let l = c .before .before .before .before .before .loop in
-    fewer-left (has (l .left)) _ (l .t) (omega arith) (l .inv .0 .passes (omega arith)) (left-after c)
+    let l = c .before .before .before .before .loop in
+    fewer-left (has (l .left)) _ (l .t) (omega arith) (l .inv .0 .passes (omega arith)) (c .before .less .ensures)
 
 loop-again : tie.Need-loop-again Inv-loop μ-loop
 loop-again c =
-    let l = c .before .before .before .before .before .loop in (
+    let l = c .before .before .before .before .loop in (
       c .lowest2 .ensures,
-      parents-more (l .inv .1) _ _ (l .t) (omega arith) (l .inv .0 .passes (omega arith)) (left-after c) (c .before .before .before .add-parents .ensures),
+      parents-more (l .inv .1) _ _ (l .t) (omega arith) (l .inv .0 .passes (omega arith)) (c .before .less .ensures)
+          (c .before .before .add-parents .ensures),
     )
 
 returns : tie.Need-returns Inv-loop μ-loop
@@ -74,8 +60,7 @@ parents-of-spec =
     lowest-requires
     loop-holds
     add-parents-requires
-    add-requires
-    without-requires
+    less-requires
     lowest-requires-2
     loop-less
     loop-again

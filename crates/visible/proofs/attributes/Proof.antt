@@ -13,14 +13,14 @@ use Rattle.base.specs.Rows.{application-at}
 use Rattle.base.specs.Back.{application-count}
 use Rattle.base.proofs.Kept.{sound-long}
 use Rattle.type_set.specs.declared.TypeSet.{TypeSet}
-use Rattle.type_set.specs.Set.{has}
+use Rattle.type_set.specs.Set.{bit, has}
 use Rattle.visible.proofs.ShownLaws.{Gathers, gathers-none, gathers-more, gathers-skip, all-applications}
 use Rattle.lookup.proofs.RowBytes.{application-small}
 use Rattle.visible.proofs.attributes.Statement.{statement}
 use Rattle.visible.proofs.attributes.Tie as tie
 
 abbrev Inv-loop : tie.InvT-loop
-Inv-loop base sdss types n r₀ i₀ r i = (i ≤ n) × Gathers i (λ j. has sdss (getD base (application-at j) 0) && has types
+Inv-loop base sdss types n r₀ i₀ r i = (i ≤ n) × Gathers i (λ j. bit sdss (getD base (application-at j) 0) && has types
     (getD base (application-at j + to-offset) 0)) (λ j. getD base (application-at j + attribute-offset) 0) (has r)
 
 abbrev μ-loop : tie.MeasureT-loop
@@ -85,7 +85,7 @@ returns c =
     let x = c .before .before .before .before .before in
     let l = c .before .loop in
     let end : l .i ≡ application-count (x .args .base .now) = omega (arith, c .before .before .before .application-count .ensures .is) in
-    all-applications (x .args .base .now) (has (l .r)) (λ a. has (x .args .sdss) (a .sds) && has (x .args .types) (a .to)) (λ a. a .attribute)
+    all-applications (x .args .base .now) (has (l .r)) (λ a. bit (x .args .sdss) (a .sds) && has (x .args .types) (a .to)) (λ a. a .attribute)
     (rw end at (l .inv .1))
 
 pub attributes-spec : {M : Type 1} → statement M

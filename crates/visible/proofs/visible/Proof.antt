@@ -13,20 +13,20 @@ use Rattle.base.specs.Rows.{presence-at}
 use Rattle.base.specs.Back.{presence-count}
 use Rattle.base.proofs.Kept.{sound-long}
 use Rattle.type_set.specs.declared.TypeSet.{TypeSet}
-use Rattle.type_set.specs.Set.{has}
+use Rattle.type_set.specs.Set.{bit, has}
 use Rattle.visible.proofs.ShownLaws.{Gathers, gathers-none, gathers-more, gathers-skip, all-presences}
 use Rattle.lookup.proofs.RowBytes.{presence-small}
 use Rattle.visible.proofs.visible.Statement.{statement}
 use Rattle.visible.proofs.visible.Tie as tie
 
 abbrev Inv-loop : tie.InvT-loop
-Inv-loop base sdss n r₀ i₀ r i = (i ≤ n) × Gathers i (λ j. has sdss (getD base (presence-at j) 0)) (λ j. getD base (presence-at j + type-offset) 0) (has r)
+Inv-loop base sdss n r₀ i₀ r i = (i ≤ n) × Gathers i (λ j. bit sdss (getD base (presence-at j) 0)) (λ j. getD base (presence-at j + type-offset) 0) (has r)
 
 abbrev μ-loop : tie.MeasureT-loop
 μ-loop base sdss n r₀ i₀ r i = n - i
 
-presence-count-requires : tie.Need-presence-count-requires Inv-loop μ-loop
-presence-count-requires c κs = sound-long (c .before .pre)
+count-requires : tie.Need-count-requires Inv-loop μ-loop
+count-requires c κs = c .before .pre
 
 empty-requires : tie.Need-empty-requires Inv-loop μ-loop
 empty-requires c κs = search needs
@@ -38,23 +38,23 @@ presence-sds-requires : tie.Need-presence-sds-requires Inv-loop μ-loop
 presence-sds-requires c κs = (
   sound-long (c .before .before .before .before .before .pre),
   omega
-      (arith, c .before .before .before .presence-count .ensures .fits, c .loop-test .taken),
+      (arith, c .before .before .before .count .ensures .fits, c .loop-test .taken),
 )
 
-test-requires : tie.Need-test-requires Inv-loop μ-loop
-test-requires c κs =
+lists-requires : tie.Need-lists-requires Inv-loop μ-loop
+lists-requires c κs =
     omega (
       arith,
       c .presence-sds .ensures .is,
       presence-small (c .before .before .before .before .before .before .pre) (c .before .before .loop .i)
-          (omega (arith, c .before .before .before .before .presence-count .ensures .is, c .before .loop-test .taken)) .0,
+          (omega (arith, c .before .before .before .before .count .ensures .is, c .before .loop-test .taken)) .0,
     )
 
 presence-type-requires : tie.Need-presence-type-requires Inv-loop μ-loop
 presence-type-requires c κs = (
   sound-long (c .before .before .before .before .before .before .before .before .pre),
   omega
-      (arith, c .before .before .before .before .before .before .presence-count .ensures .fits, c .before .before .before .loop-test .taken),
+      (arith, c .before .before .before .before .before .before .count .ensures .fits, c .before .before .before .loop-test .taken),
 )
 
 add-requires : tie.Need-add-requires Inv-loop μ-loop
@@ -66,7 +66,7 @@ add-requires c κs =
           (c .before .before .before .before .before .loop .i)
           (omega (
             arith,
-            c .before .before .before .before .before .before .before .presence-count .ensures .is,
+            c .before .before .before .before .before .before .before .count .ensures .is,
             c .before .before .before .before .loop-test .taken,
           )) .1,
     )
@@ -80,7 +80,7 @@ loop-less c = search needs
 loop-again : tie.Need-loop-again Inv-loop μ-loop
 loop-again c =
     let l = c .before .before .before .before .loop in
-    let test = sym (c .before .test .ensures ∙ ap (has (c .before .before .before .before .before .before .before .before .args .sdss))
+    let test = sym (c .before .lists .ensures ∙ ap (bit (c .before .before .before .before .before .before .before .before .args .sdss))
     (c .before .before .presence-sds .ensures .is)) in (
       omega arith,
       ⊎-elim
@@ -94,8 +94,8 @@ returns : tie.Need-returns Inv-loop μ-loop
 returns c =
     let x = c .before .before .before .before .before in
     let l = c .before .loop in
-    let end : l .i ≡ presence-count (x .args .base .now) = omega (arith, c .before .before .before .presence-count .ensures .is) in
-    all-presences (x .args .base .now) (has (l .r)) (λ p. has (x .args .sdss) (p .sds)) (λ p. p .type) (rw end at (l .inv .1))
+    let end : l .i ≡ presence-count (x .args .base .now) = omega (arith, c .before .before .before .count .ensures .is) in
+    all-presences (x .args .base .now) (has (l .r)) (λ p. bit (x .args .sdss) (p .sds)) (λ p. p .type) (rw end at (l .inv .1))
 
 pub visible-spec : {M : Type 1} → statement M
 visible-spec =
@@ -103,11 +103,11 @@ visible-spec =
     (tie.spec
     Inv-loop
     μ-loop
-    presence-count-requires
+    count-requires
     empty-requires
     loop-holds
     presence-sds-requires
-    test-requires
+    lists-requires
     presence-type-requires
     add-requires
     add-i

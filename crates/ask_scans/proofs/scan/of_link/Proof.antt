@@ -3,6 +3,7 @@
 use borrow.Author.Needs.{needs}
 use native.Mathlib.Omega.{arith}
 use mathlib.Core.Path.{_≡_}
+use Rattle.base.proofs.Back.{sound-good}
 use Rattle.ask_scans.proofs.ScanLaws.{one-among, applied-scan}
 use Rattle.ask_scans.proofs.scan.of_link.Statement.{statement}
 use Rattle.ask_scans.proofs.scan.of_link.Tie as tie
@@ -21,8 +22,9 @@ attributes-requires c κs = c .before .before .before .pre .0
 
 returns-2 : tie.Need-returns-2
 returns-2 c =
-    let last : c .before .before .before .before .args .code ≡ 4 = omega (arith, c .before .before .if1 .left, c .before .before .before .before .pre .1 .1) in
-    applied-scan _ _ _ _ last _ _ (one-among _ _ (c .before .before .before .before .pre .1 .0) (c .before .one .ensures)) (c .attributes .ensures)
+    let start = c .before .before .before .before in
+    let last : start .args .code ≡ 4 = omega (arith, c .before .before .if1 .left, start .pre .1 .1) in
+    applied-scan _ (sound-good (start .pre .0)) _ _ _ last _ _ (one-among _ _ (start .pre .1 .0) (c .before .one .ensures)) (c .attributes .ensures)
 
 pub of-link-spec : {M : Type 1} → statement M
 of-link-spec =

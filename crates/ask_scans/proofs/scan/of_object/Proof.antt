@@ -1,5 +1,4 @@
--- `ask_scans::scan::of_object` meets its contract: below code 4 it is what `kin` tells, under any working schema; from code 4 on
--- it is what `had` tells. Assumes nothing.
+-- `ask_scans::scan::of_object` meets its contract: below code 4 it is what `kin` tells, from code 4 on what `had` tells. Assumes nothing.
 use borrow.Author.Needs.{needs}
 use Rattle.ask_scans.proofs.scan.of_object.Statement.{statement}
 use Rattle.ask_scans.proofs.scan.of_object.Tie as tie
@@ -8,7 +7,7 @@ kin-requires : tie.Need-kin-requires
 kin-requires c κs = search needs
 
 returns : tie.Need-returns
-returns c = record { is = λ w listed k. c .kin .ensures w k }
+returns c = search needs
 
 had-requires : tie.Need-had-requires
 had-requires c κs = search needs

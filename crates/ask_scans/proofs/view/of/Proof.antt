@@ -1,7 +1,7 @@
 -- `ask_scans::view::of` meets its contract: a test that passes comes to the next of `type-refusals`, one that fails tells its
--- number; past all, the two sets are what is listed and what is visible. Assumes nothing.
+-- number; past all, the word has what is listed. Assumes nothing.
 use borrow.Author.Needs.{needs}
-use Prim.Native.Nat.{ℕ, _<_}
+use Prim.Native.Nat.{_<_}
 use native.Mathlib.Omega.{arith}
 use mathlib.Core.Path.{_≡_, sym, ap, _∙_}
 use mathlib.Core.Bool.{not}
@@ -10,10 +10,9 @@ use Rattle.rules.specs.08-Working.{visible}
 use Rattle.base.specs.Back.{schema-of}
 use Rattle.base.proofs.Kept.{sound-long}
 use Rattle.base.proofs.TestedLaws.{come-spoiled, Past, come-first, come-next, come-stops, come-through}
-use Rattle.type_set.specs.Set.{has}
 use Rattle.visible.proofs.Rules.{visible-are}
 use Rattle.ask_scans.specs.View.{type-refusals}
-use Rattle.ask_scans.proofs.ViewLaws.{not-viewed, visible-below, listed-small, not-seen, seen}
+use Rattle.ask_scans.proofs.ViewLaws.{not-viewed, visible-below, listed-sds, listed-small, not-seen, seen}
 use Rattle.ask_scans.proofs.view.of.Statement.{statement}
 use Rattle.ask_scans.proofs.view.of.Tie as tie
 
@@ -29,19 +28,19 @@ at-6 : (c : tie.Else3) → let x = c .before .before .before .before .before .be
     Past (x .base .now) (type-refusals (schema-of (x .base .now)) (x .schema .now) (x .t) (x .link) (x .known)) 6
 at-6 c = come-next (at-5 (c .before)) (c .if3 .left)
 
--- the set that was gathered is what is visible
-shown : (c : tie.After-visible) → let x = c .before .before .before .before .before .before .before .before .before in (k : ℕ) → has
-    (c .visible .result) k ≡ visible (schema-of (x .args .base .now)) (x .args .schema .now) k
-shown c k = c .visible .ensures k ∙ visible-are _ _ _ (c .before .listed .ensures) k
+-- what is in a listed SDS is visible
+shown : (c : tie.After-is-visible) → let x = c .before .before .before .before .before .before .before .before .before .args in
+    c .is-visible .result ≡ visible (schema-of (x .base .now)) (x .schema .now) (x .t)
+shown c = c .is-visible .ensures ∙ visible-are _ _ _ (c .before .listed .ensures) _
 
-at-7 : (c : tie.Else4) → let x = c .before .before .before .before .before .before .before .before .before .before .before .args in
+at-7 : (c : tie.Else4) → let x = c .before .before .before .before .before .before .before .before .before .before .args in
     Past (x .base .now) (type-refusals (schema-of (x .base .now)) (x .schema .now) (x .t) (x .link) (x .known)) 7
-at-7 c = come-next (at-6 (c .before .before .before .before)) (seen _ _ _ (c .before .holds .ensures ∙ shown (c .before .before) _) (c .if4 .left))
+at-7 c = come-next (at-6 (c .before .before .before)) (seen _ _ _ (shown (c .before)) (c .if4 .left))
 
-below : (c : tie.Else4) → c .before .before .before .before .before .before .before .before .before .before .before .args .t < 128
-below c = visible-below (at-7 c .sound) _ _ (sym (c .before .holds .ensures ∙ shown (c .before .before) _) ∙ not-false _ (c .if4 .left))
+below : (c : tie.Else4) → c .before .before .before .before .before .before .before .before .before .before .args .t < 128
+below c = visible-below (at-7 c .sound) _ _ (sym (shown (c .before)) ∙ not-false _ (c .if4 .left))
 
-at-8 : (c : tie.Else5) → let x = c .before .before .before .before .before .before .before .before .before .before .before .before .before .args in
+at-8 : (c : tie.Else5) → let x = c .before .before .before .before .before .before .before .before .before .before .before .before .args in
     Past (x .base .now) (type-refusals (schema-of (x .base .now)) (x .schema .now) (x .t) (x .link) (x .known)) 8
 at-8 c = come-next (at-7 (c .before .before)) (ap not (sym (c .before .is-of-kind .ensures)) ∙ c .if5 .left)
 
@@ -75,20 +74,18 @@ returns-3 c = not-viewed (come-stops (at-5 (c .before .before)) (c .before .if3 
     (λ z. omega (arith, c .refused3 .ensures))
 
 listed-requires : tie.Need-listed-requires
-listed-requires c κs = listed-small (at-6 c .sound) _ (sym (c .before .before .has-unknown .ensures) ∙ c .before .if2 .left)
+listed-requires c κs = listed-sds (at-6 c .sound) _ (sym (c .before .before .has-unknown .ensures) ∙ c .before .if2 .left)
 
-visible-requires : tie.Need-visible-requires
-visible-requires c κs = at-6 (c .before) .sound
-
-holds-requires : tie.Need-holds-requires
-holds-requires c κs = search needs
+is-visible-requires : tie.Need-is-visible-requires
+is-visible-requires c κs = at-6 (c .before) .sound
 
 refused-requires-4 : tie.Need-refused-requires-4
 refused-requires-4 c κs = search needs
 
 returns-4 : tie.Need-returns-4
-returns-4 c = not-viewed (come-stops (at-6 (c .before .before .before .before .before))
-    (not-seen _ _ _ (c .before .before .holds .ensures ∙ shown (c .before .before .before) _) (c .before .if4 .taken)) (c .refused4 .ensures))
+returns-4 c =
+    not-viewed
+    (come-stops (at-6 (c .before .before .before .before)) (not-seen _ _ _ (shown (c .before .before)) (c .before .if4 .taken)) (c .refused4 .ensures))
     (λ z. omega (arith, c .refused4 .ensures))
 
 is-of-kind-requires : tie.Need-is-of-kind-requires
@@ -104,8 +101,7 @@ returns-5 c = not-viewed (come-stops (at-7 (c .before .before .before)) (ap not 
 
 has-repeated-requires : tie.Need-has-repeated-requires
 has-repeated-requires c κs = listed-small (at-8 c .sound) _
-    (sym (c .before .before .before .before .before .before .before .before .has-unknown .ensures) ∙
-    c .before .before .before .before .before .before .before .if2 .left)
+    (sym (c .before .before .before .before .before .before .before .has-unknown .ensures) ∙ c .before .before .before .before .before .before .if2 .left)
 
 refused-requires-6 : tie.Need-refused-requires-6
 refused-requires-6 c κs = search needs
@@ -120,13 +116,13 @@ returns-7 c =
     let p = at-8 (c .before .before) in
     record {
       told = come-through (come-next p (sym (c .before .has-repeated .ensures) ∙ c .if6 .left));
-      code-known = λ _. not-false _ (c .before .before .before .before .before .before .before .before .if3 .left);
+      code-known = λ _. not-false _ (c .before .before .before .before .before .before .before .if3 .left);
       through = λ _. record {
         sound = p .sound;
         below = below (c .before .before .before .before);
         kind = sym (c .before .before .before .is-of-kind .ensures) ∙ not-false _ (c .before .before .if5 .left);
-        listed = c .before .before .before .before .before .before .before .listed .ensures;
-        visible = shown (c .before .before .before .before .before .before);
+        listed = c .before .before .before .before .before .before .listed .ensures;
+        held = sym (c .before .before .before .before .before .is-visible .ensures) ∙ not-false _ (c .before .before .before .before .if4 .left);
       };
     }
 
@@ -143,8 +139,7 @@ of-spec =
     refused-requires-3
     returns-3
     listed-requires
-    visible-requires
-    holds-requires
+    is-visible-requires
     refused-requires-4
     returns-4
     is-of-kind-requires

@@ -40,8 +40,9 @@ compilers() {
     [ "$(uname -m)" = x86_64 ] || {
         need x86_64-linux-gnu-gcc gcc-x86-64-linux-gnu libc6-dev-amd64-cross
         need x86_64-linux-gnu-g++ g++-x86-64-linux-gnu
-        # static: there may be no x86-64 loader here
-        cc=(x86_64-linux-gnu-gcc -static) cxx=(x86_64-linux-gnu-g++ -static)
+        # static: there may be no x86-64 loader here. Not so C++, which links libm: Debian's static one for this compiler names files
+        # that are not there; the loader is the one that `runner` points to
+        cc=(x86_64-linux-gnu-gcc -static) cxx=(x86_64-linux-gnu-g++)
     }
 }
 

@@ -21,7 +21,7 @@
 #include <stddef.h>
 #include <stdint.h>
 
-#define CF_VERSION "0.2.1"
+#define CF_VERSION "0.3.0"
 
 /* What a base has room for, and its length in bytes. tests/c/test.c holds these to the library. */
 #define CF_BASE_LENGTH 13312
@@ -52,13 +52,17 @@ enum cf_no {
     CF_ALREADY = 9,         /* it is there, applied or that end already */
     CF_PARENT_MISSING = 10, /* a parent of the type is not in the target */
     CF_TAKEN = 11,          /* the name is taken, or the two names of a call are equal */
-    CF_IN_USE = 12,         /* what is to be removed is still used */
+    CF_IN_USE = 12,         /* the SDS still holds a type; one: the lowest */
     CF_NOT_THERE = 13,      /* there is no such application or end to take away */
     CF_FULL = 14,           /* there is no room in the base */
-    CF_OUTPUT_SHORT = 15    /* the output has too little room */
+    CF_OUTPUT_SHORT = 15,   /* the output has too little room */
+    CF_HAS_CHILD = 16,      /* the type has a child there; one: the lowest */
+    CF_APPLIED = 17,        /* the type is applied or has anything applied to it there; one: the lowest of these */
+    CF_HAS_END = 18         /* the type is or has an end there; one: the lowest of these */
 };
 
-/* `no` is a number of the above; then the values that the call gives, in order. All others are 0. */
+/* `no` is a number of the above; then the values that the call gives, in order. All others are 0. A refusal gives no
+ * value, but for 12, 16, 17 and 18: one is the lowest type that stands in the way of a removal, which may be type 0. */
 typedef struct {
     size_t no, one, two, three;
 } cf_answer;
@@ -83,10 +87,13 @@ static inline const char *cf_words(size_t no)
     case CF_ALREADY: return "it is there already";
     case CF_PARENT_MISSING: return "a parent of the type is missing in the target";
     case CF_TAKEN: return "the name is taken";
-    case CF_IN_USE: return "it is still used";
+    case CF_IN_USE: return "the SDS still holds a type";
     case CF_NOT_THERE: return "there is no such application or end";
     case CF_FULL: return "there is no room in the base";
     case CF_OUTPUT_SHORT: return "the output has too little room";
+    case CF_HAS_CHILD: return "the type has a child there";
+    case CF_APPLIED: return "the type is applied or has anything applied to it there";
+    case CF_HAS_END: return "the type is or has an end there";
     default: return "no such number";
     }
 }
@@ -103,7 +110,7 @@ cf_answer cf_fresh(uint8_t *base, size_t base_len);
 cf_answer cf_new_sds(uint8_t *base, size_t base_len, const uint8_t *name, size_t name_len);
 
 /* Removes an SDS that holds no type.
- * 1: the base is not sound; 2: no SDS has the number; 3: it is SDS 0; 12: it holds a type. */
+ * 1: the base is not sound; 2: no SDS has the number; 3: it is SDS 0; 12: it holds a type, one: the lowest in it. */
 cf_answer cf_remove_sds(uint8_t *base, size_t base_len, size_t sds);
 
 /* Makes an object type in an SDS. Its parents are 1 to 4 object types, by their local names there in one run of bytes,
@@ -184,7 +191,10 @@ cf_answer cf_remove_destination(uint8_t *base, size_t base_len, size_t sds, cons
 /* Removes a type from an SDS, by its local name there; a link type with its reverse. A type that is in no SDS any more
  * is gone. one: its number.
  * 1: the base is not sound; 2: no SDS has the number; 3: it is SDS 0; 4: the name is malformed; 6: no type bears it
- * there; 12: there it has a child, is applied, has anything applied to it, or is or has an end, or its reverse does. */
+ * there. What holds it there is told, as one the lowest type that does; when that is out of the way the next is told,
+ * and the removal is done when none is left. 16: a child of it. 17: of an attribute type a type that it is applied to;
+ * of another an attribute type that is applied to it or to its reverse. 18: of an object type a link type that it is an
+ * end of; of a link type an object type that is an end of it or of its reverse. */
 cf_answer cf_remove_type(uint8_t *base, size_t base_len, size_t sds, const uint8_t *name, size_t name_len);
 
 /* Gives a type another local name in an SDS. Its own present name is accepted and changes nothing.

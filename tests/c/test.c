@@ -398,7 +398,7 @@ static void the_auditors_case(void)
     ANSWERS(NEW_OBJECT(1, "fifo2", "radio template"), 0, FIFO2, 0, 0);
     keep();
     LISTS(SCAN_OBJECT("\1", TEMPLATE, 1), "\4\5", 2, 0, 0);
-    ANSWERS(REMOVE_TYPE(1, "template"), 12, 0, 0, 0);
+    ANSWERS(REMOVE_TYPE(1, "template"), 16, FIFO, 0, 0);
     EXPECT(is_kept());
     ANSWERS(REMOVE_TYPE(1, "fifo"), 0, FIFO, 0, 0);
     ANSWERS(NEW_OBJECT(1, "adc", "fifo2"), 0, ADC, 0, 0);
@@ -451,6 +451,70 @@ static void pairs(void)
     EXPECT(is_named(1, 7, "of"));
     ANSWERS(REMOVE_TYPE(1, "of"), 0, 7, 0, 0);
     EXPECT(is_kept());
+    EXPECT(is_guarded());
+}
+
+/* Each obstacle to a removal, with the lowest type that stands in the way; type 0 is told as any other. */
+static void what_holds_a_type(void)
+{
+    a_base_with_links();
+    ANSWERS(REMOVE_TYPE(1, "object"), 16, TOP, 0, 0);
+    ANSWERS(REMOVE_TYPE(1, "top"), 16, LEFT, 0, 0);
+    ANSWERS(REMOVE_TYPE(1, "left"), 16, LOW, 0, 0);
+    ANSWERS(REMOVE_TYPE(1, "low"), 17, FIVE, 0, 0);
+    ANSWERS(REMOVE_TYPE(1, "five"), 17, LOW, 0, 0);
+    ANSWERS(REMOVE_TYPE(1, "six"), 17, TOP, 0, 0);
+    ANSWERS(REMOVE_TYPE(1, "nine"), 17, FIVE, 0, 0);
+    ANSWERS(REMOVE_TYPE(1, "seven"), 18, LEFT, 0, 0);
+    ANSWERS(REMOVE_TYPE(1, "eight"), 18, LEFT, 0, 0);
+    /* What SDS 1 has doesn't hold in SDS 2: left has no child there. */
+    ANSWERS(REMOVE_TYPE(2, "left"), 17, SIX, 0, 0);
+    ANSWERS(REMOVE_TYPE(2, "five"), 17, LEFT, 0, 0);
+    ANSWERS(REMOVE_TYPE(2, "seven"), 18, TOP, 0, 0);
+    ANSWERS(remove_sds(1), 12, 0, 0, 0);
+    ANSWERS(remove_sds(2), 12, 0, 0, 0);
+    EXPECT(is_kept());
+    /* When one is out of the way, the next is told, and with the last the type goes. */
+    ANSWERS(UNAPPLY(1, "five", "low"), 0, 0, 0, 0);
+    ANSWERS(REMOVE_TYPE(1, "five"), 17, NINE, 0, 0);
+    ANSWERS(REMOVE_TYPE(1, "low"), 18, NINE, 0, 0);
+    ANSWERS(APPLY_LINK(1, "seven", "low"), 0, 0, 0, 0);
+    ANSWERS(REMOVE_TYPE(1, "low"), 18, SEVEN, 0, 0);
+    ANSWERS(REMOVE_DESTINATION(1, "eight", "low"), 0, 0, 0, 0);
+    ANSWERS(UNAPPLY_LINK(1, "nine", "low"), 0, 0, 0, 0);
+    ANSWERS(REMOVE_TYPE(1, "low"), 0, LOW, 0, 0);
+    ANSWERS(REMOVE_TYPE(1, "left"), 18, SEVEN, 0, 0);
+    ANSWERS(REMOVE_TYPE(1, "right"), 0, RIGHT, 0, 0);
+    /* The lowest over both of a pair, by either name. */
+    ANSWERS(APPLY(1, "six", "seven"), 0, 0, 0, 0);
+    ANSWERS(REMOVE_TYPE(1, "eight"), 17, SIX, 0, 0);
+    ANSWERS(APPLY(1, "five", "eight"), 0, 0, 0, 0);
+    ANSWERS(REMOVE_TYPE(1, "seven"), 17, FIVE, 0, 0);
+    ANSWERS(REMOVE_TYPE(1, "eight"), 17, FIVE, 0, 0);
+    ANSWERS(UNAPPLY(1, "five", "eight"), 0, 0, 0, 0);
+    ANSWERS(UNAPPLY(1, "six", "seven"), 0, 0, 0, 0);
+    ANSWERS(ADD_DESTINATION(1, "eight", "object"), 0, 0, 0, 0);
+    ANSWERS(REMOVE_TYPE(1, "seven"), 18, 0, 0, 0);
+    ANSWERS(REMOVE_TYPE(1, "eight"), 18, 0, 0, 0);
+    ANSWERS(APPLY(1, "six", "object"), 0, 0, 0, 0);
+    ANSWERS(REMOVE_TYPE(1, "six"), 17, 0, 0, 0);
+    EXPECT(is_guarded());
+}
+
+static void what_holds_an_sds(void)
+{
+    begin("one", "two");
+    ANSWERS(NEW_ATTRIBUTE(1, "a", 0), 0, 1, 0, 0);
+    ANSWERS(NEW_ATTRIBUTE(2, "b", 0), 0, 2, 0, 0);
+    ANSWERS(NEW_ATTRIBUTE(2, "a", 0), 0, 3, 0, 0);
+    keep();
+    ANSWERS(remove_sds(1), 12, 1, 0, 0);
+    ANSWERS(remove_sds(2), 12, 2, 0, 0);
+    EXPECT(is_kept());
+    ANSWERS(REMOVE_TYPE(2, "b"), 0, 2, 0, 0);
+    ANSWERS(remove_sds(2), 12, 3, 0, 0);
+    ANSWERS(REMOVE_TYPE(2, "a"), 0, 3, 0, 0);
+    ANSWERS(remove_sds(2), 0, 0, 0, 0);
     EXPECT(is_guarded());
 }
 
@@ -706,12 +770,12 @@ static void the_limits(void)
 /* Each number has words of its own. */
 static void words_for_numbers(void)
 {
-    for (size_t no = 0; no <= CF_OUTPUT_SHORT; no++) {
+    for (size_t no = 0; no <= CF_HAS_END; no++) {
         EXPECT(strcmp(cf_words(no), "no such number") != 0);
         for (size_t other = 0; other < no; other++)
             EXPECT(strcmp(cf_words(no), cf_words(other)) != 0);
     }
-    EXPECT(strcmp(cf_words(CF_OUTPUT_SHORT + 1), "no such number") == 0);
+    EXPECT(strcmp(cf_words(CF_HAS_END + 1), "no such number") == 0);
     EXPECT(strcmp(cf_words(SIZE_MAX), "no such number") == 0);
 }
 
@@ -838,6 +902,8 @@ int main(void)
     the_auditors_case();
     parents();
     pairs();
+    what_holds_a_type();
+    what_holds_an_sds();
     a_spoiled_base();
     a_fresh_base_asked();
     every_descendant();

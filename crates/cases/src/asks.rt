@@ -16,7 +16,7 @@ fn of_type(base: &[u8], call: &[u8], list: &[u8], t: usize, code: usize, out: &m
     if names::is_equal(call, b"descendant_set") {
         return ask::descendant_set(base, list, t);
     }
-    Answer::refused(16)
+    read::no_call()
 }
 
 pub fn with_type(base: &[u8], line: &[u8], out: &mut [u8]) -> Answer {
@@ -61,5 +61,5 @@ pub fn other(base: &[u8], line: &[u8], out: &mut [u8]) -> Answer {
     if read::begins(line, b"name") {
         return ask::name_place(base, read::number_at(line, 1), read::number_at(line, 2));
     }
-    Answer::refused(16)
+    read::no_call()
 }

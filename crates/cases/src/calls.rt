@@ -6,24 +6,23 @@ use rules::Answer;
 
 fn change(base: &mut [u8], line: &[u8]) -> Answer {
     let one = changes::with_one_name(base, line);
-    if one.no != 16 {
+    if read::is_call(one.no) {
         return one;
     }
     let two = changes::with_two_names(base, line);
-    if two.no != 16 {
+    if read::is_call(two.no) {
         return two;
     }
     changes::other(base, line)
 }
 
-// The number 16 says that there is none.
 pub fn call(base: &mut [u8], line: &[u8], out: &mut [u8]) -> Answer {
     let changed = change(base, line);
-    if changed.no != 16 {
+    if read::is_call(changed.no) {
         return changed;
     }
     let asked = asks::with_type(base, line, out);
-    if asked.no != 16 {
+    if read::is_call(asked.no) {
         return asked;
     }
     asks::other(base, line, out)

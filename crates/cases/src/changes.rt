@@ -1,5 +1,5 @@
-// The changing calls of 01 by a line: the call's name and its inputs, in the order of the header. Calls with inputs alike are read alike. An
-// answer with the number 16, which no call of 01 gives, says that the line begins with none of them.
+// The changing calls of 01 by a line: the call's name and its inputs, in the order of the header. Calls with inputs alike are read alike. A line
+// that begins with none of them is no call.
 use super::read;
 use rules::Answer;
 
@@ -45,7 +45,7 @@ pub fn other(base: &mut [u8], line: &[u8]) -> Answer {
     if read::begins(line, b"import") {
         return import(base, line);
     }
-    Answer::refused(16)
+    read::no_call()
 }
 
 // What stands behind an SDS and a name: a value kind, or the parents.
@@ -62,7 +62,7 @@ fn one_name(base: &mut [u8], call: &[u8], sds: usize, name: &[u8], rest: &[u8]) 
     if names::is_equal(call, b"remove_type") {
         return change_presences::remove::remove_type(base, sds, name);
     }
-    Answer::refused(16)
+    read::no_call()
 }
 
 pub fn with_one_name(base: &mut [u8], line: &[u8]) -> Answer {
@@ -97,7 +97,7 @@ fn two_names(base: &mut [u8], call: &[u8], sds: usize, name: &[u8], second: &[u8
     if names::is_equal(call, b"rename") {
         return change_presences::rename::rename(base, sds, name, second);
     }
-    Answer::refused(16)
+    read::no_call()
 }
 
 pub fn with_two_names(base: &mut [u8], line: &[u8]) -> Answer {

@@ -31,7 +31,7 @@ fn count(n: usize) -> usize
 // The answer of a call, and the types that it put down.
 fn tell_call(base: &mut [u8], line: &[u8], out: &mut [u8]) -> bool {
     let a = calls::call(base, line, out);
-    if a.no == 16 {
+    if !read::is_call(a.no) {
         return io::write_all(1, b" = ?\n");
     }
     let listed = count(a.one) + count(a.two) + count(a.three);

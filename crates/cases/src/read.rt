@@ -1,4 +1,5 @@
-// The inputs of a call, by the words of a line.
+// The call that a line begins with, and its inputs, by the words of the line.
+use rules::Answer;
 use run_words::Word;
 ghost use Prim.Native.Nat.{_≤_};
 ghost use mathlib.Core.Path.{_≡_};
@@ -23,6 +24,16 @@ pub fn rest_at(line: &[u8], i: usize) -> &[u8] {
 // Whether the line begins with that word.
 pub fn begins(line: &[u8], call: &[u8]) -> bool {
     names::is_equal(word_at(line, 0), call)
+}
+
+// What a line comes to that begins with no call: a number that none gives.
+pub fn no_call() -> Answer {
+    Answer::refused(100)
+}
+
+// Whether the number is that of a call.
+pub fn is_call(no: usize) -> bool {
+    no != 100
 }
 
 // Where word i stands; - is a blank one.

@@ -1,7 +1,7 @@
 -- A type removed from an SDS, and its reverse with it. Assumes nothing.
 use Prim.Native.Nat.{ℕ, _<_}
 use native.Mathlib.Omega.{arith}
-use mathlib.Core.Path.{_≡_, refl, sym, ap, _∙_}
+use mathlib.Core.Path.{_≡_, refl, sym, ap, _∙_, subst}
 use mathlib.Core.List.{List, [], _∷_}
 use mathlib.Core.Bool.{Bool, true, false, _&&_, _||_, or-false}
 use lib.Dec.{eqb}
@@ -12,39 +12,25 @@ use Rattle.rules.specs.04-Schema.{Schema, Presence, with-reverse, holds-type, p
 use Rattle.rules.specs.04-Schema.Kind.{unused}
 use Rattle.rules.specs.06-Good.{Good}
 use Rattle.rules.specs.07-Picture.{Sound, picture}
-use Rattle.rules.specs.09-Refusals.{Outcome, still-used}
+use Rattle.rules.specs.09-Refusals.{Outcome, Refusals}
 use Rattle.rules.specs.09-Refusals.Outcome.{done}
-use Rattle.rules.specs.10-Changes.{less-gone, remove-type, remove-type-refusals}
-use Rattle.rules.proofs.Bools.{and-both, or-first, or-next}
+use Rattle.rules.specs.10-Changes.{less-gone, obstacles, remove-type, remove-type-refusals}
+use Rattle.rules.proofs.Bools.{and-both}
 use Rattle.rules.proofs.01-Lists.{any-at, any-where}
 use Rattle.rules.proofs.Edits.{without-in, without-keeps, without-same, without-twice}
 use Rattle.rules.proofs.09-Refusals.{Left}
 use Rattle.base.specs.Back.{schema-of}
 use Rattle.base.specs.Stored.{Shows, Stored, Becomes}
+use Rattle.base.specs.Tested.{Tested}
 use Rattle.base.proofs.Back.{sound-good}
 use Rattle.base.proofs.StoredLaws.{shows-next, shows-has}
-use Rattle.base.proofs.TestedLaws.{tested-sound, tested-passes}
+use Rattle.base.proofs.TestedLaws.{Come, come-rest, tested-sound, tested-passes}
 use Rattle.conditions.specs.Aimed.{With-reverse, Refused-or}
-use Rattle.conditions.specs.Reverse.{one-or-none, Reverse-of}
+use Rattle.conditions.specs.Reverse.{Reverse-of}
 use Rattle.conditions.proofs.AimedLaws.{all-passed, name-borne}
 use Rattle.conditions.proofs.ReverseLaws.{one-is, none-is}
-use Rattle.change_presences.specs.Remove.{Held-once, less-presence}
+use Rattle.change_presences.specs.Remove.{Held-once, less-presence, Refused-telling}
 use Rattle.change_presences.proofs.HeldLaws.{held, held-named}
-
--- ---- a test of a type and of its reverse, if it has one
-
-module _ (p : ℕ → Bool) (t r : ℕ) {x : Bool} (e : x ≡ p t) where
-  pub either-first : x ≡ true → true ≡ any p (t ∷ one-or-none r)
-  unfolding any
-  either-first f = or-first (any p (one-or-none r)) e f
-
-  pub either-alone : x ≡ false → r ≡ 128 → false ≡ any p (t ∷ one-or-none r)
-  unfolding any
-  either-alone f h = or-next e f (sym (ap (any p) (none-is {r = r} (omega arith))))
-
-  pub either-last : x ≡ false → r < 128 → {y : Bool} → y ≡ p r → y ≡ any p (t ∷ one-or-none r)
-  unfolding any
-  either-last f h {y} g = or-next e f (g ∙ sym (or-false (p r)) ∙ sym (ap (any p) (one-is h)))
 
 -- ---- the reverse
 
@@ -101,11 +87,27 @@ pub remove-left : (d : ℕ) (n : Name) (s : Schema) → Left (remove-type d n s)
 unfolding remove-type
 remove-left d n s = record { is = refl }
 
--- the test of both types is the rule's, where t is the type named and r its reverse
-pub used-is : (s : Schema) (d : ℕ) (n : Name) {t r : ℕ} → t ≡ type-named s d n → Reverse-of s t r → {x : Bool}
-    → x ≡ any (still-used s d) (t ∷ one-or-none r) → any (still-used s d) (with-reverse s (type-named s d n)) ≡ x
-used-is s d n {t} e rev f =
-    ap (λ (y : ℕ). any (still-used s d) (with-reverse s y)) (sym e) ∙ ap (λ (ts : List ℕ). any (still-used s d) (t ∷ ts)) (rev .is) ∙ sym f
+-- refused for its name, or for an obstacle; or not
+module _ {b : List ℕ} {rs : Refusals} {So : Type 0} where
+  pub refused-plainly : {no one : ℕ} → Refused-or b rs no So → one ≡ 0 → Refused-telling b rs no one So
+  refused-plainly r e = record { value = 0; told = r .told; tells = λ _. e; so = r .so }
+
+  pub refused-held : {no one : ℕ} → Tested b rs no one → (no ≡ 0 → ⊥) → Refused-telling b rs no one So
+  refused-held t n = record { value = _; told = t; tells = λ _. refl; so = λ z. absurd (n z) }
+
+  pub not-held : {no value t : ℕ} → Tested b rs no value → no ≡ 0 → So → Refused-telling b rs 0 t So
+  not-held {no} {value} t z x = record {
+    value = value;
+    told = subst (λ (y : ℕ). Tested b rs y value) z t;
+    tells = λ n. absurd (n refl);
+    so = λ _. x;
+  }
+
+-- the obstacles of the type named
+pub named-obstacles : {b : List ℕ} {whole : Refusals} (d : ℕ) (n : Name) {t no one : ℕ}
+    → Come b whole (obstacles d (type-named (schema-of b) d n) (schema-of b)) → t ≡ type-named (schema-of b) d n
+    → Tested b (obstacles d t (schema-of b)) no one → Tested b whole no one
+named-obstacles {b} d n {no = k} {one = v} come e t = come-rest come (subst (λ (y : ℕ). Tested b (obstacles d y (schema-of b)) k v) e t)
 
 -- what the call goes on with where nothing refuses
 pub record Through (b : List ℕ) (d : ℕ) (n : Name) (t r : ℕ) : Type 0 where
@@ -115,8 +117,8 @@ pub record Through (b : List ℕ) (d : ℕ) (n : Name) (t r : ℕ) : Type 0 wher
   pub pair : Reverse-of (schema-of b) t r
   pub rule : remove-type d n (schema-of b) ≡ done t 0 0 (removed d t (schema-of b))
 
-pub goes-through : {b : List ℕ} {d : ℕ} {n : Name} {no t r : ℕ} → Refused-or b (remove-type-refusals d n (schema-of b)) no (With-reverse b d n t r) → no ≡ 0
-    → Through b d n t r
+pub goes-through : {b : List ℕ} {d : ℕ} {n : Name} {no t r : ℕ}
+    → Refused-telling b (remove-type-refusals d n (schema-of b)) no t (With-reverse b d n t r) → no ≡ 0 → Through b d n t r
 unfolding all
 goes-through {b} {d} {n} told z =
     let s = tested-sound (told .told) z in

@@ -3,34 +3,15 @@ use base::Base;
 use conditions::aimed::Told;
 use rules::Answer;
 use rules::Limits;
-ghost use mathlib.Core.Path.{_≡_};
 ghost use mathlib.Core.List.{[], _∷_};
-ghost use Prim.Native.Nat.{_≤_, _<_};
-ghost use Rattle.rules.specs.01-Lists.{any};
+ghost use Prim.Native.Nat.{_<_};
 ghost use Rattle.rules.specs.02-Limits.{limits};
-ghost use Rattle.rules.specs.07-Picture.{Sound};
-ghost use Rattle.rules.specs.09-Refusals.{still-used};
 ghost use Rattle.rules.specs.10-Changes.{less-gone, remove-type, remove-type-refusals};
 ghost use Rattle.rules.specs.12-Contracts.{Kept};
 ghost use Rattle.base.specs.Back.{schema-of};
 ghost use Rattle.base.specs.Stored.{Stored, Shows};
-ghost use Rattle.conditions.specs.Reverse.{one-or-none};
-ghost use Rattle.conditions.specs.Aimed.{With-reverse, Refused-or};
-ghost use Rattle.change_presences.specs.Remove.{Held-once, less-presence};
-
-// Whether type t, or its reverse r if it has one, is still used in SDS d.
-fn is_either_used(base: &[u8], d: usize, t: usize, r: usize) -> bool
-    requires { ⌜ Sound (now base) × (r ≤ 128) ⌝ }
-    ensures { λ x. ⌜ x ≡ any (still-used (schema-of (now (base .entry))) d) (t ∷ one-or-none r) ⌝ }
-{
-    if in_use::is_still_used(base, d, t) {
-        return true;
-    }
-    if r == Limits::TYPES {
-        return false;
-    }
-    in_use::is_still_used(base, d, r)
-}
+ghost use Rattle.conditions.specs.Aimed.{With-reverse};
+ghost use Rattle.change_presences.specs.Remove.{Held-once, less-presence, Refused-telling};
 
 // The presence of type t in SDS d goes.
 fn take_out(base: &mut [u8], d: usize, t: usize)
@@ -53,20 +34,21 @@ fn drop_if_gone(base: &mut [u8], t: usize)
     }
 }
 
-// What the removal tests, in the order of its refusals; then the type that is named and its reverse, as many as there are types
-// where it has none.
+// What the removal tests, in the order of its refusals, and the type that one tells; then the type that is named and its reverse, as
+// many as there are types where it has none.
 fn removable(base: &[u8], sds: usize, name: &[u8]) -> Told
-    ensures { λ r. ⌜ Refused-or (now (base .entry)) (remove-type-refusals sds (now (name .entry)) (schema-of (now (base .entry)))) (r .no)
-        (With-reverse (now (base .entry)) sds (now (name .entry)) (r .one) (r .two)) ⌝ }
+    ensures { λ r. ⌜ Refused-telling (now (base .entry)) (remove-type-refusals sds (now (name .entry)) (schema-of (now (base .entry))))
+        (r .no) (r .one) (With-reverse (now (base .entry)) sds (now (name .entry)) (r .one) (r .two)) ⌝ }
 {
     let no = conditions::aimed::aimed(base, sds, name);
     let told = conditions::aimed::named(base, sds, name, no);
     if told.no != 0 {
-        return told;
+        return Told::telling(told.no, 0);
     }
     let reverse = conditions::reverse_of(base, told.one);
-    if is_either_used(base, sds, told.one, reverse) {
-        return Told::refused(12);
+    let held = in_use::obstacle(base, sds, told.one, reverse);
+    if held.no != 0 {
+        return held;
     }
     Told {
         no: 0,
@@ -81,7 +63,7 @@ pub fn remove_type(base: &mut [u8], sds: usize, name: &[u8]) -> Answer
 {
     let told = removable(base, sds, name);
     if told.no != 0 {
-        return Answer::refused(told.no);
+        return Answer::telling(told.no, told.one);
     }
     take_out(base, sds, told.one);
     if told.two == Limits::TYPES {

@@ -42,8 +42,9 @@ pub fn remove_sds(base: &mut [u8], sds: usize) -> Answer
     if no != 0 {
         return Answer::refused(no);
     }
-    if lookup::presences::holds_presence(base, sds) {
-        return Answer::refused(12);
+    let lowest = in_use::lowest_type(base, sds);
+    if lowest != Limits::TYPES {
+        return Answer::telling(12, lowest);
     }
     edit::write_sds(base, sds, b"");
     Answer::done(0, 0, 0)

@@ -42,7 +42,7 @@ none-passed (r ∷ rs) h z =
     passed-more e (none-passed rs more w)
 
 -- all of them fail
-pub all-passed : {b : List ℕ} {rs : Refusals} {no : ℕ} → Tested b rs no 0 → no ≡ 0 → numbers-beyond 0 rs ≡ true → Passed rs
+pub all-passed : {b : List ℕ} {rs : Refusals} {no value : ℕ} → Tested b rs no value → no ≡ 0 → numbers-beyond 0 rs ≡ true → Passed rs
 all-passed (spoiled n e f) z h = absurd (omega arith)
 all-passed {rs = rs} (tested s e f) z h = none-passed rs h (sym e ∙ z)
 

@@ -9,7 +9,7 @@ ghost use Rattle.base.specs.Back.{schema-of};
 ghost use Rattle.base.specs.Tested.{Tested};
 ghost use Rattle.conditions.specs.Aimed.{sds-refusals, aim-refusals, Aim-told, two-refusals, Both, Refused-or, Named};
 
-// The number of the refusal, 0 where there is none; then the types that a call goes on with.
+// The number of the refusal, 0 where there is none; then the types that a call goes on with, or the one that a refusal tells.
 pub struct Told {
     pub no: usize,
     pub one: usize,
@@ -21,6 +21,12 @@ impl Told {
         ensures { λ r. ⌜ r .no ≡ no ⌝ }
     {
         Told { no, one: 0, two: 0 }
+    }
+
+    pub fn telling(no: usize, one: usize) -> Told
+        ensures { λ r. ⌜ (r .no ≡ no) × (r .one ≡ one) ⌝ }
+    {
+        Told { no, one, two: 0 }
     }
 }
 

@@ -15,5 +15,6 @@ pub mod Renames
 pub mod Theorems
 pub mod All
 pub mod Numbers
+pub mod Told
 pub mod Keepers
 pub mod Demand

@@ -4,7 +4,7 @@ use mathlib.Core.Path.{_≡_, refl, sym, subst, ap, _∙_}
 use mathlib.Core.Logic.{⊎-elim}
 use mathlib.Core.List.{List, [], _∷_, List·Memᴰ·not-nil, List·Memᴰ·cases-cons}
 use mathlib.Core.List.List·Memᴰ.{List·Memᴰ·head, List·Memᴰ·tail}
-use mathlib.Core.Bool.{Bool, true, false, cond, _&&_, _||_, true≢false, false≢true}
+use mathlib.Core.Bool.{Bool, true, false, cond, _&&_, true≢false, false≢true}
 use lib.Dec.{leb, eqb}
 use lib.ListN.{length, length-set, getD, set, List·getD-eq-default}
 use lib.Seq.{getD-set-same, getD-set-other, set-out}
@@ -12,21 +12,24 @@ use borrow.Author.Tests.{eqb-true, eqb-false, eq-eqb, leb-true, leb-false}
 use Rattle.rules.specs.01-Lists.{_∈_, any, among, without}
 use Rattle.rules.specs.03-Names.{Name}
 use Rattle.rules.specs.04-Schema.{Schema, Kind, Presence, Application, End, system-presence, kind-of, is-used, is-object, parents, parents-in}
-use Rattle.rules.specs.04-Schema.{is-parent, reverse, reverse-in, with-reverse, present, type-named, with-types, with-presences}
+use Rattle.rules.specs.04-Schema.{is-parent, reverse, reverse-in, with-reverse, present, type-named, applied, is-application, has-end, with-types}
+use Rattle.rules.specs.04-Schema.{with-presences}
 use Rattle.rules.specs.04-Schema.Kind.{unused, object, attribute, paired}
 use Rattle.rules.specs.05-Descent.{Parent}
 use Rattle.rules.specs.06-Good.{Good}
-use Rattle.rules.specs.09-Refusals.{has-child, in-application, in-end, still-used}
+use Rattle.rules.specs.09-Refusals.{_held-by_, child-there, applied-there, end-of, end-there, in-the-way}
 use Rattle.rules.specs.09-Refusals.Outcome.{done}
 use Rattle.rules.specs.10-Changes.{less-gone, remove-type, remove-type-refusals}
 use Rattle.rules.specs.13-History.{next}
 use Rattle.rules.specs.Parts.{of-types, of-presences, Types, Presences, Applications, Ends, Parts}
-use Rattle.rules.proofs.Bools.{or-left, or-right, or-neither, and-both, and-of, fails}
+use Rattle.rules.proofs.Bools.{or-left, or-right, and-both, and-of, fails}
 use Rattle.rules.proofs.01-Lists.{any-at, any-where, none-at, among-in, in-among}
-use Rattle.rules.proofs.05-Descent.{descends-over, object-used, child-object}
+use Rattle.rules.proofs.05-Descent.{descends-over, used-below, object-used, child-object}
 use Rattle.rules.proofs.Edits.{without-in, without-keeps}
-use Rattle.rules.proofs.09-Refusals.{verdict-keeps}
+use Rattle.rules.proofs.08-Working.{present-used}
+use Rattle.rules.proofs.09-Refusals.{verdict-keeps, none-passes, on-side}
 use Rattle.rules.proofs.Parts.{presence-there, presence-of, parts-of, whole, applied-over, ended-over, applied-held, ended-held}
+use Rattle.history.proofs.EndChanges.{in-has}
 use Rattle.history.proofs.KindLaws.{kind-unused, has-reverse}
 use Rattle.history.proofs.Parts.{Placed, rows-of, placed-at, presences-of}
 use Rattle.history.proofs.Passed.{aimed}
@@ -233,7 +236,9 @@ module _ (d : ℕ) (ts : List ℕ) (ps : List Presence) where
 
 -- ---- remove type
 
-module _ {s : Schema} (g : Good s) (d t : ℕ) (outside : d ≡ 0 → ⊥) (free : any (still-used s d) (with-reverse s t) ≡ false) where
+module _ {s : Schema} (g : Good s) (d t : ℕ) (outside : d ≡ 0 → ⊥) (no-child : (16 held-by in-the-way (child-there s d) (with-reverse s t)) .holds ≡ false)
+    (no-application : (17 held-by in-the-way (applied-there s d) (with-reverse s t)) .holds ≡ false)
+    (no-end : (18 held-by in-the-way (end-there s d) (with-reverse s t)) .holds ≡ false) where
   -- of a pair both are taken or neither
   pair-closed : (u c r : ℕ) → kind-of s u ≡ paired c r → r ∈ with-reverse s t → u ∈ with-reverse s t
   unfolding reverse
@@ -255,49 +260,54 @@ module _ {s : Schema} (g : Good s) (d t : ℕ) (outside : d ≡ 0 → ⊥) (free
           let itself : u ≡ t = cc in
           List·Memᴰ·head itself
 
-  free-of : (u : ℕ) → u ∈ with-reverse s t → (has-child s d u ≡ false) × (in-application s d u ≡ false) × (in-end s d u ≡ false)
-  unfolding still-used
-  free-of u i =
-      let (a, rest) = or-neither (has-child s d u) (in-application s d u || in-end s d u) (none-at (still-used s d) free i) in
-      let (b, c) = or-neither (in-application s d u) (in-end s d u) rest in
-      (a, b, c)
-
-  -- in SDS d no child of theirs is present, no application and no end speaks of them
-  childless : (u v : ℕ) → u ∈ with-reverse s t → present s d v ≡ true → Parent (of-types (s .types)) v u → ⊥
-  unfolding present parents is-parent has-child
-  childless u v i e by =
-      let (p, j, a, b) = presence-of (s .presences) d v e in
+  -- no type in SDS d stands in one of these ways
+  free-of : (n : ℕ) (holds : ℕ → ℕ → Bool) → (n held-by in-the-way holds (with-reverse s t)) .holds ≡ false → {u v : ℕ} → u ∈ with-reverse s t
+      → present s d v ≡ true → holds u v ≡ true → ⊥
+  unfolding in-the-way
+  free-of n holds free {v = v} i h e =
       true≢false
-      (sym (and-of (eqb (p .sds) d) (is-parent s (p .type) u) (eq-eqb (p .sds) d a) (rw b (in-among (by .listed))))
-      ∙ none-at (λ q. eqb (q .sds) d && is-parent s (q .type) u) (free-of u i .0) j)
+      (sym e
+      ∙ none-at (λ w. holds w v)
+      (none-passes n (λ x. any (λ w. holds w x) (with-reverse s t)) free v (used-below g v (present-used g d v h))) i)
+
+  -- so no child of theirs is present there, no application and no end speaks of them
+  childless : (u v : ℕ) → u ∈ with-reverse s t → present s d v ≡ true → Parent (of-types (s .types)) v u → ⊥
+  unfolding parents is-parent child-there
+  childless u v i e by = free-of 16 (child-there s d) no-child i e (and-of (present s d v) (among (parents s v) u) e (in-among (by .listed)))
 
   unapplied : (x : Application) → x ∈ s .applications
       → (x .sds ≡ d → x .to ∈ with-reverse s t → ⊥) × (x .sds ≡ d → x .attribute ∈ with-reverse s t → ⊥)
-  unfolding in-application
+  unfolding applied-there applied
   unapplied x j = (
-    λ same i. speaks same (x .to) i (or-left (eqb (x .to) (x .to)) (eqb (x .attribute) (x .to)) (eq-eqb (x .to) (x .to) refl)),
-    λ same i. speaks same (x .attribute) i
-        (or-right (eqb (x .to) (x .attribute)) (eqb (x .attribute) (x .attribute)) (eq-eqb (x .attribute) (x .attribute) refl)),
+    λ same i. free-of 17 (applied-there s d) no-application i (there same .1)
+        (or-right (applied s d (x .attribute) (x .to)) (applied s d (x .to) (x .attribute)) (is same)),
+    λ same i. free-of 17 (applied-there s d) no-application i (there same .0)
+        (or-left (applied s d (x .to) (x .attribute)) (applied s d (x .attribute) (x .to)) (is same)),
   )
     where
-      speaks : x .sds ≡ d → (u : ℕ) → u ∈ with-reverse s t → eqb (x .to) u || eqb (x .attribute) u ≡ true → ⊥
-      speaks same u i e =
-          true≢false
-          (sym (and-of (eqb (x .sds) d) (eqb (x .to) u || eqb (x .attribute) u) (eq-eqb (x .sds) d same) e)
-          ∙ none-at (λ y. eqb (y .sds) d && (eqb (y .to) u || eqb (y .attribute) u)) (free-of u i .1) j)
+      is : x .sds ≡ d → applied s d (x .to) (x .attribute) ≡ true
+      is same =
+          any-at (is-application d (x .to) (x .attribute)) j
+          (and-of (eqb (x .sds) d) (eqb (x .to) (x .to) && eqb (x .attribute) (x .attribute)) (eq-eqb (x .sds) d same)
+          (and-of (eqb (x .to) (x .to)) (eqb (x .attribute) (x .attribute)) (eq-eqb (x .to) (x .to) refl) (eq-eqb (x .attribute) (x .attribute) refl)))
+
+      there : x .sds ≡ d → (present s d (x .to) ≡ true) × (present s d (x .attribute) ≡ true)
+      there same = rw same at (and-both (present s (x .sds) (x .to)) (present s (x .sds) (x .attribute)) (g .application-present x j))
 
   endless : (x : End) → x ∈ s .ends → (x .sds ≡ d → x .link ∈ with-reverse s t → ⊥) × (x .sds ≡ d → x .object ∈ with-reverse s t → ⊥)
-  unfolding in-end
+  unfolding end-there has-end
   endless x j = (
-    λ same i. speaks same (x .link) i (or-left (eqb (x .link) (x .link)) (eqb (x .object) (x .link)) (eq-eqb (x .link) (x .link) refl)),
-    λ same i. speaks same (x .object) i (or-right (eqb (x .link) (x .object)) (eqb (x .object) (x .object)) (eq-eqb (x .object) (x .object) refl)),
+    λ same i. free-of 18 (end-there s d) no-end i (there same .1) (or-right (end-of s d (x .object) (x .link)) (end-of s d (x .link) (x .object)) (is same)),
+    λ same i. free-of 18 (end-there s d) no-end i (there same .0) (or-left (end-of s d (x .link) (x .object)) (end-of s d (x .object) (x .link)) (is same)),
   )
     where
-      speaks : x .sds ≡ d → (u : ℕ) → u ∈ with-reverse s t → eqb (x .link) u || eqb (x .object) u ≡ true → ⊥
-      speaks same u i e =
-          true≢false
-          (sym (and-of (eqb (x .sds) d) (eqb (x .link) u || eqb (x .object) u) (eq-eqb (x .sds) d same) e)
-          ∙ none-at (λ y. eqb (y .sds) d && (eqb (y .link) u || eqb (y .object) u)) (free-of u i .2) j)
+      is : x .sds ≡ d → end-of s d (x .link) (x .object) ≡ true
+      is same =
+          on-side s d (x .link) (x .side) (x .object)
+          (subst (λ (y : ℕ). has-end s y (x .link) (x .side) (x .object) ≡ true) same (in-has (s .ends) x j))
+
+      there : x .sds ≡ d → (present s d (x .link) ≡ true) × (present s d (x .object) ≡ true)
+      there same = rw same at (and-both (present s (x .sds) (x .link)) (present s (x .sds) (x .object)) (g .end-present x j))
 
   -- the presences that are left, and the types
   abbrev rest : List Presence
@@ -382,7 +392,7 @@ remove-type-keeps d n s g =
     verdict-keeps (λ o. Good (next s o)) (remove-type-refusals d n s)
     (done t 0 0 (less-gone (with-reverse s t) (with-presences s (without (goes d (with-reverse s t)) (s .presences)))))
     (λ _ _. g)
-    (λ passed. removed-good g d t (aimed d (passed .fails 3)) (passed .fails 12))
+    (λ passed. removed-good g d t (aimed d (passed .fails 3)) (passed .fails 16) (passed .fails 17) (passed .fails 18))
   where
     t : ℕ
     t = type-named s d n

@@ -5,16 +5,16 @@ use mathlib.Core.Path.{_≡_, refl, sym, ap, subst, _∙_}
 use mathlib.Core.Logic.{⊎-elim}
 use mathlib.Core.List.{List, []}
 use mathlib.Core.Bool.{Bool, true, false, not, _&&_, true≢false, false≢true}
-use lib.Dec.{leb, ltb, eqb}
+use lib.Dec.{leb, ltb}
 use lib.ListN.{length, getD, set, length-set, List·getD-eq-default}
 use lib.Seq.{getD-set-other}
-use borrow.Author.Tests.{not-true, leb-false, ltb-true, ltb-false, eq-eqb}
+use borrow.Author.Tests.{not-true, leb-false, ltb-true, ltb-false}
 use Rattle.rules.specs.01-Lists.{_∈_, any}
 use Rattle.rules.specs.02-Limits.{limits}
 use Rattle.rules.specs.03-Names.{Name, well-formed, blank, same-name}
-use Rattle.rules.specs.04-Schema.{Schema, Presence, used-sds, with-sdss}
+use Rattle.rules.specs.04-Schema.{Schema, Presence, used-sds, present, with-sdss}
 use Rattle.rules.specs.06-Good.{Good}
-use Rattle.rules.specs.09-Refusals.{unknown-sds, sds-name-taken, holds-presence, free-sdss, no-free-sds}
+use Rattle.rules.specs.09-Refusals.{_held-by_, unknown-sds, sds-name-taken, types-in, free-sdss, no-free-sds}
 use Rattle.rules.specs.09-Refusals.Outcome.{done}
 use Rattle.rules.specs.10-Changes.{new-sds, new-sds-number, new-sds-refusals, remove-sds, remove-sds-refusals}
 use Rattle.rules.specs.13-History.{next}
@@ -23,8 +23,9 @@ use Rattle.rules.proofs.Bools.{or-neither, and-of}
 use Rattle.rules.proofs.01-Lists.{any-at, place-in, numbers-in}
 use Rattle.rules.proofs.03-Names.{same-turned}
 use Rattle.rules.proofs.Edits.{set-either}
-use Rattle.rules.proofs.09-Refusals.{verdict-keeps}
-use Rattle.rules.proofs.Parts.{parts-of}
+use Rattle.rules.proofs.05-Descent.{used-below}
+use Rattle.rules.proofs.09-Refusals.{verdict-keeps, none-passes}
+use Rattle.rules.proofs.Parts.{presence-there, parts-of}
 use Rattle.history.proofs.Parts.{with-sdss-good}
 use Rattle.history.proofs.Passed.{aimed, formed}
 
@@ -97,7 +98,7 @@ module _ {ns : List Name} (g : Sdss ns) (d : ℕ) (h : d < length ns) where
 -- ---- the calls
 
 pub remove-sds-keeps : (d : ℕ) (s : Schema) → Good s → Good (next s (remove-sds d s))
-unfolding remove-sds unknown-sds holds-presence
+unfolding remove-sds unknown-sds types-in present
 remove-sds-keeps d s g =
     verdict-keeps (λ o. Good (next s o)) (remove-sds-refusals d s) (done 0 0 0 (with-sdss s (set (s .sdss) d [])))
     (λ _ _. g)
@@ -106,10 +107,13 @@ remove-sds-keeps d s g =
     inside : unknown-sds s d ≡ false → d < length (s .sdss)
     inside e = omega (arith, leb-false (limits .sdss) d (or-neither (leb (limits .sdss) d) (not (used-sds s d)) e .0), g .sds-room)
 
-    still : holds-presence s d ≡ false → (p : Presence) → p ∈ s .presences → used-sds (of-sdss (set (s .sdss) d [])) (p .sds) ≡ true
+    still : (12 held-by types-in s d) .holds ≡ false → (p : Presence) → p ∈ s .presences → used-sds (of-sdss (set (s .sdss) d [])) (p .sds) ≡ true
     still e p i =
         used-alike (set (s .sdss) d []) (s .sdss) (p .sds)
-        (getD-set-other (s .sdss) d (p .sds) [] [] (λ q. true≢false (sym (any-at (λ p. eqb (p .sds) d) i (eq-eqb (p .sds) d q)) ∙ e)))
+        (getD-set-other (s .sdss) d (p .sds) [] []
+        (λ q. true≢false
+        (sym (subst (λ (x : ℕ). present s x (p .type) ≡ true) q (presence-there i))
+        ∙ none-passes 12 (present s d) e (p .type) (used-below g (p .type) (g .presence-type p i)))))
         ∙ parts-of g .presences .rows .in-used p i
 
 pub new-sds-keeps : (n : Name) (s : Schema) → Good s → Good (next s (new-sds n s))

@@ -1,1 +1,1 @@
-pub mod UsesLaws
+pub mod HeldLaws

@@ -1,4 +1,4 @@
--- What the field of an SDS and the rows of presences say of the schema that the bytes show. Assumes nothing.
+-- What the field of an SDS says of the schema that the bytes show. Assumes nothing.
 use Prim.Native.Nat.{ℕ, zero, suc, _+_, _-_, _≤_, _<_}
 use native.Mathlib.Omega.{arith}
 use mathlib.Core.Path.{_≡_, refl, sym, ap, _∙_}
@@ -6,13 +6,13 @@ use mathlib.Core.List.{List, [], _∷_}
 use mathlib.Core.Bool.{Bool, true, false, not, _&&_, false≢true}
 use lib.Dec.{leb, ltb, eqb, eqb·suc-zero}
 use lib.ListN.{length, getD}
-use borrow.Author.Tests.{ltb-true, ltb-false, le-ltb, eq-eqb, ne-eqb, lt-leb}
+use borrow.Author.Tests.{ltb-true, ltb-false, le-ltb, ne-eqb, lt-leb}
 use Rattle.rules.specs.01-Lists.{numbers}
 use Rattle.rules.specs.02-Limits.{limits}
 use Rattle.rules.specs.03-Names.{Name, well-formed, blank, same-name}
-use Rattle.rules.specs.04-Schema.{Presence, sds-name, used-sds}
+use Rattle.rules.specs.04-Schema.{sds-name, used-sds}
 use Rattle.rules.specs.07-Picture.{base-length}
-use Rattle.rules.specs.09-Refusals.{unknown-sds, sds-name-taken, holds-presence, free-sdss, no-free-sds}
+use Rattle.rules.specs.09-Refusals.{unknown-sds, sds-name-taken, free-sdss, no-free-sds}
 use Rattle.rules.specs.10-Changes.{new-sds-number}
 use Rattle.rules.proofs.Bools.{and-of, or-right}
 use Rattle.rules.proofs.01-Lists.{any-at, any-none, at-place, place-in, numbers-first, numbers-none}
@@ -20,10 +20,10 @@ use Rattle.rules.proofs.03-Names.{formed-long, same-long}
 use Rattle.rules.specs.Read.{strip}
 use Rattle.rows.specs.Rows.{part}
 use Rattle.rows.proofs.Scan.{length-part}
-use Rattle.base.specs.Rows.{sds-at, presence-at}
-use Rattle.base.specs.Back.{schema-of, presence-count}
+use Rattle.base.specs.Rows.{sds-at}
+use Rattle.base.specs.Back.{schema-of}
 use Rattle.lookup.specs.Found.{Free-sds}
-use Rattle.base.proofs.Shown.{sdss-long, sds-is, sds-none, presence-there, presence-in}
+use Rattle.base.proofs.Shown.{sdss-long, sds-is, sds-none}
 
 -- ---- SDSs
 
@@ -102,16 +102,3 @@ module _ {b : List ℕ} {r : ℕ} (f : Free-sds b r) where
   pub free-none : 16 ≤ r → no-free-sds (schema-of b) ≡ true
   unfolding no-free-sds free-sdss
   free-none h = rw (numbers-none (λ d. not (used-sds (schema-of b) d)) 0 16 (λ k l u. ap not (f .used k (omega arith))))
-
--- ---- presences
-
-pub holds-at : (b : List ℕ) (i d : ℕ) → i < presence-count b → getD b (presence-at i) 0 ≡ d → true ≡ holds-presence (schema-of b) d
-unfolding holds-presence
-holds-at b i d h e = sym (any-at (λ p. eqb (p .sds) d) (presence-there b i h) (eq-eqb (getD b (presence-at i) 0) d e))
-
-pub holds-nowhere : (b : List ℕ) (d : ℕ) → ((i : ℕ) → i < presence-count b → getD b (presence-at i) 0 ≡ d → ⊥) → false ≡ holds-presence (schema-of b) d
-unfolding holds-presence
-holds-nowhere b d none =
-    sym (any-none (λ p. eqb (p .sds) d) ((schema-of b) .presences) (λ p i.
-    let (k, h, e) = presence-in b p i in
-    ne-eqb (p .sds) d (λ q. none k h (ap (λ (x : Presence). x .sds) (sym e) ∙ q))))

@@ -1,13 +1,12 @@
-// Presences: how many there are, the row of a type in an SDS, and whether an SDS holds any.
+// Presences: how many there are, and the row of a type in an SDS.
 ghost use mathlib.Core.Path.{_≡_};
 ghost use Prim.Native.Nat.{_<_};
 ghost use lib.ListN.{length};
 ghost use Rattle.rules.specs.02-Limits.{limits};
 ghost use Rattle.rules.specs.07-Picture.{Sound, base-length};
-ghost use Rattle.rules.specs.09-Refusals.{holds-presence};
 ghost use Rattle.rows.specs.Rows.{Counted};
 ghost use Rattle.rows.specs.Decides.{Decides};
-ghost use Rattle.base.specs.Back.{schema-of, presence-count};
+ghost use Rattle.base.specs.Back.{presence-count};
 ghost use Rattle.lookup.specs.Found.{Row-of, Presence-row};
 
 // How many there are in a sound base: its used rows stand before the others, so halving finds it.
@@ -16,22 +15,6 @@ pub fn count(base: &[u8]) -> usize
     ensures { λ r. ⌜ Counted (presence-count (now (base .entry))) (limits .presences) r ⌝ }
 {
     base::used::presences_halved(base)
-}
-
-// Whether some type is in SDS d.
-pub fn holds_presence(base: &[u8], d: usize) -> bool
-    requires { ⌜ length (now base) ≡ base-length ⌝ }
-    ensures { λ r. ⌜ r ≡ holds-presence (schema-of (now (base .entry))) d ⌝ }
-{
-    let n = base::used::presence_count(base);
-    let mut i = 0;
-    while i < n {
-        if base::presence_sds(base, i) == d {
-            return true;
-        }
-        i += 1;
-    }
-    false
 }
 
 // Whether row i says that type t is in SDS d.

@@ -120,6 +120,24 @@ module _ (p : ℕ → Bool) where
   numbers-none a zero none = refl
   numbers-none a (suc m) none = numbers-passed a m (none a (omega arith) (omega arith)) ∙ numbers-none (suc a) m (λ k h w. none k (omega arith) (omega arith))
 
+  -- none before the first passes
+  pub numbers-lowest : (a m k : ℕ) → a ≤ k → k < getD (numbers a m p) 0 (a + m) → p k ≡ false
+  unfolding numbers
+  numbers-lowest a zero k l u = absurd (omega arith)
+  numbers-lowest a (suc m) k l u = go (p a) refl u (numbers-lowest (suc a) m k)
+    where
+      along : suc a + m ≡ a + suc m
+      along = omega arith
+
+      go : (b : Bool) → p a ≡ b → k < getD (cond b (a ∷ numbers (suc a) m p) (numbers (suc a) m p)) 0 (a + suc m)
+          → (suc a ≤ k → k < getD (numbers (suc a) m p) 0 (suc a + m) → p k ≡ false) → p k ≡ false
+      go true e u ih = absurd (omega arith)
+      go false e u ih = next (eqb k a) refl
+        where
+          next : (b : Bool) → eqb k a ≡ b → p k ≡ false
+          next true g = ap p (eqb-true k a g) ∙ e
+          next false g = let ne = eqb-false k a g in ih (omega arith) (rw along u)
+
   pub numbers-in : (a m n : ℕ) → n ∈ numbers a m p → (a ≤ n) × (n < a + m) × (p n ≡ true)
   unfolding numbers
   numbers-in a zero n i = absurd (List·Memᴰ·not-nil i)

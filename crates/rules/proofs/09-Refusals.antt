@@ -1,17 +1,24 @@
 -- A verdict, condition by condition: one that fails is passed over, one that holds refuses, and what is left of the list decides.
 -- Assumes nothing.
-use Prim.Native.Nat.{ℕ, _<_}
+use Prim.Native.Nat.{ℕ, _≤_, _<_}
+use native.Mathlib.Omega.{arith}
 use mathlib.Core.Path.{_≡_, refl, _∙_}
-use mathlib.Core.List.{[], _∷_}
+use mathlib.Core.Logic.{⊎-elim}
+use mathlib.Core.List.{List, [], _∷_}
 use mathlib.Core.List.List·Memᴰ.{List·Memᴰ·head, List·Memᴰ·tail}
 use mathlib.Core.Bool.{Bool, true, false, cond, _||_}
 use lib.Dec.{ltb, eqb}
-use borrow.Author.Tests.{ltb-true, eqb-true}
+use lib.ListN.{length, getD}
+use borrow.Author.Tests.{ltb-true, ltb-false, lt-ltb, eqb-true}
 use Rattle.rules.specs.01-Lists.{_∈_, all}
-use Rattle.rules.specs.09-Refusals.{Outcome, Refusal, Refusals, _when_, verdict}
+use Rattle.rules.specs.04-Schema.{Schema, Side, has-end}
+use Rattle.rules.specs.04-Schema.Side.{origin, destination}
+use Rattle.rules.specs.05-Descent.{members}
+use Rattle.rules.specs.09-Refusals.{Outcome, Refusal, Refusals, _when_, _held-by_, verdict, end-of}
 use Rattle.rules.specs.09-Refusals.Outcome.{refused, done}
-use Rattle.rules.proofs.Bools.{and-both}
-use Rattle.rules.proofs.01-Lists.{all-at}
+use Rattle.rules.proofs.Bools.{and-both, or-cases, or-left, or-right}
+use Rattle.rules.proofs.01-Lists.{all-at, place-in, numbers-first, numbers-none, numbers-lowest}
+use Rattle.rules.proofs.05-Descent.{members-in}
 
 -- the condition of the first row with number n; there is none where it fails
 abbrev pub condition : ℕ → Refusals → Bool
@@ -70,12 +77,64 @@ module _ {Made : Type 0} where
 
 -- ---- what refusals tell
 
+-- what is so of the number and of the value where it refuses
+abbrev pub Refusing : {Made : Type 0} → (ℕ → ℕ → Type 0) → Outcome Made → Type 0
+Refusing P (refused n value) = P n value
+Refusing P (done one two three made) = Unit {0}
+
 -- none tells a value
 abbrev pub untold : Refusals → Bool
 untold rs = all (λ r. eqb (r .value) 0) rs
 
 pub untold-at : (rs : Refusals) → untold rs ≡ true → {r : Refusal} → r ∈ rs → r .value ≡ 0
 untold-at rs e {r} i = eqb-true (r .value) 0 (all-at (λ r. eqb (r .value) 0) e i)
+
+-- ---- held by the types that pass
+
+module _ (n : ℕ) (p : ℕ → Bool) where
+  pub held : {r : ℕ} → r < 128 → p r ≡ true → ((k : ℕ) → k < r → p k ≡ false)
+      → ((n held-by members p) .holds ≡ true) × ((n held-by members p) .value ≡ r)
+  unfolding members
+  held {r} h e none = first-of (members p) (numbers-first p 0 128 r (omega arith) (omega arith) (λ k _ w. none k w) e)
+    where
+      first-of : (l : List ℕ) {rest : List ℕ} → l ≡ r ∷ rest → (ltb 0 (length l) ≡ true) × (getD l 0 0 ≡ r)
+      first-of l {rest} is = rw is (lt-ltb 0 (length (r ∷ rest)) (omega arith), refl)
+
+  pub unheld : ((k : ℕ) → k < 128 → p k ≡ false) → (n held-by members p) .holds ≡ false
+  unfolding members
+  unheld none = rw (numbers-none p 0 128 (λ k _ w. none k (omega arith))) refl
+
+  -- conversely: the type that is told passes and no lower one does; where none is told, none passes
+  pub told-passes : (n held-by members p) .holds ≡ true → p ((n held-by members p) .value) ≡ true
+  told-passes e = members-in p _ (place-in 0 (members p) 0 (ltb-true 0 (length (members p)) e)) .1
+
+  pub told-lowest : (n held-by members p) .holds ≡ true → (k : ℕ) → k < (n held-by members p) .value → p k ≡ false
+  unfolding members
+  told-lowest e k u = numbers-lowest p 0 128 k (omega arith) (omega (arith, u, first-is (members p) (ltb-true 0 (length (members p)) e)))
+    where
+      first-is : (l : List ℕ) → 0 < length l → getD l 0 0 ≡ getD l 0 128
+      first-is [] h = absurd (omega arith)
+      first-is (x ∷ l) h = refl
+
+  pub none-passes : (n held-by members p) .holds ≡ false → (k : ℕ) → k < 128 → p k ≡ false
+  unfolding members
+  none-passes e k u = numbers-lowest p 0 128 k (omega arith) (omega (arith, u, none-is (members p) (ltb-false 0 (length (members p)) e)))
+    where
+      none-is : (l : List ℕ) → length l ≤ 0 → getD l 0 128 ≡ 128
+      none-is [] h = refl
+      none-is (x ∷ l) h = absurd (omega arith)
+
+-- ---- an end, on whichever side
+
+module _ (s : Schema) (d l : ℕ) where
+  pub on-side : (side : Side) (o : ℕ) → has-end s d l side o ≡ true → end-of s d l o ≡ true
+  unfolding end-of
+  on-side origin o e = or-left (has-end s d l origin o) (has-end s d l destination o) e
+  on-side destination o e = or-right (has-end s d l origin o) (has-end s d l destination o) e
+
+  pub of-side : (o : ℕ) → end-of s d l o ≡ true → (side : Side) × (has-end s d l side o ≡ true)
+  unfolding end-of
+  of-side o e = ⊎-elim (λ f. (origin, f)) (λ f. (destination, f)) (or-cases (has-end s d l origin o) (has-end s d l destination o) e)
 
 -- ---- the numbers of refusals
 

@@ -28,7 +28,7 @@ unfolding
     Refusals.no-pair Refusals.unknown-object-scan Refusals.unknown-link-scan Refusals.not-1-to-4 Refusals.no-such-name
     Refusals.no-name-listed Refusals.not-visible Refusals.not-present Refusals.no-object Refusals.no-attribute Refusals.no-link
     Refusals.idle-reverse-name Refusals.missing-parent Refusals.sds-name-taken Refusals.names-taken Refusals.borne-by-another
-    Refusals.holds-presence Refusals.has-child Refusals.in-application Refusals.in-end Refusals.still-used
+    Refusals.types-in Refusals.child-there Refusals.applied-there Refusals.end-of Refusals.end-there Refusals.in-the-way
     Refusals.free-sdss Refusals.free-types Refusals.no-free-sds Refusals.presences-full
     Refusals.applications-full Refusals.ends-full Refusals.types-full Refusals.short-output
     Changes.new-sds Changes.remove-sds Changes.new-object Changes.new-attribute Changes.new-designation

@@ -4,13 +4,14 @@ use Prim.Native.Nat.{ℕ, _+_}
 use mathlib.Core.List.{List, [], _∷_}
 use mathlib.Core.Bool.{Bool, false, not, cond, _&&_, _||_}
 use lib.Dec.{leb, ltb, eqb}
-use lib.ListN.{length}
+use lib.ListN.{length, getD}
 use Rattle.rules.specs.declared.Answer.{Answer}
 use Rattle.rules.specs.01-Lists.{any, numbers}
 use Rattle.rules.specs.02-Limits.{limits}
 use Rattle.rules.specs.03-Names.{Name, well-formed, blank, same-name}
 use Rattle.rules.specs.04-Schema.{Schema, used-sds, kind-of, is-used, is-object, is-attribute, is-link, parents, is-parent, reverse}
-use Rattle.rules.specs.04-Schema.{present, bears, type-named}
+use Rattle.rules.specs.04-Schema.{present, bears, type-named, applied, has-end}
+use Rattle.rules.specs.04-Schema.Side.{origin, destination}
 use Rattle.rules.specs.05-Descent.{members}
 use Rattle.rules.specs.08-Working.{visible}
 
@@ -27,9 +28,14 @@ pub record Refusal : Type 0 where
   pub value : ℕ
 
 infix 5 _when_
--- "It returns its number and zeros": so all refusals of 01
+-- "It returns its number and zeros"
 abbrev pub _when_ : ℕ → Bool → Refusal
 n when condition = record { no = n; holds = condition; value = 0 }
+
+infix 5 _held-by_
+-- "give the number of the lowest-numbered type that stands in the way" (02, Q-1): ts are the types that do, rising
+abbrev pub _held-by_ : ℕ → List ℕ → Refusal
+n held-by ts = record { no = n; holds = ltb 0 (length ts); value = getD ts 0 0 }
 
 abbrev pub Refusals : Type 0
 Refusals = List Refusal
@@ -143,26 +149,31 @@ names-taken s d ns = any (bears s d) ns || two-equal ns
 unfoldable pub borne-by-another : Schema → ℕ → ℕ → Name → Bool
 borne-by-another s d t n = bears s d n && not (eqb (type-named s d n) t)
 
--- ---- 12 "remove SDS or remove type while still used"
+-- ---- 12 "stays for an SDS that still has presences, and there the type told is its lowest" (02, Q-1)
 
--- "it must hold no presence"
-unfoldable pub holds-presence : Schema → ℕ → Bool
-holds-presence s d = any (λ p. eqb (p .sds) d) (s .presences)
+unfoldable pub types-in : Schema → ℕ → List ℕ
+types-in s d = members (present s d)
 
--- "while it has a child present there"
-unfoldable pub has-child : Schema → ℕ → ℕ → Bool
-has-child s d t = any (λ p. eqb (p .sds) d && is-parent s (p .type) t) (s .presences)
+-- ---- 16 "a child present", 17 "an application", 18 "an end" (02, Q-1): the ways in which type x holds type t in SDS d
 
--- "is applied or has anything applied to it there"
-unfoldable pub in-application : Schema → ℕ → ℕ → Bool
-in-application s d t = any (λ x. eqb (x .sds) d && (eqb (x .to) t || eqb (x .attribute) t)) (s .applications)
+-- 16 "while it has a child present there"
+unfoldable pub child-there : Schema → ℕ → ℕ → ℕ → Bool
+child-there s d t x = present s d x && is-parent s x t
 
--- "or is or has an end there"
-unfoldable pub in-end : Schema → ℕ → ℕ → Bool
-in-end s d t = any (λ e. eqb (e .sds) d && (eqb (e .link) t || eqb (e .object) t)) (s .ends)
+-- 17 "is applied or has anything applied to it there"
+unfoldable pub applied-there : Schema → ℕ → ℕ → ℕ → Bool
+applied-there s d t x = applied s d x t || applied s d t x
 
-unfoldable pub still-used : Schema → ℕ → ℕ → Bool
-still-used s d t = has-child s d t || (in-application s d t || in-end s d t)
+-- 18 "or is or has an end there": object type o is an end of link type l on either side
+unfoldable pub end-of : Schema → ℕ → ℕ → ℕ → Bool
+end-of s d l o = has-end s d l origin o || has-end s d l destination o
+
+unfoldable pub end-there : Schema → ℕ → ℕ → ℕ → Bool
+end-there s d t x = end-of s d x t || end-of s d t x
+
+-- "and the test covers both": the types that hold one of ts in that way
+unfoldable pub in-the-way : (ℕ → ℕ → Bool) → List ℕ → List ℕ
+in-the-way holds ts = members (λ x. any (λ t. holds t x) ts)
 
 -- ---- 14 "no room in the base"
 

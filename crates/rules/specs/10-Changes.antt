@@ -12,10 +12,10 @@ use Rattle.rules.specs.04-Schema.{other-side}
 use Rattle.rules.specs.06-Good.{presence-before, application-before, end-before}
 use Rattle.rules.specs.04-Schema.Kind.{unused, object, attribute, designation, paired}
 use Rattle.rules.specs.04-Schema.Side.{origin, destination}
-use Rattle.rules.specs.09-Refusals.{Outcome, Refusals, _when_, verdict, unknown-sds, system-sds, malformed, malformed-new, unknown-value-kind}
+use Rattle.rules.specs.09-Refusals.{Outcome, Refusals, _when_, _held-by_, verdict, unknown-sds, system-sds, malformed, malformed-new, unknown-value-kind}
 use Rattle.rules.specs.09-Refusals.{no-pair, not-1-to-4, no-such-name, no-object, no-attribute, no-link, idle-reverse-name, missing-parent}
-use Rattle.rules.specs.09-Refusals.{sds-name-taken, names-taken, borne-by-another, holds-presence, still-used, no-free-sds, presences-full}
-use Rattle.rules.specs.09-Refusals.{applications-full, ends-full, types-full, free-sdss, free-types}
+use Rattle.rules.specs.09-Refusals.{sds-name-taken, names-taken, borne-by-another, types-in, child-there, applied-there, end-there, in-the-way}
+use Rattle.rules.specs.09-Refusals.{no-free-sds, presences-full, applications-full, ends-full, types-full, free-sdss, free-types}
 use Rattle.rules.specs.09-Refusals.Outcome.{done}
 
 -- ---- 2 "New SDS by name; remove SDS by number; it must hold no presence."
@@ -38,7 +38,7 @@ abbrev pub remove-sds-refusals : ℕ → Schema → Refusals
 remove-sds-refusals d s =
     (2 when unknown-sds s d)
     ∷ (3 when system-sds d)
-    ∷ (12 when holds-presence s d)
+    ∷ (12 held-by types-in s d)
     ∷ []
 
 unfoldable pub remove-sds : ℕ → Schema → Outcome Schema
@@ -255,15 +255,22 @@ remove-destination = remove-end destination
 
 -- ---- 7 "Remove type from an SDS"
 
--- "A link type goes with its reverse, and the test covers both."
+-- "refused while it has a child present there, is applied or has anything applied to it there, or is or has an end there. A link type
+-- goes with its reverse, and the test covers both."; "16 .., 17 .., 18 .., tested in that order where 12 stood" (02, Q-1)
+abbrev pub obstacles : ℕ → ℕ → Schema → Refusals
+obstacles d t s =
+    (16 held-by in-the-way (child-there s d) (with-reverse s t))
+    ∷ (17 held-by in-the-way (applied-there s d) (with-reverse s t))
+    ∷ (18 held-by in-the-way (end-there s d) (with-reverse s t))
+    ∷ []
+
 abbrev pub remove-type-refusals : ℕ → Name → Schema → Refusals
 remove-type-refusals d n s =
     (2 when unknown-sds s d)
     ∷ (3 when system-sds d)
     ∷ (4 when malformed n)
     ∷ (6 when no-such-name s d n)
-    ∷ (12 when any (still-used s d) (with-reverse s (type-named s d n)))
-    ∷ []
+    ∷ obstacles d (type-named s d n) s
 
 -- "A type with no presence left is gone.": of the types ts those that are present nowhere
 unfoldable pub less-gone : List ℕ → Schema → Schema

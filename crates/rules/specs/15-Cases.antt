@@ -9,7 +9,7 @@ use lib.ListN.{replicate}
 use Rattle.rules.specs.declared.Answer.{Answer}
 use Rattle.rules.specs.01-Lists.{bytes, same-bytes}
 use Rattle.rules.specs.04-Schema.{Schema, fresh}
-use Rattle.rules.specs.09-Refusals.{Outcome, answer-of, refusal, success}
+use Rattle.rules.specs.09-Refusals.{Outcome, answer-of, telling, refusal, success}
 use Rattle.rules.specs.09-Refusals.Outcome.{refused, done}
 use Rattle.rules.specs.13-History.{Change, Ask, Call, change-rule, ask-rule, after}
 use Rattle.rules.specs.13-History.Change.{new-sds, remove-sds, new-object, new-attribute, new-designation, new-pair, import, apply}
@@ -102,7 +102,7 @@ marked =
     ∷ ("object bus fifo2 radio template", "0 5")
     ∷ ("desc bus template", "0 2 4 5")
     ∷ ("depth bus fifo", "0 3")
-    ∷ ("remove bus template", "12")
+    ∷ ("remove bus template", "16")
     ∷ ("remove bus fifo", "0 4")
     ∷ ("object bus adc fifo2", "0 4")
     ∷ ("desc bus template", "0 2 4 5")
@@ -172,7 +172,7 @@ own =
     ∷ asks (find (2 ∷ []) (bytes "part")) (refusal 6) []
     ∷ asks (find (2 ∷ 1 ∷ []) (bytes "of")) (success 6 0 0) []
     ∷ changes (remove-sds 2) (success 0 0 0)
-    ∷ changes (remove-sds 1) (refusal 12)
+    ∷ changes (remove-sds 1) (telling 12 0)
     ∷ []))
     -- what the asking calls show of applications and ends
     ∷ calls
@@ -196,11 +196,11 @@ own =
     ∷ calls
     (ship
     ++ (applications-and-ends
-    ++ (changes (remove-type 1 (bytes "of")) (refusal 12)
+    ++ (changes (remove-type 1 (bytes "of")) (telling 17 4)
     ∷ changes (unapply-link 1 (bytes "has") (bytes "unit")) (success 0 0 0)
     ∷ changes (remove-destination 1 (bytes "of") (bytes "unit")) (refusal 13)
     ∷ changes (remove-destination 1 (bytes "has") (bytes "radio")) (success 0 0 0)
-    ∷ changes (remove-type 1 (bytes "of")) (refusal 12)
+    ∷ changes (remove-type 1 (bytes "of")) (telling 17 4)
     ∷ changes (unapply 1 (bytes "mass") (bytes "has")) (success 0 0 0)
     ∷ changes (unapply 1 (bytes "mass") (bytes "has")) (refusal 13)
     ∷ changes (remove-type 1 (bytes "of")) (success 6 0 0)
@@ -209,5 +209,43 @@ own =
     ∷ asks (find (1 ∷ []) (bytes "tuner")) (success 2 0 0) []
     ∷ changes (rename 1 (bytes "tuner") (bytes "unit")) (refusal 11)
     ∷ changes (new-designation 1 (bytes "radio")) (success 5 0 0)
+    ∷ [])))
+    -- the lowest type in the way is told, and of two ways the lower number (02, Q-1); what is told is taken away until all can go
+    ∷ calls
+    (ship
+    ++ (applications-and-ends
+    ++ (changes (apply 1 (bytes "state") (bytes "radio")) (success 0 0 0)
+    ∷ changes (apply 1 (bytes "mass") (bytes "unit")) (success 0 0 0)
+    ∷ changes (remove-type 1 (bytes "object")) (telling 16 1)
+    ∷ changes (remove-type 1 (bytes "unit")) (telling 16 2)
+    ∷ changes (remove-type 1 (bytes "state")) (telling 17 1)
+    ∷ changes (remove-type 1 (bytes "of")) (telling 17 4)
+    ∷ changes (remove-type 1 (bytes "see")) (telling 18 0)
+    ∷ changes (remove-type 1 (bytes "radio")) (telling 17 3)
+    ∷ changes (unapply 1 (bytes "state") (bytes "radio")) (success 0 0 0)
+    ∷ changes (remove-type 1 (bytes "radio")) (telling 18 5)
+    ∷ changes (remove-destination 1 (bytes "has") (bytes "radio")) (success 0 0 0)
+    ∷ changes (remove-type 1 (bytes "radio")) (success 2 0 0)
+    ∷ changes (remove-type 1 (bytes "unit")) (telling 17 3)
+    ∷ changes (unapply 1 (bytes "state") (bytes "unit")) (success 0 0 0)
+    ∷ changes (remove-type 1 (bytes "state")) (success 3 0 0)
+    ∷ changes (remove-type 1 (bytes "unit")) (telling 17 4)
+    ∷ changes (unapply 1 (bytes "mass") (bytes "unit")) (success 0 0 0)
+    ∷ changes (remove-type 1 (bytes "mass")) (telling 17 5)
+    ∷ changes (unapply 1 (bytes "mass") (bytes "has")) (success 0 0 0)
+    ∷ changes (remove-type 1 (bytes "of")) (telling 18 1)
+    ∷ changes (unapply-link 1 (bytes "has") (bytes "unit")) (success 0 0 0)
+    ∷ changes (remove-type 1 (bytes "unit")) (success 1 0 0)
+    ∷ changes (remove-type 1 (bytes "of")) (success 6 0 0)
+    ∷ changes (remove-type 1 (bytes "object")) (telling 18 7)
+    ∷ changes (unapply-link 1 (bytes "see") (bytes "object")) (success 0 0 0)
+    ∷ changes (remove-type 1 (bytes "object")) (success 0 0 0)
+    ∷ changes (remove-sds 1) (telling 12 4)
+    ∷ changes (import 1 0 (bytes "object") [] []) (success 0 0 0)
+    ∷ changes (remove-type 1 (bytes "mass")) (success 4 0 0)
+    ∷ changes (remove-type 1 (bytes "see")) (success 7 0 0)
+    ∷ changes (remove-sds 1) (telling 12 0)
+    ∷ changes (remove-type 1 (bytes "object")) (success 0 0 0)
+    ∷ changes (remove-sds 1) (success 0 0 0)
     ∷ [])))
     ∷ []

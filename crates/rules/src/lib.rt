@@ -2,7 +2,7 @@
 // definitions, in specs/.
 ghost use mathlib.Core.Path.{_≡_};
 ghost use Rattle.rules.specs.02-Limits.{limits};
-ghost use Rattle.rules.specs.09-Refusals.{refusal, success};
+ghost use Rattle.rules.specs.09-Refusals.{telling, refusal, success};
 
 // The room of a base. The definitions cannot name a constant of the source, so `all` ties the two.
 pub struct Limits {
@@ -57,6 +57,18 @@ impl Answer {
         Answer {
             no,
             one: 0,
+            two: 0,
+            three: 0,
+        }
+    }
+
+    // Refused by a number that tells a type.
+    pub fn telling(no: usize, one: usize) -> Answer
+        ensures { λ r. ⌜ r ≡ telling no one ⌝ }
+    {
+        Answer {
+            no,
+            one,
             two: 0,
             three: 0,
         }

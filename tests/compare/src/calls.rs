@@ -67,6 +67,12 @@ const fn known(name: &'static str, refusals: &'static [usize]) -> Known {
     Known { name, refusals }
 }
 
+/// Every number that a call can answer is below this.
+pub const NUMBERS: usize = 19;
+
+/// The refusals that tell a type, their first value (02, Q-1); all other values of a refusal are 0.
+pub const TELLING: [usize; 4] = [12, 16, 17, 18];
+
 /// In the order of `Call`.
 pub const CALLS: [Known; 23] = [
     known("fresh", &[1]),
@@ -83,7 +89,7 @@ pub const CALLS: [Known; 23] = [
     known("unapply_link", &[1, 2, 3, 4, 6, 7, 13]),
     known("add_destination", &[1, 2, 3, 4, 6, 7, 9, 14]),
     known("remove_destination", &[1, 2, 3, 4, 6, 7, 13]),
-    known("remove_type", &[1, 2, 3, 4, 6, 12]),
+    known("remove_type", &[1, 2, 3, 4, 6, 16, 17, 18]),
     known("rename", &[1, 2, 3, 4, 6, 11]),
     known("scan_object", &[1, 2, 5, 6, 7, 8, 15]),
     known("scan_link", &[1, 2, 5, 6, 7, 8, 15]),

@@ -1,7 +1,8 @@
 //! How often what happened, so that a run shows what it has seen.
 #![forbid(unsafe_code)]
 
-use crate::calls::{Call, CALLS};
+use crate::calls::{Call, CALLS, NUMBERS};
+use crate::removals::{traits, REMOVED};
 use crate::schema::Schema;
 use crate::shapes::{visible, SHAPES};
 use crate::spoil::WAYS;
@@ -23,9 +24,10 @@ const UNLISTED: [&str; 9] = [
     "no SDS listed: descendant_set 6",
 ];
 
-/// Lists of descendants on the schemas drawn should come up so often, of each shape and with each of these, which one
-/// pass by number, first parents alone, too few passes or no look at presences would get wrong.
-const OFTEN_LISTED: usize = 200;
+/// What schemas are drawn for should come up so often: each of `REMOVED`, and lists of descendants, of each shape and
+/// with each of these, which one pass by number, first parents alone, too few passes or no look at presences would get
+/// wrong.
+const OFTEN_DRAWN: usize = 200;
 const LISTED: [&str; 5] = [
     "a type below its parents",
     "a type by two parents",
@@ -45,16 +47,23 @@ pub struct Seen {
 
 pub struct Counts {
     /// For each call how often each number was answered.
-    pub answered: [[usize; 16]; CALLS.len()],
+    pub answered: [[usize; NUMBERS]; CALLS.len()],
     /// For each way of spoiling how many bases were sound all the same, and how many were not.
     pub spoiled: [[usize; 2]; WAYS.len()],
     /// The calls under a working schema, by their code, their list of SDSs and their output.
     pub asked: BTreeMap<String, Seen>,
+    /// Removals on sound bases, by their traits.
+    pub removed: BTreeMap<String, usize>,
 }
 
 impl Counts {
     pub fn new() -> Counts {
-        Counts { answered: [[0; 16]; CALLS.len()], spoiled: [[0; 2]; WAYS.len()], asked: BTreeMap::new() }
+        Counts {
+            answered: [[0; NUMBERS]; CALLS.len()],
+            spoiled: [[0; 2]; WAYS.len()],
+            asked: BTreeMap::new(),
+            removed: BTreeMap::new(),
+        }
     }
 
     pub fn add(&mut self, other: &Counts) {
@@ -67,6 +76,9 @@ impl Counts {
             sum.calls += seen.calls;
             sum.done += seen.done;
             sum.longest = sum.longest.max(seen.longest);
+        }
+        for (what, number) in &other.removed {
+            *self.removed.entry(what.clone()).or_default() += number;
         }
     }
 
@@ -138,8 +150,15 @@ impl Counts {
         }
     }
 
+    /// Counts a removal that left the schema.
+    pub fn remove(&mut self, schema: &Schema, call: &Call, answer: [usize; 4]) {
+        for what in traits(schema, call, answer) {
+            *self.removed.entry(what).or_default() += 1;
+        }
+    }
+
     /// The pairs of a call and a number that it can answer that came up too seldom, in words; under an empty list too,
-    /// and descents.
+    /// descents and removals.
     pub fn seldom(&self) -> Vec<String> {
         let mut seldom = Vec::new();
         for (call, counts) in CALLS.iter().zip(&self.answered) {
@@ -150,7 +169,9 @@ impl Counts {
         seldom.extend(UNLISTED.into_iter().filter(|what| is_seldom(what, OFTEN)).map(String::from));
         let descents = SHAPES.map(|(shape, _)| shape).into_iter().chain(LISTED);
         let descents = descents.map(|what| format!("descent: {what}"));
-        seldom.extend(descents.filter(|what| is_seldom(what, OFTEN_LISTED)));
+        seldom.extend(descents.filter(|what| is_seldom(what, OFTEN_DRAWN)));
+        let removals = REMOVED.into_iter().filter(|what| self.removed.get(*what).is_none_or(|&n| n < OFTEN_DRAWN));
+        seldom.extend(removals.map(|what| format!("removal: {what}")));
         seldom
     }
 
@@ -160,6 +181,8 @@ impl Counts {
         for (what, seen) in &self.asked {
             println!("{what:<40}{:>8}{:>8}{:>14}", seen.calls, seen.done, seen.longest);
         }
+        println!("\n{:<48}{:>8}", "removed or refused", "calls");
+        self.removed.iter().for_each(|(what, calls)| println!("{what:<48}{calls:>8}"));
         println!("\n{:<28}{:>8}{:>10}", "spoiled", "sound", "not sound");
         for ((name, _), [sound, unsound]) in WAYS.iter().zip(&self.spoiled) {
             println!("{name:<28}{sound:>8}{unsound:>10}");
@@ -170,7 +193,7 @@ impl Counts {
     /// How often each number was answered, and the share of calls on sound bases that were done.
     fn print_answers(&self) {
         print!("{:<19}", "call");
-        (0..16).for_each(|no| print!("{no:>6}"));
+        (0..NUMBERS).for_each(|no| print!("{no:>6}"));
         println!("{:>8}", "done");
         for (call, counts) in CALLS.iter().zip(&self.answered) {
             print!("{:<19}", call.name);
@@ -184,7 +207,7 @@ impl Counts {
             println!("{:>7.0}%", 100.0 * counts[0] as f64 / on_sound.max(1) as f64);
         }
         let seldom = self.seldom();
-        let least = format!("{OFTEN} times, descents less than {OFTEN_LISTED}");
+        let least = format!("{OFTEN} times, descents and removals less than {OFTEN_DRAWN}");
         println!("pairs of a call and a number that came up less than {least}: {}", seldom.len());
         if !seldom.is_empty() {
             println!("    {}", seldom.join(", "));

@@ -24,6 +24,11 @@ fn refused(no: usize) -> Reply {
     Reply { no, ..Reply::default() }
 }
 
+/// A refusal that tells the lowest type that stands in the way.
+fn refused_by(no: usize, lowest: usize) -> Reply {
+    Reply { no, one: lowest, ..Reply::default() }
+}
+
 fn done() -> Reply {
     Reply::default()
 }
@@ -59,8 +64,8 @@ impl Schema {
         if sds == 0 {
             return refused(3);
         }
-        if !removed.presences.is_empty() {
-            return refused(12);
+        if let Some(&lowest) = removed.presences.values().min() {
+            return refused_by(12, lowest);
         }
         self.sdss.remove(&sds);
         done()
@@ -287,14 +292,11 @@ impl Schema {
         let Some(ty) = here.find(name) else {
             return refused(6);
         };
-        // A link type goes with its reverse.
-        let going: Vec<usize> = [Some(ty), self.reverse(ty)].into_iter().flatten().collect();
-        let goes = |ty: usize| going.contains(&ty);
-        let has_child = going.iter().any(|&ty| self.children(ty).into_iter().any(|child| here.holds(child)));
-        let is_in_application = here.applications.iter().any(|a| goes(a.to) || goes(a.attribute));
-        let is_in_end = here.ends.iter().any(|end| goes(end.link) || goes(end.object));
-        if has_child || is_in_application || is_in_end {
-            return refused(12);
+        let going = self.with_reverse(ty);
+        for (no, types) in self.in_the_way(here, &going) {
+            if let Some(&lowest) = types.first() {
+                return refused_by(no, lowest);
+            }
         }
         self.within(sds).presences.retain(|_, present| !going.contains(present));
         for gone in going {
@@ -325,6 +327,20 @@ impl Schema {
         here.presences.remove(name);
         here.presences.insert(new_name.to_vec(), ty);
         done()
+    }
+
+    /// A link type goes with its reverse.
+    pub fn with_reverse(&self, ty: usize) -> Vec<usize> {
+        [Some(ty), self.reverse(ty)].into_iter().flatten().collect()
+    }
+
+    /// What stands in the way of types that are to go from an SDS: the types that each number can tell, in the order in
+    /// which the numbers are tried. An application and an end are of two types: where one goes, the other holds it.
+    pub fn in_the_way(&self, here: &Sds, going: &[usize]) -> [(usize, BTreeSet<usize>); 3] {
+        let children = going.iter().flat_map(|&ty| self.children(ty)).filter(|&child| here.holds(child));
+        let applications = here.applications.iter().map(|a| [a.attribute, a.to]);
+        let ends = here.ends.iter().map(|end| [end.link, end.object]);
+        [(16, children.collect()), (17, others(going, applications)), (18, others(going, ends))]
     }
 
     /// The application that a call speaks of, or the lowest of the numbers 2, 3, 4, 6 and 7 whose condition holds.
@@ -414,6 +430,12 @@ impl Schema {
     fn within(&mut self, sds: usize) -> &mut Sds {
         self.sdss.get_mut(&sds).expect("tested by the call")
     }
+}
+
+/// The other of each two types of which one goes.
+fn others(going: &[usize], pairs: impl Iterator<Item = [usize; 2]>) -> BTreeSet<usize> {
+    let both_ways = pairs.flat_map(|[one, other]| [(one, other), (other, one)]);
+    both_ways.filter(|(ty, _)| going.contains(ty)).map(|(_, other)| other).collect()
 }
 
 /// Whether a new name is borne in the SDS, or two of the new names are equal.

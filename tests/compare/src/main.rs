@@ -23,6 +23,7 @@ mod library;
 #[allow(unsafe_code)]
 mod linked;
 mod random;
+mod removals;
 mod run;
 mod schema;
 mod served;

@@ -2,16 +2,21 @@
 #![forbid(unsafe_code)]
 
 use crate::base::{from_bytes, is_sound, to_bytes, LENGTH};
-use crate::calls::{apply, apply_to, Call, CALLS};
+use crate::calls::{apply, apply_to, Call, CALLS, TELLING};
 use crate::coverage::Counts;
 use crate::library::{Expected, Lent, Library};
 use crate::random::{Caller, Mode, Random};
+use crate::removals::{draw, removal};
 use crate::schema::Schema;
 use crate::shapes::{question, SHAPES};
 use crate::spoil::{spoiled, WAYS};
 
-/// Questions about each schema that is drawn.
+/// Questions about each schema that is drawn for descents.
 const QUESTIONS: usize = 20;
+
+/// Schemas that are drawn for removals, and removals on each.
+const DRAWN: usize = 10;
+const REMOVALS: usize = 20;
 
 pub struct Run {
     caller: Caller,
@@ -45,8 +50,11 @@ impl Run {
             }
         }
         self.check_base()?;
-        self.place = format!("seed {seed}, history {number}");
-        self.descents()
+        for ending in [Run::descents, Run::removals] {
+            self.place = format!("seed {seed}, history {number}");
+            ending(self)?;
+        }
+        Ok(())
     }
 
     /// A fresh base over any bytes, to be led where the history's mode says.
@@ -72,14 +80,12 @@ impl Run {
         Ok(())
     }
 
-    /// Questions about a schema of each shape; its base takes the place of the present one.
+    /// Questions about a schema of each shape.
     pub fn descents(&mut self) -> Result<(), String> {
         let place = self.place.clone();
         for (shape, draw) in SHAPES {
-            self.schema = draw(&mut self.caller.random);
-            self.base = to_bytes(&self.schema);
             self.place = format!("{place}, {shape}");
-            self.check_base()?;
+            self.draw(draw)?;
             for number in 1..=QUESTIONS {
                 self.place = format!("{place}, {shape}, question {number}");
                 let call = question(&mut self.caller.random, &self.schema);
@@ -90,6 +96,28 @@ impl Run {
         Ok(())
     }
 
+    /// Removals on schemas drawn for them.
+    pub fn removals(&mut self) -> Result<(), String> {
+        let place = self.place.clone();
+        for drawn in 1..=DRAWN {
+            self.place = format!("{place}, schema {drawn}");
+            self.draw(draw)?;
+            for number in 1..=REMOVALS {
+                self.place = format!("{place}, schema {drawn}, removal {number}");
+                let call = removal(&mut self.caller.random, &self.schema);
+                self.on_present(&call)?;
+            }
+        }
+        Ok(())
+    }
+
+    /// A schema that is drawn takes the place of the present one.
+    fn draw(&mut self, draw: fn(&mut Random) -> Schema) -> Result<(), String> {
+        self.schema = draw(&mut self.caller.random);
+        self.base = to_bytes(&self.schema);
+        self.check_base()
+    }
+
     /// A call on the present base.
     fn on_present(&mut self, call: &Call) -> Result<[usize; 4], String> {
         let before = self.lent(self.base.clone(), call);
@@ -97,6 +125,7 @@ impl Run {
         let answer = apply_to(&mut self.schema, &mut after.base, &mut after.output, call);
         self.compare(call, &before, answer, &after)?;
         self.counts.ask(&self.schema, call, before.output.len(), answer);
+        self.counts.remove(&self.schema, call, answer);
         self.base = after.base;
         Ok(answer)
     }
@@ -173,7 +202,11 @@ fn check(call: &Call, before: &Lent, answer: [usize; 4], after: &Lent) -> Result
     if no != 0 && !CALLS[call.index()].refusals.contains(&no) {
         return Err(format!("answers {no}, which is none of its numbers"));
     }
-    if no != 0 && (values != [0; 3] || after != before) {
+    let zeros = if TELLING.contains(&no) { &values[1..] } else { &values };
+    if no != 0 && zeros.iter().any(|&value| value != 0) {
+        return Err(format!("refuses with {answer:?}, which tells too much"));
+    }
+    if no != 0 && after != before {
         return Err(format!("refuses with {answer:?} and changes something"));
     }
     if call.asks() && after.base != before.base {

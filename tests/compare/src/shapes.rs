@@ -74,7 +74,7 @@ fn nearest(types: &[usize], reach: usize) -> Vec<usize> {
 }
 
 /// Rising, falling or neither.
-fn in_any_order<T>(random: &mut Random, rising: Vec<T>) -> Vec<T> {
+pub fn in_any_order<T>(random: &mut Random, rising: Vec<T>) -> Vec<T> {
     match random.below(3) {
         0 => rising,
         1 => rising.into_iter().rev().collect(),

@@ -3,10 +3,11 @@
 #![forbid(unsafe_code)]
 
 use crate::base::{from_bytes, is_sound, to_bytes, APPLICATIONS, ENDS, LENGTH, PRESENCES, SDSS, TYPES};
-use crate::calls::{apply as keep, Call, CALLS};
+use crate::calls::{apply as keep, Call, CALLS, TELLING};
 use crate::cases::printed;
 use crate::coverage::Counts;
 use crate::random::{free_places, Mode, Random};
+use crate::removals::traits;
 use crate::run::Run;
 use crate::schema::{Application, End, Schema, Sds, Side, Type};
 use crate::spoil::{spoiled, WAYS};
@@ -117,7 +118,8 @@ impl Lent {
         let mut output = vec![0xee; length];
         let answer = keep(&mut self.0, &mut output, call);
         if answer[0] != 0 {
-            assert_eq!(answer[1..], [0; 3], "{call:?}");
+            let told = usize::from(TELLING.contains(&answer[0]));
+            assert!(answer[1 + told..].iter().all(|&value| value == 0), "{call:?}");
             assert!(self.0 == before && output == vec![0xee; length], "{call:?}");
         }
         assert_eq!(is_sound(&self.0), is_sound(&before), "{call:?}");
@@ -189,7 +191,6 @@ fn refused_calls() -> Vec<(usize, Call)> {
         (2, remove_sds(4)),
         (2, remove_sds(16)),
         (3, remove_sds(0)),
-        (12, remove_sds(1)),
         (2, new_object(16, "0", "0")),
         (3, new_object(0, "0", "0")),
         (4, new_object(1, "0", "")),
@@ -291,11 +292,6 @@ fn refused_calls() -> Vec<(usize, Call)> {
         (3, remove_type(0, "0")),
         (4, remove_type(1, "0")),
         (6, remove_type(1, "nope")),
-        (12, remove_type(1, "object")),
-        (12, remove_type(1, "unit")),
-        (12, remove_type(1, "size")),
-        (12, remove_type(1, "has")),
-        (12, remove_type(1, "of")),
         (2, rename(16, "0", "0")),
         (3, rename(0, "0", "0")),
         (3, rename(0, "object", "object")),
@@ -354,6 +350,19 @@ fn refused_calls() -> Vec<(usize, Call)> {
         (7, descendant_set(&[1, 1], SIZE)),
         (8, descendant_set(&[1, 1], UNIT)),
         (6, descendant_set(&[], SIZE)),
+    ]
+}
+
+/// Calls on `some_base` with the number that each is refused with and the type that it tells.
+fn telling_calls() -> Vec<(usize, usize, Call)> {
+    vec![
+        (12, 0, remove_sds(1)),
+        (12, 0, remove_sds(2)),
+        (16, UNIT, remove_type(1, "object")),
+        (16, PART, remove_type(1, "unit")),
+        (17, UNIT, remove_type(1, "size")),
+        (18, UNIT, remove_type(1, "has")),
+        (18, UNIT, remove_type(1, "of")),
     ]
 }
 
@@ -460,8 +469,9 @@ fn full_ends(free: usize) -> Lent {
 #[test]
 fn every_refusal_of_every_call() {
     let mut seen = BTreeSet::new();
-    for (number, call) in refused_calls() {
-        assert_eq!(some_base().call(&call), [number, 0, 0, 0], "{call:?}");
+    let untelling = refused_calls().into_iter().map(|(number, call)| (number, 0, call));
+    for (number, told, call) in untelling.chain(telling_calls()) {
+        assert_eq!(some_base().call(&call), [number, told, 0, 0], "{call:?}");
         seen.insert((call.index(), number));
         // A base that is not sound comes before all else, and a fresh one takes any bytes of the right length.
         assert_eq!(Lent(vec![0; LENGTH]).number(&call), 1, "{call:?}");
@@ -675,7 +685,7 @@ fn worked_sequence() {
     assert_eq!(lent.list(&scan_object(&[1], 2, 1)), ([2, 0, 0], vec![4, 5]));
     assert_eq!(lent.call(&find(&[1], "fifo")), [0, 4, 0, 0]);
     assert_eq!(lent.call(&depth(&[1], 4)), [0, 3, 0, 0]);
-    assert_eq!(lent.call(&remove_type(1, "template")), [12, 0, 0, 0]);
+    assert_eq!(lent.call(&remove_type(1, "template")), [16, 4, 0, 0]);
     assert_eq!(lent.call(&remove_type(1, "fifo")), [0, 4, 0, 0]);
     assert_eq!(lent.call(&new_object(1, "adc", "fifo2")), [0, 4, 0, 0]);
     assert_eq!(lent.list(&scan_object(&[1], 2, 1)), ([2, 0, 0], vec![4, 5]));
@@ -712,14 +722,214 @@ fn removed_type_stays_where_else_it_is_present() {
     assert_eq!(lent.done(&new_attribute(1, "new", 0)), 4);
 }
 
+// What stands in the way of a removal, on both sides. The lowest type is told.
+
+const DONE: [usize; 2] = [0, 0];
+
+/// Makes the calls in turn; each answers the number and the first value, and no other.
+fn answer_in_turn(mut lent: Lent, calls: &[(Call, [usize; 2])]) {
+    for (call, [no, one]) in calls {
+        assert_eq!(lent.call(call), [*no, *one, 0, 0], "{call:?}");
+    }
+}
+
 #[test]
-fn link_type_with_an_application_to_its_reverse_stays() {
+fn lowest_type_of_an_sds() {
+    let calls = [
+        (new_attribute(3, "b", 0), [0, 7]),
+        (remove_sds(3), [12, 7]),
+        // The lower ones have the later names.
+        (import(3, 1, "size", "c", ""), [0, SIZE]),
+        (remove_sds(3), [12, SIZE]),
+        (import(3, 0, "object", "d", ""), DONE),
+        (remove_sds(3), [12, 0]),
+        (remove_type(3, "c"), [0, SIZE]),
+        (remove_type(3, "b"), [0, 7]),
+        (remove_sds(3), [12, 0]),
+        (remove_type(3, "d"), DONE),
+        (remove_sds(3), DONE),
+        (remove_sds(3), [2, 0]),
+    ];
+    answer_in_turn(some_base(), &calls);
+}
+
+#[test]
+fn lowest_child() {
+    let calls = [
+        (new_attribute(1, "low", 0), [0, 1]),
+        (new_object(1, "unit", "object"), [0, 2]),
+        (new_object(1, "a", "unit"), [0, 3]),
+        (remove_type(1, "unit"), [16, 3]),
+        // A number below that of its parent, and the last name.
+        (remove_type(1, "low"), [0, 1]),
+        (new_object(1, "z", "unit object"), [0, 1]),
+        (remove_type(1, "unit"), [16, 1]),
+        (remove_type(1, "object"), [16, 1]),
+        (remove_type(1, "z"), [0, 1]),
+        (remove_type(1, "unit"), [16, 3]),
+        // A child of a child is none.
+        (new_object(1, "low", "a"), [0, 1]),
+        (remove_type(1, "unit"), [16, 3]),
+        (remove_type(1, "low"), [0, 1]),
+        // What another SDS holds doesn't count.
+        (import(2, 1, "unit", "", ""), [0, 2]),
+        (import(2, 1, "a", "", ""), [0, 3]),
+        (remove_type(1, "a"), [0, 3]),
+        (remove_type(2, "unit"), [16, 3]),
+        (remove_type(1, "unit"), [0, 2]),
+    ];
+    answer_in_turn(two_sdss(), &calls);
+}
+
+#[test]
+fn lowest_type_that_an_attribute_type_is_applied_to() {
+    let calls = [
+        (apply(1, "size", "of"), DONE),
+        (apply(1, "size", "object"), DONE),
+        (remove_type(1, "size"), [17, 0]),
+        (unapply(1, "size", "object"), DONE),
+        (remove_type(1, "size"), [17, UNIT]),
+        (unapply(1, "size", "unit"), DONE),
+        (remove_type(1, "size"), [17, 6]),
+        (apply(1, "size", "sees"), DONE),
+        (remove_type(1, "size"), [17, 4]),
+        // Applied in another SDS.
+        (remove_type(2, "unit"), [0, SIZE]),
+        (unapply(1, "size", "sees"), DONE),
+        (unapply(1, "size", "of"), DONE),
+        (remove_type(1, "size"), [0, SIZE]),
+    ];
+    answer_in_turn(some_base(), &calls);
+}
+
+#[test]
+fn lowest_attribute_type_applied_to_a_type() {
+    let calls = [
+        (new_attribute(1, "a", 0), [0, 7]),
+        (apply(1, "a", "part"), DONE),
+        (apply(1, "a", "sees"), DONE),
+        (remove_type(1, "part"), [17, 7]),
+        (remove_type(1, "sees"), [17, 7]),
+        (apply(1, "size", "part"), DONE),
+        (apply(1, "size", "sees"), DONE),
+        (remove_type(1, "part"), [17, SIZE]),
+        (remove_type(1, "sees"), [17, SIZE]),
+        (unapply(1, "size", "part"), DONE),
+        (unapply(1, "size", "sees"), DONE),
+        (unapply(1, "a", "sees"), DONE),
+        (remove_type(1, "sees"), [0, 4]),
+        (remove_type(1, "part"), [17, 7]),
+        (unapply(1, "a", "part"), DONE),
+        (remove_type(1, "part"), [0, PART]),
+    ];
+    answer_in_turn(some_base(), &calls);
+}
+
+/// Over both of the pair, by either name.
+#[test]
+fn lowest_attribute_type_applied_to_a_pair() {
     let mut lent = some_base();
     lent.done(&unapply_link(1, "has", "unit"));
-    lent.done(&apply(1, "size", "of"));
-    assert_eq!(lent.number(&remove_type(1, "has")), 12);
+    lent.done(&new_attribute(1, "a", 0));
+    for (change, lowest) in [
+        (apply(1, "a", "of"), 7),
+        (apply(1, "size", "has"), SIZE),
+        (unapply(1, "a", "of"), SIZE),
+        (apply(1, "a", "has"), SIZE),
+        (unapply(1, "size", "has"), 7),
+        (apply(1, "size", "of"), SIZE),
+        (unapply(1, "a", "has"), SIZE),
+    ] {
+        lent.done(&change);
+        for name in ["has", "of"] {
+            assert_eq!(lent.call(&remove_type(1, name)), [17, lowest, 0, 0], "{change:?}, {name}");
+        }
+    }
     lent.done(&unapply(1, "size", "of"));
     assert_eq!(lent.call(&remove_type(1, "has")), [0, HAS, 0, 0]);
+}
+
+#[test]
+fn lowest_link_type_that_an_object_type_is_an_end_of() {
+    let calls = [
+        (add_destination(1, "of", "part"), DONE),
+        (remove_type(1, "part"), [18, HAS]),
+        (add_destination(1, "sees", "part"), DONE),
+        (remove_type(1, "part"), [18, 4]),
+        (unapply_link(1, "has", "part"), DONE),
+        (remove_type(1, "part"), [18, 4]),
+        (remove_destination(1, "sees", "part"), DONE),
+        (remove_type(1, "part"), [0, PART]),
+    ];
+    answer_in_turn(some_base(), &calls);
+}
+
+/// On either side, and by either name of a pair.
+#[test]
+fn lowest_object_type_that_is_an_end() {
+    let mut lent = some_base();
+    lent.done(&import(2, 1, "has", "", ""));
+    let calls = [
+        (apply_link(1, "sees", "part"), DONE),
+        (remove_type(1, "sees"), [18, PART]),
+        (add_destination(1, "sees", "unit"), DONE),
+        (remove_type(1, "sees"), [18, UNIT]),
+        (remove_destination(1, "sees", "unit"), DONE),
+        (unapply_link(1, "sees", "part"), DONE),
+        (remove_type(1, "sees"), [0, 4]),
+        (add_destination(1, "has", "object"), DONE),
+        (remove_type(1, "has"), [18, 0]),
+        (remove_type(1, "of"), [18, 0]),
+        (unapply_link(1, "of", "object"), DONE),
+        (remove_type(1, "has"), [18, UNIT]),
+        (remove_type(1, "of"), [18, UNIT]),
+        // Ends in another SDS.
+        (remove_type(2, "of"), [0, 6]),
+        (remove_destination(1, "of", "unit"), DONE),
+        (remove_type(1, "of"), [0, 6]),
+    ];
+    answer_in_turn(lent, &calls);
+}
+
+#[test]
+fn one_obstacle_after_the_other() {
+    let calls = [
+        (remove_type(1, "unit"), [16, PART]),
+        (remove_type(1, "part"), [0, PART]),
+        (remove_type(1, "unit"), [17, SIZE]),
+        (unapply(1, "size", "unit"), DONE),
+        (remove_type(1, "unit"), [18, HAS]),
+        (apply(1, "size", "of"), DONE),
+        (remove_type(1, "has"), [17, SIZE]),
+        (unapply(1, "size", "of"), DONE),
+        (remove_type(1, "has"), [18, UNIT]),
+        (unapply_link(1, "has", "unit"), DONE),
+        (remove_type(1, "has"), [0, HAS]),
+        (remove_type(1, "unit"), [0, UNIT]),
+    ];
+    answer_in_turn(some_base(), &calls);
+}
+
+#[test]
+fn traits_of_a_removal() {
+    let mut lent = some_base();
+    lent.done(&import(3, 0, "object", "", ""));
+    lent.done(&new_attribute(1, "a", 0));
+    lent.done(&apply(1, "size", "of"));
+    let mut has_traits = |call: Call, removal: &str, expected: &[&str]| {
+        let answer = lent.call(&call);
+        let expected: Vec<String> = expected.iter().map(|what| format!("{removal}{what}")).collect();
+        assert_eq!(traits(&from_bytes(&lent.0).unwrap(), &call, answer), expected);
+    };
+    has_traits(remove_sds(3), "12 of an SDS", &["", ", type 0"]);
+    has_traits(remove_sds(1), "12 of an SDS", &["", ", one of several", ", not in the first row", ", type 0"]);
+    has_traits(remove_type(1, "unit"), "16 of an object type", &["", ", before 17", ", before 18"]);
+    has_traits(remove_type(1, "has"), "17 of a link type", &["", ", its reverse's", ", before 18"]);
+    has_traits(remove_type(1, "of"), "17 of a link type", &["", ", before 18"]);
+    has_traits(apply(1, "a", "has"), "", &[]);
+    let both = ["", ", one of several", ", not in the first row", ", its reverse's below its own", ", before 18"];
+    has_traits(remove_type(1, "has"), "17 of a link type", &both);
+    has_traits(remove_type(2, "unit"), "0 of an attribute type", &[", 17 elsewhere"]);
 }
 
 #[test]

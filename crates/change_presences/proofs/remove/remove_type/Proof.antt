@@ -1,6 +1,8 @@
 -- A removal: what its tests told, then the presences of the type and of its reverse taken out, and the types that are gone. Assumes nothing.
 use borrow.Author.Needs.{needs}
 use native.Mathlib.Omega.{arith}
+use mathlib.Core.Path.{ap, _∙_}
+use Rattle.rules.specs.09-Refusals.{telling}
 use Rattle.base.proofs.Kept.{kept-done}
 use Rattle.base.proofs.StoredLaws.{sound-stored, shows-stored}
 use Rattle.base.proofs.TestedLaws.{tested-stops}
@@ -15,14 +17,16 @@ through-1 c = goes-through (c .before .before .removable .ensures) (c .if1 .left
 removable-requires : tie.Need-removable-requires
 removable-requires c κs = search needs
 
-refused-requires : tie.Need-refused-requires
-refused-requires c κs = search needs
+telling-requires : tie.Need-telling-requires
+telling-requires c κs = search needs
 
 same-length : tie.Need-same-length
 same-length c = search needs
 
 returns : tie.Need-returns
-returns c = tested-stops (c .before .before .before .removable .ensures .told) (c .before .if1 .taken) (remove-left _ _ _) (c .refused .ensures)
+returns c =
+    let told = c .before .before .before .removable .ensures in
+    tested-stops (told .told) (c .before .if1 .taken) (remove-left _ _ _) (c .telling .ensures ∙ ap (telling _) (told .tells (c .before .if1 .taken)))
 
 take-out-requires : tie.Need-take-out-requires
 take-out-requires c κs = let th = through-1 (c .before) in (sound-stored (th .sound), th .once)
@@ -85,7 +89,7 @@ remove-type-spec =
     tie.close
     (tie.spec
     removable-requires
-    refused-requires
+    telling-requires
     same-length
     returns
     take-out-requires

@@ -1,5 +1,5 @@
--- What every refusal of a rule has: its number is beyond 1, and it tells zeros, "except for these numbers alone" (02, Q-1); and so no
--- call answers 1 on the base of a good schema. Assumes nothing.
+-- Every refusal has a number beyond 1, so that no call answers 1 on the base of a good schema; and all but four numbers tell zeros
+-- (02, Q-1). Assumes nothing.
 use Prim.Native.Nat.{ℕ, _<_}
 use native.Mathlib.Omega.{arith}
 use mathlib.Core.Path.{_≡_, refl, sym, ap, _∙_}

@@ -1,5 +1,5 @@
--- "A refusal is given exactly when its condition holds and no lower number's does." Each condition of 01's table is defined here,
--- once, under its number; 10-Changes and 11-Asks put them in order. Number 1 is said in 12-Contracts, for all calls.
+-- "A refusal is given exactly when its condition holds and no lower number's does." Each condition of 01's table, as 02 amends it, is
+-- defined here, once, under its number; 10-Changes and 11-Asks put them in order. Number 1 is said in 12-Contracts, for all calls.
 use Prim.Native.Nat.{ℕ, _+_}
 use mathlib.Core.List.{List, [], _∷_}
 use mathlib.Core.Bool.{Bool, false, not, cond, _&&_, _||_}
@@ -164,10 +164,11 @@ child-there s d t x = present s d x && is-parent s x t
 unfoldable pub applied-there : Schema → ℕ → ℕ → ℕ → Bool
 applied-there s d t x = applied s d x t || applied s d t x
 
--- 18 "or is or has an end there": object type o is an end of link type l on either side
+-- object type o is an end of link type l in SDS d, on either side
 unfoldable pub end-of : Schema → ℕ → ℕ → ℕ → Bool
 end-of s d l o = has-end s d l origin o || has-end s d l destination o
 
+-- 18 "or is or has an end there"
 unfoldable pub end-there : Schema → ℕ → ℕ → ℕ → Bool
 end-there s d t x = end-of s d x t || end-of s d t x
 

@@ -91,7 +91,7 @@ marked =
     -- Pair of categories 3 and 3: 5; 0 and 3: done.
     ∷ calls (bus ++ (changes (new-pair 1 (bytes "has") (bytes "of") 3 3) (refusal 5) ∷ []))
     ∷ calls (bus ++ (changes (new-pair 1 (bytes "has") (bytes "of") 0 3) (success 1 2 0) ∷ []))
-    -- the worked sequence of the run program
+    -- the worked sequence of the run program; "01's refused removal of template becomes 16" (02, Q-1)
     ∷ lines
     (("sds bus", "0 1")
     ∷ ("import bus system object", "0 0")

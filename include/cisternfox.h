@@ -13,15 +13,16 @@
  * is sound, say one with another letter in a name. A host that stores bases keeps a checksum with each.
  *
  * Names of SDSs and of types are 1 to 16 bytes, letters A to Z and a to z, digits and underscores, the first a letter.
- * They have a length and no byte 0 behind them, and are compared byte for byte. An empty name is malformed too, but for
- * the new names of cf_import. An SDS has a number from 0 to 15, a type one from 0 to 127. */
+ * They have a length and no byte 0 behind them. Case is ignored: Radio and radio are one name, wherever names are looked
+ * for or compared. The spelling given is kept, and shown by cf_name. An empty name is malformed too, but for the new names
+ * of cf_import. An SDS has a number from 0 to 15, a type one from 0 to 127. */
 #ifndef CISTERNFOX_H
 #define CISTERNFOX_H
 
 #include <stddef.h>
 #include <stdint.h>
 
-#define CF_VERSION "0.3.0"
+#define CF_VERSION "0.4.0"
 
 /* What a base has room for, and its length in bytes. tests/c/test.c holds these to the library. */
 #define CF_BASE_LENGTH 13312
@@ -143,7 +144,7 @@ cf_answer cf_new_pair(uint8_t *base, size_t base_len, size_t sds, const uint8_t 
                       const uint8_t *reverse_name, size_t reverse_name_len, size_t category, size_t reverse_category);
 
 /* Puts a type of one SDS, by its local name there, into another too; a link type with its reverse. A new name of length
- * 0 means the name in the source. Applications and ends don't come along.
+ * 0 means the name in the source, spelled as there. Applications and ends don't come along.
  * one: the type's number; two: that of its reverse, 0 where it has none.
  * 1: the base is not sound; 2: no SDS has a number; 3: the target is SDS 0; 4: a name is malformed; 6: no type bears
  * the name in the source; 7: a reverse name is given and the type has no reverse; 9: the type is in the target; 10: a
@@ -197,7 +198,7 @@ cf_answer cf_remove_destination(uint8_t *base, size_t base_len, size_t sds, cons
  * end of; of a link type an object type that is an end of it or of its reverse. */
 cf_answer cf_remove_type(uint8_t *base, size_t base_len, size_t sds, const uint8_t *name, size_t name_len);
 
-/* Gives a type another local name in an SDS. Its own present name is accepted and changes nothing.
+/* Gives a type another local name in an SDS. Its own present name is accepted: it changes the spelling, or nothing.
  * 1: the base is not sound; 2: no SDS has the number; 3: it is SDS 0; 4: a name is malformed; 6: no type bears the name
  * in that SDS; 11: another type bears the new one there. */
 cf_answer cf_rename(uint8_t *base, size_t base_len, size_t sds, const uint8_t *name, size_t name_len,

@@ -454,6 +454,194 @@ static void pairs(void)
     EXPECT(is_guarded());
 }
 
+/* Names are the same after A to Z are brought to a to z; the spelling given is kept and shown (02, Q-5). */
+static int is_spelt(size_t sds, const char *text)
+{
+    return memcmp(base + 16 * sds, text, strlen(text)) == 0 && base[16 * sds + strlen(text)] == 0;
+}
+
+static void sdss_in_other_spellings(void)
+{
+    fresh();
+    keep();
+    ANSWERS(new_sds("System"), 11, 0, 0, 0);
+    ANSWERS(new_sds("SYSTEM"), 11, 0, 0, 0);
+    ANSWERS(new_sds("system["), 4, 0, 0, 0);
+    EXPECT(is_kept());
+    ANSWERS(new_sds("Systems"), 0, 1, 0, 0);
+    ANSWERS(new_sds("System_"), 0, 2, 0, 0);
+    ANSWERS(new_sds("abcdefghijklmnoP"), 0, 3, 0, 0);
+    EXPECT(is_spelt(0, "system") && is_spelt(1, "Systems") && is_spelt(2, "System_"));
+    keep();
+    ANSWERS(new_sds("sYSTEMS"), 11, 0, 0, 0);
+    ANSWERS(new_sds("SYSTEM_"), 11, 0, 0, 0);
+    ANSWERS(new_sds("abcdefghijklmnop"), 11, 0, 0, 0);
+    ANSWERS(new_sds("Abcdefghijklmnop"), 11, 0, 0, 0);
+    EXPECT(is_kept());
+    EXPECT(is_guarded());
+}
+
+static void types_in_other_spellings(void)
+{
+    a_base_with_adc();
+    /* taken */
+    ANSWERS(NEW_OBJECT(1, "Radio", "unit"), 11, 0, 0, 0);
+    ANSWERS(NEW_ATTRIBUTE(1, "rADIO", 5), 11, 0, 0, 0);
+    ANSWERS(NEW_DESIGNATION(1, "RADIO"), 11, 0, 0, 0);
+    ANSWERS(NEW_PAIR(1, "A", "a", 0, 3), 11, 0, 0, 0);
+    ANSWERS(NEW_PAIR(1, "Adc", "of", 0, 3), 11, 0, 0, 0);
+    ANSWERS(NEW_PAIR(1, "of", "aDc", 0, 3), 11, 0, 0, 0);
+    ANSWERS(NEW_OBJECT(1, "x", "Unit unit"), 8, 0, 0, 0);
+    ANSWERS(NEW_OBJECT(1, "x", "unit radio UNIT"), 8, 0, 0, 0);
+    ANSWERS(NEW_OBJECT(1, "x", "Unit uni_"), 6, 0, 0, 0);
+    ANSWERS(RENAME(1, "Adc", "RADIO"), 11, 0, 0, 0);
+    /* found */
+    ANSWERS(FIND("\1", "Template"), 0, TEMPLATE, 0, 0);
+    ANSWERS(FIND("\1", "FIFO2"), 0, FIFO2, 0, 0);
+    ANSWERS(FIND("\1", "FIFO_"), 6, 0, 0, 0);
+    ANSWERS(FIND("\1", "FIFO["), 4, 0, 0, 0);
+    ANSWERS(REMOVE_TYPE(1, "Template"), 16, FIFO2, 0, 0);
+    EXPECT(is_kept());
+    ANSWERS(NEW_OBJECT(1, "Deep", "ADC Radio"), 0, 6, 0, 0);
+    ANSWERS(NEW_ATTRIBUTE(1, "State", 5), 0, 7, 0, 0);
+    ANSWERS(NEW_PAIR(1, "Has", "oF", 0, 3), 0, 8, 9, 0);
+    ANSWERS(NEW_DESIGNATION(1, "points"), 0, 10, 0, 0);
+    EXPECT(is_named(1, 6, "Deep") && is_named(1, 7, "State") && is_named(1, 8, "Has") && is_named(1, 9, "oF"));
+    keep();
+    ANSWERS(APPLY(1, "STATE", "deep"), 0, 0, 0, 0);
+    ANSWERS(APPLY(1, "state", "DEEP"), 9, 0, 0, 0);
+    ANSWERS(UNAPPLY(1, "sTATE", "dEEP"), 0, 0, 0, 0);
+    ANSWERS(UNAPPLY(1, "state", "deep"), 13, 0, 0, 0);
+    ANSWERS(APPLY_LINK(1, "hAS", "DEEP"), 0, 0, 0, 0);
+    ANSWERS(ADD_DESTINATION(1, "OF", "deep"), 9, 0, 0, 0);
+    ANSWERS(REMOVE_DESTINATION(1, "of", "Deep"), 0, 0, 0, 0);
+    ANSWERS(ADD_DESTINATION(1, "POINTS", "deep"), 0, 0, 0, 0);
+    ANSWERS(UNAPPLY_LINK(1, "Points", "DEEP"), 13, 0, 0, 0);
+    ANSWERS(REMOVE_DESTINATION(1, "Points", "DEEP"), 0, 0, 0, 0);
+    EXPECT(is_kept());
+    ANSWERS(REMOVE_TYPE(1, "DEEP"), 0, 6, 0, 0);
+    EXPECT(is_guarded());
+}
+
+/* The bytes of the name alone are others, and stand where they stood. */
+static void another_spelling(void)
+{
+    a_base_with_adc();
+    size_t start = name(1, RADIO).one;
+    ANSWERS(RENAME(1, "radio", "Radio"), 0, 0, 0, 0);
+    EXPECT(!is_kept() && is_named(1, RADIO, "Radio") && name(1, RADIO).one == start);
+    ANSWERS(RENAME(1, "RADIO", "RADIO"), 0, 0, 0, 0);
+    EXPECT(is_named(1, RADIO, "RADIO"));
+    ANSWERS(RENAME(1, "radio", "rADIo"), 0, 0, 0, 0);
+    EXPECT(is_named(1, RADIO, "rADIo"));
+    memcpy(before + start, "rADIo", 5);
+    EXPECT(is_kept());
+    /* its own present name, whatever it is called by */
+    ANSWERS(RENAME(1, "RADIO", "rADIo"), 0, 0, 0, 0);
+    EXPECT(is_kept());
+    ANSWERS(RENAME(1, "Radio", "Radi_"), 0, 0, 0, 0);
+    ANSWERS(FIND("\1", "radio"), 6, 0, 0, 0);
+    EXPECT(is_guarded());
+}
+
+/* A blank name takes the source's spelling, and is taken where the target has any. */
+static void imports_in_other_spellings(void)
+{
+    a_base_with_adc();
+    NEW_PAIR(1, "Has", "oF", 0, 3);
+    NEW_ATTRIBUTE(1, "State", 5);
+    NEW_ATTRIBUTE(2, "STATE", 5);
+    keep();
+    ANSWERS(IMPORT(2, 1, "state", "", ""), 11, 0, 0, 0);
+    ANSWERS(IMPORT(2, 1, "state", "State", ""), 11, 0, 0, 0);
+    ANSWERS(IMPORT(2, 1, "has", "", "state"), 11, 0, 0, 0);
+    ANSWERS(IMPORT(2, 1, "has", "OF", ""), 11, 0, 0, 0);
+    ANSWERS(IMPORT(2, 1, "has", "of", "Of"), 11, 0, 0, 0);
+    EXPECT(is_kept());
+    ANSWERS(IMPORT(2, 1, "HAS", "", ""), 0, 6, 7, 0);
+    EXPECT(is_named(2, 6, "Has") && is_named(2, 7, "oF"));
+    ANSWERS(IMPORT(2, 1, "sTATE", "mODE", ""), 0, 8, 0, 0);
+    EXPECT(is_named(2, 8, "mODE") && is_named(1, 8, "State"));
+    EXPECT(is_guarded());
+}
+
+/* Attribute types 1 and up of these names, in rows that stand so. */
+#define NAMED 8
+
+static void a_base_with_names(const char *const *names)
+{
+    begin("one", "two");
+    for (uint8_t type = 1; type <= NAMED; type++) {
+        PUT_TYPE(type, 2, 0);
+        put_presence(1, names[type - 1], type);
+    }
+    keep();
+}
+
+/* Digits before the underscore, this before the letters, and those alike in either case; by bytes, and as capitals. */
+static const char *const by_lowered[NAMED] = {"a", "A0", "a_", "A_a", "aA", "AB", "ab_", "B"};
+static const char *const by_bytes[NAMED] = {"A0", "AB", "A_a", "B", "a", "aA", "a_", "ab_"};
+static const char *const by_capitals[NAMED] = {"a", "A0", "aA", "AB", "ab_", "a_", "A_a", "B"};
+
+static void rows_by_lowered_names(void)
+{
+    static uint8_t written[LENGTH];
+    a_base_with_names(by_bytes);
+    ANSWERS(FIND("\1", "a"), 1, 0, 0, 0);
+    a_base_with_names(by_capitals);
+    ANSWERS(FIND("\1", "a"), 1, 0, 0, 0);
+    a_base_with_names(by_lowered);
+    memcpy(written, base, LENGTH);
+    for (size_t type = 1; type <= NAMED; type++) {
+        const char *spelling = by_lowered[type - 1];
+        ANSWERS(FIND("\1", spelling), 0, type, 0, 0);
+        ANSWERS(name(1, type), 0, 1281 + 18 * type, strlen(spelling), 0);
+    }
+    EXPECT(is_kept());
+    /* One schema has one base. */
+    begin("one", "two");
+    for (size_t type = 1; type <= NAMED; type++)
+        ANSWERS(NEW_ATTRIBUTE(1, ((char[]){'t', (char)('a' + type), 0}), 0), 0, type, 0, 0);
+    for (size_t type = NAMED; type > 0; type--)
+        ANSWERS(RENAME(1, ((char[]){'T', (char)('A' + type), 0}), by_lowered[type - 1]), 0, 0, 0, 0);
+    EXPECT(memcmp(written, base, LENGTH) == 0);
+    EXPECT(is_guarded());
+}
+
+/* Whether that base is sound with other bytes in a name. */
+static int is_sound_with(size_t at, const char *text)
+{
+    a_base_with_names(by_lowered);
+    memcpy(base + at, text, strlen(text));
+    keep();
+    cf_answer found = FIND("\1", "A");
+    EXPECT(same(found, (cf_answer){0, 1, 0, 0}) || same(found, (cf_answer){1, 0, 0, 0}));
+    EXPECT(is_kept());
+    return found.no == 0;
+}
+
+static void spellings_spoiled(void)
+{
+    /* where the name of SDS n, and that of the presence in row n, stands */
+#define SDS(n) (16 * (n))
+#define ROW(n) (1281 + 18 * (n))
+    EXPECT(is_sound_with(ROW(1), "A"));
+    EXPECT(is_sound_with(ROW(6), "ab"));
+    EXPECT(is_sound_with(SDS(1), "ONE"));
+    EXPECT(!is_sound_with(SDS(0), "System"));
+    EXPECT(!is_sound_with(ROW(0), "Object"));
+    /* both spellings, rising and falling, and among SDSs */
+    EXPECT(!is_sound_with(ROW(6), "aa"));
+    EXPECT(!is_sound_with(ROW(6), "Aa"));
+    EXPECT(!is_sound_with(SDS(2), "One"));
+    EXPECT(!is_sound_with(SDS(2), "sYSTEM"));
+    /* the last letters, and the bytes beside them */
+    EXPECT(is_sound_with(ROW(8), "Z") && is_sound_with(ROW(8), "z"));
+    EXPECT(!is_sound_with(ROW(8), "[") && !is_sound_with(ROW(8), "{"));
+    EXPECT(!is_sound_with(ROW(1), "@") && !is_sound_with(ROW(1), "`"));
+    EXPECT(is_guarded());
+}
+
 /* Each obstacle to a removal, with the lowest type that stands in the way; type 0 is told as any other. */
 static void what_holds_a_type(void)
 {
@@ -618,7 +806,8 @@ static void the_first_listed_has_it(void)
     ANSWERS(FIND("\0\1\2", "five"), 0, FIVE, 0, 0);
     ANSWERS(FIND("\2\1", "low"), 0, LOW, 0, 0);
     ANSWERS(FIND("\2", "low"), 6, 0, 0, 0);
-    ANSWERS(FIND("\1", "Five"), 6, 0, 0, 0);
+    ANSWERS(FIND("\1", "Five"), 0, FIVE, 0, 0);
+    ANSWERS(FIND("\2\1", "FIVE"), 0, SIX, 0, 0);
     ANSWERS(FIND("\1", ""), 4, 0, 0, 0);
     ANSWERS(FIND("\1", "5"), 4, 0, 0, 0);
     ANSWERS(FIND("\1", "abcdefghijklmnop"), 6, 0, 0, 0);
@@ -902,6 +1091,12 @@ int main(void)
     the_auditors_case();
     parents();
     pairs();
+    sdss_in_other_spellings();
+    types_in_other_spellings();
+    another_spelling();
+    imports_in_other_spellings();
+    rows_by_lowered_names();
+    spellings_spoiled();
     what_holds_a_type();
     what_holds_an_sds();
     a_spoiled_base();

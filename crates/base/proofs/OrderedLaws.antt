@@ -11,19 +11,19 @@ use lib.Dec.{ltb}
 use lib.ListN.{length, getD, take, drop, replicate, length-append, length-take, length-drop}
 use lib.Seq.{drop-at, drop-drop}
 use borrow.Author.Tests.{ltb-true, ltb-false}
-use Rattle.rules.specs.01-Lists.{_∈_, bytes-before, without, rising, put}
+use Rattle.rules.specs.01-Lists.{_∈_, without, rising, put}
 use Rattle.rules.proofs.Bools.{and-both, and-of}
-use Rattle.rules.proofs.01-Lists.{place-in, before-irreflexive, before-transitive, before-connected, rising-at, at-rising}
+use Rattle.rules.proofs.01-Lists.{place-in, before-irreflexive, before-transitive, rising-at, at-rising}
 use Rattle.rules.proofs.Edits.{put-long, put-in, put-place, tail-rising, put-rising}
 use Rattle.rules.proofs.07-Picture.{zeros-long, length-table}
 use Rattle.rows.specs.Rows.{row-at, Rising}
-use Rattle.rows.specs.Order.{number, Climbs}
+use Rattle.rows.specs.Order.{ranked, row-before, number, Climbs}
 use Rattle.rows.specs.Table.{Rises, Put-in, closed}
 use Rattle.rows.proofs.Rows.{table-part}
 use Rattle.rows.proofs.OrderLaws.{climbs-rising, rising-climbs}
 use Rattle.rows.proofs.Scan.{rising-far}
-use Rattle.rows.proofs.TableLaws.{row-fits, without-at, table-opened, table-closed}
-use Rattle.base.specs.Tables.{Table, Sorted, at, end, row-of, shown, Used, first-things, bytes-of, Written}
+use Rattle.rows.proofs.TableLaws.{row-fits, ranked-apart, without-at, table-opened, table-closed}
+use Rattle.base.specs.Tables.{Table, Sorted, In-order, at, end, row-of, shown, Used, first-things, bytes-of, Written}
 use Rattle.base.specs.Stored.{Ordered, less-row}
 use Rattle.base.proofs.Tables.{Sorts}
 use Rattle.base.proofs.Shown.{things-long, thing-at}
@@ -71,6 +71,10 @@ pub elsewhere-used : {A : Type 0} {t : Table A} {o : Sorted t} → Sorts o → (
 elsewhere-used {t = t} l a other e = other (sym (l .first a) ∙ ap (λ (r : List ℕ). getD r 0 0) e ∙ first-zero (t .width))
 
 module _ {A : Type 0} {t : Table A} {o : Sorted t} (l : Sorts o) {rs : List A} (k : Ordered o rs) where
+  -- what the row of a thing is compared by
+  abbrev at-rank : A → List ℕ
+  at-rank x = ranked (o .named) (t .row x)
+
   -- a row more, unlike all others
   pub ordered-put : (a : A) → Used t a → o .Fit a → length rs < t .room → Unlike t a rs → Ordered o (put (o .before) a rs)
   ordered-put a u f h other = record {
@@ -84,7 +88,7 @@ module _ {A : Type 0} {t : Table A} {o : Sorted t} (l : Sorts o) {rs : List A} (
       go x i e true q = q
       go x i e false q =
           let g = k .fit x i in
-          absurd (other x i (before-connected (t .row x) (t .row a) (l .order x a g f ∙ e) (l .order a x f g ∙ q)))
+          absurd (other x i (ranked-apart (o .named) (t .row x) (t .row a) (l .wide x ∙ sym (l .wide a)) (l .order x a g f ∙ e) (l .order a x f g ∙ q)))
 
   -- a row less
   pub ordered-less : (i : ℕ) → Ordered o (less-row i rs)
@@ -96,7 +100,7 @@ module _ {A : Type 0} {t : Table A} {o : Sorted t} (l : Sorts o) {rs : List A} (
         let f = k .fit x a in
         let g = k .fit y b in
         let h = k .fit z c in
-        sym (l .order x z f h) ∙ before-transitive (t .row x) (t .row y) (t .row z) (l .order x y f g ∙ p) (l .order y z g h ∙ q));
+        sym (l .order x z f h) ∙ before-transitive (at-rank x) (at-rank y) (at-rank z) (l .order x y f g ∙ p) (l .order y z g h ∙ q));
   }
 
   fit-at : (d : A) (i : ℕ) → i < length rs → o .Fit (getD rs i d)
@@ -121,26 +125,27 @@ module _ {A : Type 0} {t : Table A} {o : Sorted t} (l : Sorts o) {rs : List A} (
           length-table (t .width) (t .row) (l .wide) (t .room) rs,
         )
 
-    rises : (d : A) → Rises b (t .start) (t .width) (length rs)
+    rises : (d : A) → Rises b (t .start) (o .named) (t .width) (length rs)
     rises d = record {
+      name = l .name;
       room = omega (arith, table-fits, mul-le-mul-right (t .width) (k .room));
-      rise = rising-far b (t .start) (t .width) (t .width) (length rs) (λ i h.
+      rise = rising-far (λ i. ranked (o .named) (row-of t b i)) (length rs) (λ i h.
           rw (row-is d i (omega arith), row-is d (suc i) h)
           (l .order (getD rs i d) (getD rs (suc i) d) (fit-at d i (omega arith)) (fit-at d (suc i) h) ∙ rising-at (o .before) d rs (k .rise) i h));
     }
 
     module _ (a : A) (less : length rs < t .room) {count : ℕ} {key : List ℕ} (many : count ≡ length rs) (is : key ≡ t .row a) where
       -- the place of a row is found by halving, and there is room for it
-      pub put-ready : Rises b (t .start) (length key) count × (t .start + count * length key + length key ≤ length b)
+      pub put-ready : Rises b (t .start) (o .named) (length key) count × (t .start + count * length key + length key ≤ length b)
       put-ready = rw (is, many, l .wide a) (rises a, omega (arith, table-fits, row-fits (t .width) less))
 
       -- put in at its place among the bytes it is put in at its place in the list
-      pub put-opened : o .Fit a → {b′ : List ℕ} → Put-in b (t .start) count key b′ → b′ ≡ pre ++ (bytes-of t (put (o .before) a rs) ++ post)
+      pub put-opened : o .Fit a → {b′ : List ℕ} → Put-in b (t .start) (o .named) count key b′ → b′ ≡ pre ++ (bytes-of t (put (o .before) a rs) ++ post)
       put-opened f {b′} x₀ =
-          let x : Put-in b (t .start) (length rs) (t .row a) b′ = rw (is, many) at x₀ in
+          let x : Put-in b (t .start) (o .named) (length rs) (t .row a) b′ = rw (is, many) at x₀ in
           let i = x .at in
           let p = x .place in
-          let there : (j : ℕ) → j < length rs → o .before (getD rs j a) a ≡ bytes-before (row-at b (t .start) (length (t .row a)) j) (t .row a)
+          let there : (j : ℕ) → j < length rs → o .before (getD rs j a) a ≡ row-before (o .named) (row-at b (t .start) (length (t .row a)) j) (t .row a)
           = λ j m. rw (l .wide a, row-is a j m) (sym (l .order (getD rs j a) a (fit-at a j m) f)) in
           let here : put (o .before) a rs ≡ take i rs ++ a ∷ drop i rs
           = put-place (o .before) a a rs i (p .most) (λ j m. there j (omega (arith, p .most)) ∙ p .earlier j m) (λ m. there i m ∙ p .later i (omega arith) m) in
@@ -166,7 +171,7 @@ module _ {A : Type 0} {t : Table A} {o : Sorted t} (l : Sorts o) {rs : List A} (
       never : (i j : ℕ) → j < length rs → i < j → getD rs i d ≡ getD rs j d → ⊥
       never i j m q e =
           true≢false (sym (rises pre [] long whole d .rise i j q m)
-          ∙ rw (row-is pre [] long whole d i (omega arith), row-is pre [] long whole d j m, e) (before-irreflexive (t .row (getD rs j d))))
+          ∙ rw (row-is pre [] long whole d i (omega arith), row-is pre [] long whole d j m, e) (before-irreflexive (at-rank (getD rs j d))))
 
       go : (x : Bool) → ltb i j ≡ x → (y : Bool) → ltb j i ≡ y → i ≡ j
       go true p y q = absurd (never i j m (ltb-true i j p) e)
@@ -186,28 +191,31 @@ module _ {A : Type 0} {t : Table A} {o : Sorted t} (l : Sorts o) {rs : List A} (
 
 module _ {A : Type 0} {t : Table A} {o : Sorted t} (l : Sorts o) (b : List ℕ) (n : ℕ) (w : Written t n b)
     (fit : (i : ℕ) → i < n → o .Fit (shown t b i)) where
-  rows-order : (i j : ℕ) → i < n → j < n → bytes-before (row-of t b i) (row-of t b j) ≡ o .before (shown t b i) (shown t b j)
-  rows-order i j h k = (λ x. bytes-before (sym (w i h) x) (sym (w j k) x)) ∙ l .order (shown t b i) (shown t b j) (fit i h) (fit j k)
+  rows-order : (i j : ℕ) → i < n → j < n → row-before (o .named) (row-of t b i) (row-of t b j) ≡ o .before (shown t b i) (shown t b j)
+  rows-order i j h k = (λ x. row-before (o .named) (sym (w i h) x) (sym (w j k) x)) ∙ l .order (shown t b i) (shown t b j) (fit i h) (fit j k)
 
   things-order : (i : ℕ) → suc i < n → o .before (getD (first-things t n b) i (t .read [])) (getD (first-things t n b) (suc i) (t .read []))
-      ≡ bytes-before (row-of t b i) (row-of t b (suc i))
+      ≡ row-before (o .named) (row-of t b i) (row-of t b (suc i))
   things-order i k =
       (λ x. o .before (thing-at t b n i (t .read []) (omega arith) x) (thing-at t b n (suc i) (t .read []) k x)) ∙ sym (rows-order i (suc i) (omega arith) k)
 
-  pub rise-things : Rising b (t .start) (t .width) (t .width) n → rising (o .before) (first-things t n b) ≡ true
+  pub rise-things : In-order o b n → rising (o .before) (first-things t n b) ≡ true
   rise-things r =
       at-rising (o .before) (t .read []) (first-things t n b)
       (λ i h. let k : suc i < n = omega (arith, things-long t b n) in things-order i k ∙ r i k)
 
-  pub things-rise : rising (o .before) (first-things t n b) ≡ true → Rising b (t .start) (t .width) (t .width) n
+  pub things-rise : rising (o .before) (first-things t n b) ≡ true → In-order o b n
   things-rise r i k =
       sym (things-order i k) ∙ rising-at (o .before) (t .read []) (first-things t n b) r i (omega (arith, things-long t b n))
 
-  -- and that of their numbers
-  module _ (x : ℕ) (small : (i : ℕ) → getD b i 0 < 256) (room : at t n ≤ length b) where
+  -- and, of rows without a name, that of their numbers
+  module _ (plain : 0 ≡ o .named) (x : ℕ) (small : (i : ℕ) → getD b i 0 < 256) (room : at t n ≤ length b) where
     pub climb-things : ((i : ℕ) → i < n → Climbs x b (t .start) (t .width) i) → rising (o .before) (first-things t n b) ≡ true
-    climb-things climbs = rise-things (climbs-rising x b (t .start) (t .width) n small room climbs)
+    climb-things climbs =
+        rise-things (subst (λ (m : ℕ). Rising (λ i. ranked m (row-of t b i)) n) plain (climbs-rising x b (t .start) (t .width) n small room climbs))
 
     pub things-climb : rising (o .before) (first-things t n b) ≡ true → (0 < n → x < number 0 (row-of t b 0))
         → (i : ℕ) → i < n → Climbs x b (t .start) (t .width) i
-    things-climb r first = rising-climbs x b (t .start) (t .width) n small room (things-rise r) first
+    things-climb r first =
+        rising-climbs x b (t .start) (t .width) n small room
+        (subst (λ (m : ℕ). Rising (λ i. ranked m (row-of t b i)) n) (sym plain) (things-rise r)) first

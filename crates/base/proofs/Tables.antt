@@ -1,22 +1,24 @@
 -- What holds of each table: where it stands in a picture, and what its order is of its bytes. A further table is a further value of
 -- these records. Assumes nothing.
-use Prim.Native.Nat.{ℕ, _+_, _*_, _-_, _≤_, _<_}
+use Prim.Native.Nat.{ℕ, _*_, _≤_, _<_}
 use native.Mathlib.Nat.{mul-le-mul-right}
 use native.Mathlib.Omega.{arith}
-use mathlib.Core.Path.{_≡_, refl, sym, ap, _∙_}
+use mathlib.Core.Path.{_≡_, refl, sym, ap, ap₂, _∙_}
 use mathlib.Core.List.{List, [], _∷_, _++_, append-assoc, append-nil}
-use mathlib.Core.Bool.{Bool, true, false, not, _&&_, _||_, and-false, or-false}
+use mathlib.Core.Bool.{Bool, false, _&&_, _||_, and-false, or-false}
 use lib.Dec.{ltb, eqb}
 use lib.ListN.{length, getD, set, length-append}
-use borrow.Author.Tests.{ltb-true, ltb-false, eq-eqb, ne-eqb}
+use lib.Seq.{take-at}
 use Rattle.rules.specs.01-Lists.{bytes-before}
-use Rattle.rules.specs.04-Schema.{Schema, with-sdss, with-types, with-presences, with-applications, with-ends}
+use Rattle.rules.specs.03-Names.{Name, lowered}
+use Rattle.rules.specs.04-Schema.{Schema, Presence, with-sdss, with-types, with-presences, with-applications, with-ends}
 use Rattle.rules.specs.06-Good.{presence-before, application-before, end-before}
 use Rattle.rules.specs.07-Picture.{pad, presence-row, application-row, end-row, type-table, presence-table, application-table, end-table, picture}
 use Rattle.rules.specs.02-Limits.{limits}
-use Rattle.rules.proofs.03-Names.{pad-before}
+use Rattle.rules.proofs.03-Names.{spelled-before, pad-before}
 use Rattle.rules.proofs.07-Picture.{length-pad, length-table, wide-sds, wide-type, wide-presence, wide-application, wide-end, presence-back}
 use Rattle.rules.proofs.07-Picture.{application-back, end-back}
+use Rattle.rows.specs.Order.{ranked, row-before}
 use Rattle.rows.specs.Table.{written}
 use Rattle.rows.proofs.TableLaws.{row-fits}
 use Rattle.rows.proofs.Written.{written-past, written-before, table-set}
@@ -87,42 +89,40 @@ types-stand = record { placed = types-placed; other = λ s rs. types-placed .who
 -- the bytes of two rows stand as the things do
 pub record Sorts {A : Type 0} {t : Table A} (o : Sorted t) : Type 0 where
   pub wide : (a : A) → length (t .row a) ≡ t .width
+  pub name : o .named < t .width
   pub back : (a : A) → o .Fit a → t .read (t .row a) ≡ a
-  pub order : (x y : A) → o .Fit x → o .Fit y → bytes-before (t .row x) (t .row y) ≡ o .before x y
+  pub order : (x y : A) → o .Fit x → o .Fit y → row-before (o .named) (t .row x) (t .row y) ≡ o .before x y
   pub first : (a : A) → getD (t .row a) 0 0 ≡ o .sds a
 
 last-byte : (x y : ℕ) → ltb x y || (eqb x y && false) ≡ ltb x y
 last-byte x y = rw (and-false (eqb x y)) (or-false (ltb x y))
 
--- a byte behind each of two fields
-append-before : (a b : List ℕ) (x y : ℕ) → length a ≡ length b
-    → bytes-before (a ++ (x ∷ [])) (b ++ (y ∷ [])) ≡ bytes-before a b || (not (bytes-before b a) && ltb x y)
-unfolding bytes-before
-append-before [] [] x y e = last-byte x y
-append-before [] (d ∷ b) x y e = absurd (omega arith)
-append-before (c ∷ a) [] x y e = absurd (omega arith)
-append-before (c ∷ a) (d ∷ b) x y e = go (ltb c d) refl (ltb d c) refl (append-before a b x y (omega arith))
-  where
-    go : (s : Bool) → ltb c d ≡ s → (t : Bool) → ltb d c ≡ t
-        → bytes-before (a ++ (x ∷ [])) (b ++ (y ∷ [])) ≡ bytes-before a b || (not (bytes-before b a) && ltb x y)
-        → (ltb c d || (eqb c d && bytes-before (a ++ (x ∷ [])) (b ++ (y ∷ []))))
-        ≡ (ltb c d || (eqb c d && bytes-before a b)) || (not (ltb d c || (eqb d c && bytes-before b a)) && ltb x y)
-    go true p t q ih = rw p
-    go false p true q ih = let u = ltb-true d c q in rw (p, q, ne-eqb c d (λ s. omega arith))
-    go false p false q ih =
-        let same : c ≡ d = omega (arith, ltb-false c d p, ltb-false d c q) in
-        rw (p, q, eq-eqb c d same, eq-eqb d c (sym same)) ih
+-- what a presence is compared by
+presence-ranked : (p : Presence) → ranked (limits .name) (presence-row p)
+    ≡ p .sds ∷ (lowered (pad (limits .name) (p .name)) ++ (pad (limits .name) (p .name) ++ (p .type ∷ [])))
+unfolding presence-row
+presence-ranked p =
+    let field = pad (limits .name) (p .name) in
+    let rest = p .type ∷ [] in
+    ap (λ (n : Name). p .sds ∷ (lowered n ++ (field ++ rest))) (take-at field rest (limits .name) (length-pad (limits .name) (p .name)))
+
+presence-order : (p q : Presence) → by-name .Fit p → by-name .Fit q
+    → row-before (limits .name) (presence-row p) (presence-row q) ≡ presence-before p q
+unfolding bytes-before presence-before
+presence-order p q f g =
+    let w = limits .name in
+    ap₂ bytes-before (presence-ranked p) (presence-ranked q)
+    ∙ ap (λ (t : Bool). ltb (p .sds) (q .sds) || (eqb (p .sds) (q .sds) && t))
+    (spelled-before (pad w (p .name)) (pad w (q .name)) (p .type ∷ []) (q .type ∷ []) (length-pad w (p .name) ∙ sym (length-pad w (q .name)))
+    ∙ rw (pad-before (p .name) (q .name) f g, pad-before (q .name) (p .name) g f, last-byte (p .type) (q .type)))
 
 pub presences-sort : Sorts by-name
-unfolding bytes-before presence-row presence-before
+unfolding presence-row
 presences-sort = record {
   wide = wide-presence;
+  name = omega arith;
   back = presence-back;
-  order = λ p q f g.
-      ap (λ (t : Bool). ltb (p .sds) (q .sds) || (eqb (p .sds) (q .sds) && t))
-      (append-before (pad (limits .name) (p .name)) (pad (limits .name) (q .name)) (p .type) (q .type)
-      (length-pad (limits .name) (p .name) ∙ sym (length-pad (limits .name) (q .name)))
-      ∙ rw (pad-before (p .name) (q .name) f g, pad-before (q .name) (p .name) g f));
+  order = presence-order;
   first = λ p. refl;
 }
 
@@ -130,6 +130,7 @@ pub applications-sort : Sorts by-application
 unfolding bytes-before application-row application-before
 applications-sort = record {
   wide = wide-application;
+  name = omega arith;
   back = λ x f. application-back x;
   order = λ x y f g. rw (last-byte (x .attribute) (y .attribute));
   first = λ x. refl;
@@ -137,7 +138,13 @@ applications-sort = record {
 
 pub ends-sort : Sorts by-end
 unfolding bytes-before end-row end-before
-ends-sort = record { wide = wide-end; back = λ e f. end-back e; order = λ x y f g. rw (last-byte (x .object) (y .object)); first = λ e. refl }
+ends-sort = record {
+  wide = wide-end;
+  name = omega arith;
+  back = λ e f. end-back e;
+  order = λ x y f g. rw (last-byte (x .object) (y .object));
+  first = λ e. refl;
+}
 
 -- ---- a table whose rows rise, in a picture: `kept` and `storable` say that it is one of those of a schema that can be stored
 

@@ -10,8 +10,9 @@ use Rattle.rules.specs.04-Schema.{Kind, Presence, Application, End}
 use Rattle.rules.specs.06-Good.{presence-before, application-before, end-before}
 use Rattle.rules.specs.07-Picture.{sds-width, sds-row, type-width, type-row, presence-width, presence-row, application-width, application-row}
 use Rattle.rules.specs.07-Picture.{end-width, end-row, table}
-use Rattle.rules.specs.Read.{type-offset, strip, read-kind, read-presence, read-application, read-end}
+use Rattle.rules.specs.Read.{strip, read-kind, read-presence, read-application, read-end}
 use Rattle.rows.specs.Rows.{part, rows, filled, Rising}
+use Rattle.rows.specs.Order.{ranked}
 
 -- where its first row starts, how wide a row is, how many there is room for; the bytes of a thing, and what bytes show
 pub record Table (A : Type 0) : Type 0 where
@@ -81,24 +82,23 @@ ends = record { start = end applications; width = end-width; room = limits .ends
 
 -- ---- the three whose rows rise
 
--- its things stand in this order, and so do their rows, the SDS first; rows differ within their first `key` bytes; a thing that is fit
--- is read back from its row, and its row stands where it does
+-- its things stand in this order, and so do their rows, the SDS first, then a name of `named` bytes; a thing that is fit is read back from
+-- its row, and its row stands where it does
 pub record Sorted {A : Type 0} (t : Table A) : Type 1 where
   pub before : A → A → Bool
   pub sds : A → ℕ
-  pub key : ℕ
+  pub named : ℕ
   pub Fit : A → Type 0
 
--- local names are unique: a row's type never decides
 abbrev pub by-name : Sorted presences
-by-name = record { before = presence-before; sds = λ p. p .sds; key = type-offset; Fit = λ p. well-formed (p .name) ≡ true }
+by-name = record { before = presence-before; sds = λ p. p .sds; named = limits .name; Fit = λ p. well-formed (p .name) ≡ true }
 
 abbrev pub by-application : Sorted applications
-by-application = record { before = application-before; sds = λ x. x .sds; key = application-width; Fit = λ x. Unit {0} }
+by-application = record { before = application-before; sds = λ x. x .sds; named = 0; Fit = λ x. Unit {0} }
 
 abbrev pub by-end : Sorted ends
-by-end = record { before = end-before; sds = λ e. e .sds; key = end-width; Fit = λ e. Unit {0} }
+by-end = record { before = end-before; sds = λ e. e .sds; named = 0; Fit = λ e. Unit {0} }
 
 -- n rows rise
 abbrev pub In-order : {A : Type 0} {t : Table A} → Sorted t → List ℕ → ℕ → Type 0
-In-order {t = t} o b n = Rising b (t .start) (t .width) (o .key) n
+In-order {t = t} o b n = Rising (λ i. ranked (o .named) (row-of t b i)) n

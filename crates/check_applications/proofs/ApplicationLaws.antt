@@ -108,7 +108,7 @@ module _ {b held : List ℕ} (s : Shown b held) where
           application-rest = rw (← c .is) blank;
           rows = record {
             room = omega (arith, applications-long b, c .is, c .fits);
-            rises = climb-things applications-sort b (application-count b) (applications-written b (s .long)) (λ i h. tt) 65535 small counted-room
+            rises = climb-things applications-sort b (application-count b) (applications-written b (s .long)) (λ i h. tt) refl 65535 small counted-room
                 (λ i h. fine i (omega (arith, c .is)) .climbs);
           };
           each = λ x m. let (i, h, e) = application-in b x m in rw e (fine i (omega (arith, c .is)) .applied);
@@ -136,7 +136,7 @@ module _ {b held : List ℕ} (s : Shown b held) where
       fine-row small i l =
           let h : i < application-count b = omega (arith, fine-counted .is) in
           record {
-            climbs = things-climb applications-sort b (application-count b) (applications-written b (s .long)) (λ i h. tt) 65535 small counted-room
+            climbs = things-climb applications-sort b (application-count b) (applications-written b (s .long)) (λ i h. tt) refl 65535 small counted-room
                 (fine .rows .rises) first-above i h;
             applied = each-applied i h;
           }

@@ -17,7 +17,7 @@ use Rattle.rules.proofs.Bools.{and-of}
 use Rattle.rules.proofs.Parts.{ended-held}
 use Rattle.rows.proofs.OrderLaws.{numbers-before, number-four}
 use Rattle.rows.proofs.Scan.{rising-far}
-use Rattle.base.specs.Tables.{In-order, by-end, ends}
+use Rattle.base.specs.Tables.{In-order, by-end, ends, row-of}
 use Rattle.base.specs.Rows.{type-at, end-at, End-row}
 use Rattle.base.specs.Back.{schema-of}
 use Rattle.lookup.specs.Found.{End-at, End-found}
@@ -65,7 +65,7 @@ module _ (b : List ℕ) (long : length b ≡ base-length) (bytes : (k : ℕ) →
   rise-numbers n few f i j h l =
       ltb-true (row-number b i) (row-number b j)
       (sym (numbers-before b (end-at i) (end-at j) 4 bytes (omega arith) (omega arith))
-      ∙ rising-far b (ends .start) (ends .width) (by-end .key) n f i j h l)
+      ∙ rising-far (row-of ends b) n f i j h l)
 
 module _ {b : List ℕ} {i : ℕ} (x : Numbered b i) where
   -- which a row tells

@@ -1,6 +1,6 @@
--- Rows of bytes that rise are presences that rise, and those of their bytes that are compared tell names apart.
+-- Rows of bytes that rise are presences that rise, and those of their bytes that are compared, less their case, tell names apart.
 -- Assumes nothing.
-use Prim.Native.Nat.{ℕ, suc, _<_}
+use Prim.Native.Nat.{ℕ, suc, _+_, _<_}
 use native.Mathlib.Omega.{arith}
 use mathlib.Core.Path.{_≡_, refl, sym, ap, _∙_}
 use mathlib.Core.Logic.{⊎-elim}
@@ -8,7 +8,7 @@ use mathlib.Core.List.{List, [], _∷_}
 use mathlib.Core.Bool.{Bool, true, false, not, _&&_, _||_, true≢false, false≢true}
 use lib.Dec.{ltb, eqb}
 use lib.ListN.{take, drop}
-use lib.Seq.{take-at, take-take}
+use lib.Seq.{drop-drop, take-nil, take-at, take-take}
 use borrow.Author.Tests.{ltb-true, ltb-false, le-ltb, eqb-true, eq-eqb}
 use Rattle.rules.specs.01-Lists.{_∈_, bytes-before, rising}
 use Rattle.rules.specs.02-Limits.{limits}
@@ -18,14 +18,18 @@ use Rattle.rules.specs.06-Good.{presence-before}
 use Rattle.rules.specs.07-Picture.{pad, presence-row, presence-width}
 use Rattle.rules.proofs.Bools.{or-cases, and-both, fails}
 use Rattle.rules.proofs.01-Lists.{rising-at, at-rising}
-use Rattle.rules.proofs.03-Names.{same-name-refl, same-turned, name-connected, name-irreflexive, apart, pad-apart}
+use Rattle.rules.proofs.03-Names.{same-name-refl, same-turned, name-connected, name-irreflexive, apart}
 use Rattle.rules.proofs.07-Picture.{length-pad}
+use Rattle.rules.specs.Read.{name-offset, type-offset}
 use Rattle.rows.specs.Rows.{part}
+use Rattle.rows.specs.Order.{folded, front}
+use Rattle.rows.proofs.FoldLaws.{pad-folded}
 use Rattle.rows.proofs.Scan.{rising-far}
-use Rattle.base.specs.Tables.{In-order, by-name, presences, Written, row-of, shown}
+use Rattle.base.specs.Tables.{presences, Written, row-of, shown}
 use Rattle.base.specs.Rows.{presence-at}
 use Rattle.base.specs.Back.{schema-of, presence-count, presence-shown}
 use Rattle.base.proofs.Shown.{presences-long, presence-is, presence-in, presence-there, presence-read}
+use Rattle.check_presences.specs.Rows.{Names-rise}
 
 -- neither of two numbers is less
 pub equal : (i j : ℕ) → (i < j → ⊥) → (j < i → ⊥) → i ≡ j
@@ -38,16 +42,16 @@ equal i j f g = go (ltb i j) refl (ltb j i) refl
 
 -- ---- presences: by SDS and name
 
--- what the bytes of a row that are compared say
-abbrev front : Presence → List ℕ
-front p = p .sds ∷ pad (limits .name) (p .name)
+-- what a presence is compared by
+abbrev key : Presence → List ℕ
+key p = p .sds ∷ folded (pad (limits .name) (p .name))
 
 abbrev front-before : Presence → Presence → Bool
 front-before p q = ltb (p .sds) (q .sds) || (eqb (p .sds) (q .sds) && apart (p .name) (q .name))
 
-front-is : (p q : Presence) → well-formed (p .name) ≡ true → well-formed (q .name) ≡ true → bytes-before (front p) (front q) ≡ front-before p q
+front-is : (p q : Presence) → well-formed (p .name) ≡ true → well-formed (q .name) ≡ true → bytes-before (key p) (key q) ≡ front-before p q
 unfolding bytes-before
-front-is p q f g = ap (λ (t : Bool). ltb (p .sds) (q .sds) || (eqb (p .sds) (q .sds) && t)) (pad-apart (p .name) (q .name) f g)
+front-is p q f g = ap (λ (t : Bool). ltb (p .sds) (q .sds) || (eqb (p .sds) (q .sds) && t)) (pad-folded (p .name) (q .name) f g)
 
 front-presence : (p q : Presence) → front-before p q ≡ true → presence-before p q ≡ true
 unfolding presence-before
@@ -96,26 +100,35 @@ presence-irreflexive p = rw (
       (omega arith),
 )
 
--- the front of a row that is as it would be written
-row-front : (b : List ℕ) (i : ℕ) → presence-row (shown presences b i) ≡ row-of presences b i
-    → part b (presence-at i) (by-name .key) ≡ front (presence-shown b i)
+-- the field of a row that is as it would be written
+row-field : (b : List ℕ) (i : ℕ) → presence-row (shown presences b i) ≡ row-of presences b i
+    → part b (presence-at i + name-offset) (limits .name) ≡ pad (limits .name) ((presence-shown b i) .name)
 unfolding presence-row
-row-front b i e =
+row-field b i e =
     let p = presence-shown b i in
     let w = limits .name in
-    sym (take-take (by-name .key) presence-width (drop (presence-at i) b) (omega arith))
-    ∙ ap (take (by-name .key)) (sym e ∙ ap presence-row (presence-read b i))
-    ∙ ap (λ (l : List ℕ). p .sds ∷ l) (take-at (pad w (p .name)) (p .type ∷ []) w (length-pad w (p .name)))
+    let rest = drop (presence-at i) b in
+    ap (take w) (sym (drop-drop name-offset (presence-at i) b))
+    ∙ sym (tail-take w rest)
+    ∙ ap (drop 1) (sym (take-take type-offset presence-width rest (omega arith)) ∙ ap (take type-offset) (sym e ∙ ap presence-row (presence-read b i)))
+    ∙ take-at (pad w (p .name)) (p .type ∷ []) w (length-pad w (p .name))
+  where
+    tail-take : (n : ℕ) (l : List ℕ) → drop 1 (take (suc n) l) ≡ take n (drop 1 l)
+    tail-take n [] = sym (take-nil n)
+    tail-take n (x ∷ l) = refl
 
 module _ (b : List ℕ)
     (written : Written presences (presence-count b) b)
     (named : (i : ℕ) → i < presence-count b → well-formed ((presence-shown b i) .name) ≡ true) where
   fronts : (i j : ℕ) → i < presence-count b → j < presence-count b
-      → bytes-before (part b (presence-at i) (by-name .key)) (part b (presence-at j) (by-name .key)) ≡ front-before (presence-shown b i) (presence-shown b j)
+      → bytes-before (front b (presence-at i)) (front b (presence-at j)) ≡ front-before (presence-shown b i) (presence-shown b j)
   fronts i j h k =
-      rw (row-front b i (written i h), row-front b j (written j k)) (front-is (presence-shown b i) (presence-shown b j) (named i h) (named j k))
+      let p = presence-shown b i in
+      let q = presence-shown b j in
+      (λ x. bytes-before (p .sds ∷ folded (row-field b i (written i h) x)) (q .sds ∷ folded (row-field b j (written j k) x)))
+      ∙ front-is p q (named i h) (named j k)
 
-  pub rise-presences : In-order by-name b (presence-count b) → rising presence-before ((schema-of b) .presences) ≡ true
+  pub rise-presences : Names-rise b (presence-count b) → rising presence-before ((schema-of b) .presences) ≡ true
   rise-presences r =
       at-rising presence-before system-presence ((schema-of b) .presences)
       (λ i h.
@@ -124,7 +137,7 @@ module _ (b : List ℕ)
       (front-presence (presence-shown b i) (presence-shown b (suc i)) (sym (fronts i (suc i) (omega arith) k) ∙ r i k)))
 
   -- rows of one SDS and the same name are one row: one that stands before another is apart from it
-  name-once : In-order by-name b (presence-count b) → (i j : ℕ) → i < presence-count b → j < presence-count b
+  name-once : Names-rise b (presence-count b) → (i j : ℕ) → i < presence-count b → j < presence-count b
       → (presence-shown b i) .sds ≡ (presence-shown b j) .sds → same-name ((presence-shown b i) .name) ((presence-shown b j) .name) ≡ true → i ≡ j
   name-once r i j h k d e =
       equal i j (λ l. never i j h k l d e) (λ l. never j i k h l (sym d) (same-turned ((presence-shown b j) .name) ((presence-shown b i) .name) ∙ e))
@@ -132,16 +145,16 @@ module _ (b : List ℕ)
       never : (i j : ℕ) → i < presence-count b → j < presence-count b → i < j → (presence-shown b i) .sds ≡ (presence-shown b j) .sds
           → same-name ((presence-shown b i) .name) ((presence-shown b j) .name) ≡ true → ⊥
       never i j h k l = front-other (presence-shown b i) (presence-shown b j)
-          (sym (fronts i j h k) ∙ rising-far b (presences .start) (presences .width) (by-name .key) (presence-count b) r i j l k)
+          (sym (fronts i j h k) ∙ rising-far (λ x. front b (presence-at x)) (presence-count b) r i j l k)
 
   -- rows that show one presence are one row
-  pub row-once : In-order by-name b (presence-count b) → (i j : ℕ) → i < presence-count b → j < presence-count b
+  pub row-once : Names-rise b (presence-count b) → (i j : ℕ) → i < presence-count b → j < presence-count b
       → presence-shown b i ≡ presence-shown b j → i ≡ j
   row-once r i j h k e =
       name-once r i j h k (ap (λ (p : Presence). p .sds) e)
       (ap (λ (p : Presence). same-name (p .name) ((presence-shown b j) .name)) e ∙ same-name-refl ((presence-shown b j) .name))
 
-  pub rise-unique : In-order by-name b (presence-count b) → (p q : Presence) → p ∈ (schema-of b) .presences → q ∈ (schema-of b) .presences
+  pub rise-unique : Names-rise b (presence-count b) → (p q : Presence) → p ∈ (schema-of b) .presences → q ∈ (schema-of b) .presences
       → p .sds ≡ q .sds → same-name (p .name) (q .name) ≡ true → p ≡ q
   rise-unique r p q m n s e =
       let (i, h, pi) = presence-in b p m in
@@ -151,7 +164,7 @@ module _ (b : List ℕ)
 
   pub presences-rise : rising presence-before ((schema-of b) .presences) ≡ true
       → ((p q : Presence) → p ∈ (schema-of b) .presences → q ∈ (schema-of b) .presences → p .sds ≡ q .sds → same-name (p .name) (q .name) ≡ true → p ≡ q)
-      → In-order by-name b (presence-count b)
+      → Names-rise b (presence-count b)
   presences-rise r u i k =
       let p = presence-shown b i in
       let q = presence-shown b (suc i) in

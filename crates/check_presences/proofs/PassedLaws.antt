@@ -15,12 +15,10 @@ use Rattle.rules.specs.07-Picture.{base-length}
 use Rattle.rules.specs.Read.{type-offset}
 use Rattle.type_set.specs.Set.{bit}
 use Rattle.rows.specs.declared.order.Key.{Key}
-use Rattle.rows.specs.Order.{numbers-of, Keyed}
-use Rattle.rows.specs.Rows.{part}
+use Rattle.rows.specs.Order.{front, numbers-of, Keyed}
 use Rattle.rows.proofs.Decides.{decides-yes, decides-no}
 use Rattle.rows.proofs.OrderLaws.{keyed-before}
 use Rattle.rows.proofs.Scan.{rising-one, rising-more, rising-not}
-use Rattle.base.specs.Tables.{presences, by-name}
 use Rattle.base.specs.Rows.{presence-at}
 use Rattle.base.specs.Back.{schema-of}
 use Rattle.check_held.specs.Held.{marked}
@@ -45,7 +43,7 @@ passed-first {b} held s u e key = record {
   fine = record {
     each = below-more _ 0 (below-none _) (record { named = object-named _ (s .name); small = omega (arith, s .type) });
     in-used = below-more _ 0 (below-none _) (ap (used-sds (schema-of b)) (s .sds) ∙ u);
-    rise = rising-one b (presences .start) (presences .width) (by-name .key);
+    rise = rising-one (λ i. front b (presence-at i));
     once = λ i j l h. absurd (omega arith);
   };
   gathers = gathers-first b held e (s .type) (s .sds);
@@ -74,16 +72,15 @@ pub record Next (b : List ℕ) (n k : ℕ) (row : Key) (held : List ℕ) (next :
 module _ {b held : List ℕ} {n k : ℕ} {row next : Key} (x : Next b n k row held next) where
   -- the test of the keys of two rows
   keys : {r : Bool} → r ≡ bytes-before (numbers-of row) (numbers-of next)
-      → bytes-before (part b (presence-at k) (by-name .key)) (part b (presence-at k + presences .width) (by-name .key)) ≡ r
+      → bytes-before (front b (presence-at k)) (front b (presence-at (k + 1))) ≡ r
   keys e =
-      let next-at : presence-at (k + 1) ≡ presence-at k + presences .width = omega arith in
-      keyed-before b (presence-at k) (presence-at k + presences .width) row next (x .bytes) (omega (arith, x .long, x .few, x .below))
-      (omega (arith, x .long, x .few, x .below)) (x .passed .key) (subst (λ (m : ℕ). Keyed b m next) next-at (x .key))
+      keyed-before b (presence-at k) (presence-at (k + 1)) row next (x .bytes) (omega (arith, x .long, x .few, x .below))
+      (omega (arith, x .long, x .few, x .below)) (x .passed .key) (x .key)
       ∙ sym e
 
   pub not-rising : {r : Bool} → r ≡ bytes-before (numbers-of row) (numbers-of next) → r ≡ false → Rows-fine b n → ⊥
   not-rising e f fine =
-      rising-not b (presences .start) (presences .width) (by-name .key) k (presence-at k) n refl (omega (arith, x .below)) (keys e ∙ f) (fine .rise)
+      rising-not (λ i. front b (presence-at i)) k n (omega (arith, x .below)) (keys e ∙ f) (fine .rise)
 
   module _ (t d : ℕ) (is-t : t ≡ getD b (presence-at (k + 1) + type-offset) 0) (is-d : d ≡ next .sds) (ht : t < 128) (hd : d < 16) where
     -- a bit that is there already: an SDS holds a type twice
@@ -99,7 +96,7 @@ module _ {b held : List ℕ} {n k : ℕ} {row next : Key} (x : Next b n k row he
       fine = record {
         each = below-more _ (k + 1) (x .passed .fine .each) fine;
         in-used = below-more _ (k + 1) (x .passed .fine .in-used) (ap (used-sds (schema-of b)) (sym (x .key .sds) ∙ sym is-d) ∙ used);
-        rise = rising-more b (presences .start) (presences .width) (by-name .key) k (presence-at k) refl (x .passed .fine .rise) (keys e ∙ f);
+        rise = rising-more (λ i. front b (presence-at i)) k (x .passed .fine .rise) (keys e ∙ f);
         once = λ i j l h s y. go i j l h s y (ltb j (k + 1)) refl;
       };
       gathers = gathers-more (x .passed .gathers) t d is-t (is-d ∙ x .key .sds) ht hd;

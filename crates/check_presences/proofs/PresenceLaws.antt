@@ -1,5 +1,5 @@
 -- What the tests of presences find is what `Presences-fine` asks, and words that are gathered show what the SDSs hold. Assumes nothing.
-use Prim.Native.Nat.{ℕ, zero, suc, _+_, _≤_, _<_}
+use Prim.Native.Nat.{ℕ, zero, suc, _+_, _<_}
 use native.Mathlib.Omega.{arith}
 use mathlib.Core.Path.{_≡_, refl, sym, ap, ap₂, _∙_}
 use mathlib.Core.List.{List}
@@ -19,9 +19,10 @@ use Rattle.type_set.specs.Set.{bit}
 use Rattle.name_fields.specs.Field.{name-field}
 use Rattle.name_fields.proofs.NamedFields.{name-field-formed, name-field-padded}
 use Rattle.rows.specs.Rows.{part, Counted, Halved, Level}
+use Rattle.rows.specs.Order.{folded}
 use Rattle.rows.proofs.Decides.{decides-no, decides-iff}
 use Rattle.rows.proofs.Scan.{rising-level}
-use Rattle.base.specs.Tables.{Blank-from, In-order, by-name, presences, Written}
+use Rattle.base.specs.Tables.{Blank-from, presences, Written}
 use Rattle.base.specs.Rows.{presence-at}
 use Rattle.base.specs.Back.{schema-of, presence-count, presence-shown}
 use Rattle.base.proofs.Halved.{confirmed, halved-right}
@@ -31,7 +32,7 @@ use Rattle.lookup.proofs.SdsShown.{used-below}
 use Rattle.check_held.specs.Held.{Holds}
 use Rattle.check_held.specs.Fine.{Presences-fine}
 use Rattle.check_held.proofs.HeldLaws.{present-shown}
-use Rattle.check_presences.specs.Rows.{System-first, Rows-fine}
+use Rattle.check_presences.specs.Rows.{System-first, Names-rise, Rows-fine}
 use Rattle.check_presences.specs.Gathered.{Gathers, Rows-gathered, Gathered}
 use Rattle.check_presences.proofs.RowLaws.{named-written, written-named, name-used}
 use Rattle.check_presences.proofs.OrderLaws.{equal, row-once, rise-presences, rise-unique, presences-rise}
@@ -46,8 +47,8 @@ first-shown : (b : List ℕ) (n : ℕ) → System-first b n → presence-shown b
 unfolding pad strip
 first-shown b n s = λ i. record { sds = s .sds i; name = (ap strip (s .name)) i; type = s .type i }
 
-level : (b : List ℕ) (n : ℕ) → length b ≡ base-length → n ≤ limits .presences → In-order by-name b n → Level b (presences .start) (presences .width) n
-level b n l m r = rising-level b (presences .start) (presences .width) (limits .name) n (λ i h. omega arith) r
+level : (b : List ℕ) (n : ℕ) → Names-rise b n → Level b (presences .start) (presences .width) n
+level b n r = rising-level b (presences .start) (presences .width) n (λ i. folded (part b (presence-at i + name-offset) (limits .name))) r
 
 module _ (b : List ℕ) {n : ℕ} (long : length b ≡ base-length) (count : Counted (presence-count b) (limits .presences) n) where
   counted : (i : ℕ) → i < presence-count b → i < n
@@ -65,7 +66,7 @@ module _ (b : List ℕ) {n : ℕ} (long : length b ≡ base-length) (count : Cou
     named : (i : ℕ) → i < presence-count b → well-formed ((presence-shown b i) .name) ≡ true
     named i h = name-field-formed (part b (presence-at i + name-offset) (limits .name)) (f .rows .each i (counted i h) .named)
 
-    rises : In-order by-name b (presence-count b)
+    rises : Names-rise b (presence-count b)
     rises = rw (count .is) at (f .rows .rise)
 
     -- a presence in SDS 0 is the first
@@ -73,7 +74,7 @@ module _ (b : List ℕ) {n : ℕ} (long : length b ≡ base-length) (count : Cou
     alone zero h e = refl
     alone (suc zero) h e = absurd (f .system .next h e)
     alone (suc (suc i)) h e =
-        let le = level b n long (count .fits) (f .rows .rise) 1 (suc (suc i)) (omega arith) h in
+        let le = level b n (f .rows .rise) 1 (suc (suc i)) (omega arith) h in
         absurd (f .system .next (omega arith) (omega arith))
 
     once : Once ((schema-of b) .presences)
@@ -115,7 +116,7 @@ module _ (b : List ℕ) {n : ℕ} (long : length b ≡ base-length) (count : Cou
     named-of : (i : ℕ) → i < presence-count b → well-formed ((presence-shown b i) .name) ≡ true
     named-of i h = p .rows .named (presence-shown b i) (presence-there b i h)
 
-    rising : In-order by-name b (presence-count b)
+    rising : Names-rise b (presence-count b)
     rising = presences-rise b (p .presence-rows) named-of (p .rows .rises) (p .rows .unique)
 
     -- some row is that of a fresh base, so row 0 is in SDS 0, and so is that row
@@ -128,7 +129,7 @@ module _ (b : List ℕ) {n : ℕ} (long : length b ≡ base-length) (count : Cou
             at : (i : ℕ) → i < n → getD b (presence-at i) 0 ≡ 0 → (0 < n) × (getD b (presence-at 0) 0 ≡ 0)
             at zero h e = (h, e)
             at (suc i) h e =
-                let le = level b n long (count .fits) (rw (count .is) rising) 0 (suc i) (omega arith) h in
+                let le = level b n (rw (count .is) rising) 0 (suc i) (omega arith) h in
                 (omega arith, omega arith)
 
     zero-row : (i : ℕ) → i < n → getD b (presence-at i) 0 ≡ 0 → presence-shown b i ≡ system-presence

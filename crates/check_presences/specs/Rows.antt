@@ -9,8 +9,8 @@ use Rattle.rules.specs.04-Schema.{system-presence, used-sds}
 use Rattle.rules.specs.07-Picture.{pad}
 use Rattle.rules.specs.Read.{name-offset, type-offset}
 use Rattle.name_fields.specs.Field.{name-field}
-use Rattle.rows.specs.Rows.{part}
-use Rattle.base.specs.Tables.{In-order, by-name}
+use Rattle.rows.specs.Rows.{part, Rising}
+use Rattle.rows.specs.Order.{front}
 use Rattle.base.specs.Rows.{presence-at}
 use Rattle.base.specs.Back.{schema-of}
 
@@ -27,10 +27,14 @@ pub record System-first (b : List ℕ) (n : ℕ) : Type 0 where
   pub name : part b (presence-at 0 + name-offset) (limits .name) ≡ pad (limits .name) (system-presence .name)
   pub next : 1 < n → getD b (presence-at 1) 0 ≡ 0 → ⊥
 
+-- n rows rise by their SDSs and their names less their case, so that no name stands twice in an SDS
+abbrev pub Names-rise : List ℕ → ℕ → Type 0
+Names-rise b n = Rising (λ i. front b (presence-at i)) n
+
 -- the first n rows are fine, in used SDSs and in order, and no two are of one SDS and one type
 pub record Rows-fine (b : List ℕ) (n : ℕ) : Type 0 where
   pub each : (i : ℕ) → i < n → Row-fine b i
   pub in-used : (i : ℕ) → i < n → used-sds (schema-of b) (getD b (presence-at i) 0) ≡ true
-  pub rise : In-order by-name b n
+  pub rise : Names-rise b n
   pub once : (i j : ℕ) → i < j → j < n → getD b (presence-at i) 0 ≡ getD b (presence-at j) 0
       → getD b (presence-at i + type-offset) 0 ≡ getD b (presence-at j + type-offset) 0 → ⊥

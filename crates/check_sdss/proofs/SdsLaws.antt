@@ -8,20 +8,22 @@ use mathlib.Core.Bool.{Bool, true, false, not, _||_, true≢false, false≢true}
 use lib.Dec.{ltb, eqb·suc-zero}
 use lib.ListN.{length, replicate}
 use borrow.Author.Tests.{ltb-true, ltb-false}
-use Rattle.rules.specs.01-Lists.{same-bytes}
+use Rattle.rules.specs.01-Lists.{same-bytes, all}
 use Rattle.rules.specs.02-Limits.{limits}
 use Rattle.rules.specs.03-Names.{Name, well-formed, blank, same-name}
 use Rattle.rules.specs.04-Schema.{sds-name, used-sds, system-name}
 use Rattle.rules.specs.07-Picture.{pad, sds-row, base-length}
 use Rattle.rules.proofs.Bools.{or-cases, or-left, or-right}
 use Rattle.rules.proofs.01-Lists.{same-bytes-is, same-bytes-refl}
-use Rattle.rules.proofs.03-Names.{same-turned, same-long, Fits, formed-fits, blank-fits, pad-same}
+use Rattle.rules.proofs.03-Names.{formed-letters, same-turned, same-long, Fits, formed-fits, blank-fits, pad-same}
 use Rattle.rules.proofs.07-Picture.{strip-blank}
 use Rattle.rules.specs.Read.{strip}
 use Rattle.name_fields.specs.Field.{name-field, blank-field}
 use Rattle.name_fields.proofs.NamedFields.{name-field-of, name-field-formed, name-field-padded}
 use Rattle.rows.specs.Rows.{part}
+use Rattle.rows.specs.Order.{Name-bytes}
 use Rattle.rows.proofs.Scan.{length-part}
+use Rattle.rows.proofs.FoldLaws.{pad-pass}
 use Rattle.base.specs.Rows.{sds-at}
 use Rattle.base.specs.Back.{schema-of, sds-shown}
 use Rattle.base.proofs.Shown.{sdss-long, sds-is}
@@ -48,6 +50,17 @@ used-name n u e = false≢true (rw e at u)
 module _ (b : List ℕ) (long : length b ≡ base-length) where
   field-long : (d : ℕ) → d < 16 → length (part b (sds-at d) (limits .name)) ≡ limits .name
   field-long d h = length-part b (sds-at d) (limits .name) (omega arith)
+
+  -- a fine field holds no byte that a name has not
+  pub fine-bytes : (d : ℕ) → d < 16 → fine-field b d ≡ true → Name-bytes (part b (sds-at d) (limits .name))
+  unfolding all
+  fine-bytes d h e =
+      let f = part b (sds-at d) (limits .name) in record {
+        long = field-long d h;
+        each = ⊎-elim (λ q. rw (blank-zeros f (field-long d h) q) (pad-pass [] refl))
+            (λ q. rw (← name-field-padded f q) (pad-pass (strip f) (formed-letters (strip f) (name-field-formed f q))))
+            (or-cases (blank-field f) (name-field f) e);
+      }
 
   -- a fine field is written back as it stands
   fine-written : (d : ℕ) → d < 16 → fine-field b d ≡ true → sds-row (sds-shown b d) ≡ part b (sds-at d) (limits .name)

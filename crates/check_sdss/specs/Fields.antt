@@ -15,6 +15,9 @@ use Rattle.base.specs.Back.{schema-of}
 abbrev pub fine-field : List ℕ → ℕ → Bool
 fine-field b d = blank-field (part b (sds-at d) (limits .name)) || name-field (part b (sds-at d) (limits .name))
 
+abbrev pub Fields-fine : List ℕ → Type 0
+Fields-fine b = (d : ℕ) → d < limits .sdss → fine-field b d ≡ true
+
 -- no SDS past d has the name of SDS d
 abbrev pub Unlike-later : List ℕ → ℕ → Type 0
 Unlike-later b d = (e : ℕ) → e < 16 → d < e → same-name (part b (sds-at d) (limits .name)) (part b (sds-at e) (limits .name)) ≡ true → ⊥

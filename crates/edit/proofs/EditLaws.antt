@@ -38,10 +38,10 @@ module _ {A : Type 0} {t : Table A} {o : Sorted t} {of : Schema → List A} {wit
   in-picture = x .shown ∙ placed .whole s
 
   module _ (a : A) (less : length (of s) < t .room) {count : ℕ} {key : List ℕ} (many : count ≡ length (of s)) (is : key ≡ t .row a) where
-    pub ready : Rises b (t .start) (length key) count × (t .start + count * length key + length key ≤ length b)
+    pub ready : Rises b (t .start) (o .named) (length key) count × (t .start + count * length key + length key ≤ length b)
     ready = put-ready (k .sorts) (k .kept (x .rows)) (placed .ahead s) (placed .behind s) (placed .long s) in-picture a less many is
 
-    pub row-put : (o .sds a ≡ 0 → ⊥) → o .Fit a → Unlike t a (of s) → {b′ : List ℕ} → Put-in b (t .start) count key b′
+    pub row-put : (o .sds a ≡ 0 → ⊥) → o .Fit a → Unlike t a (of s) → {b′ : List ℕ} → Put-in b (t .start) (o .named) count key b′
         → Shows b′ (with-rows s (put (o .before) a (of s)))
     row-put elsewhere fit unlike p = record {
       rows = k .storable (x .rows) (ordered-put (k .sorts) (k .kept (x .rows)) a (elsewhere-used (k .sorts) a elsewhere) fit less unlike);

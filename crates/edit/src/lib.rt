@@ -1,6 +1,7 @@
 // Rows put in, taken out and written over: each is the same edit of the schema that the bytes show. Within a call a base is not
 // always sound; here it need only be stored. Where a row starts and how wide it is, `base` says.
 use base::Base;
+use rules::Limits;
 ghost use mathlib.Core.Path.{_≡_};
 ghost use mathlib.Core.Bool.{true, false};
 ghost use Prim.Native.Nat.{_≤_, _<_};
@@ -56,7 +57,7 @@ pub fn put_presence(base: &mut [u8], d: usize, name: &[u8], t: usize)
 {
     let row = presence_bytes(d, name, t);
     let n = base::used::presence_count(base);
-    rows::table::put_in(base, Base::PRESENCES_AT, n, &row);
+    rows::table::put_in(base, Base::PRESENCES_AT, n, &row, Limits::NAME);
 }
 
 // Row i goes.
@@ -84,7 +85,7 @@ pub fn put_application(base: &mut [u8], d: usize, t: usize, a: usize)
 {
     let row = [(d % 256) as u8, (t % 256) as u8, (a % 256) as u8];
     let n = base::used::application_count(base);
-    rows::table::put_in(base, Base::APPLICATIONS_AT, n, &row);
+    rows::table::put_in(base, Base::APPLICATIONS_AT, n, &row, 0);
 }
 
 // Row i goes.
@@ -117,7 +118,7 @@ pub fn put_end(base: &mut [u8], d: usize, l: usize, side: usize, o: usize)
         (o % 256) as u8,
     ];
     let n = base::used::end_count(base);
-    rows::table::put_in(base, Base::ENDS_AT, n, &row);
+    rows::table::put_in(base, Base::ENDS_AT, n, &row, 0);
 }
 
 // Row i goes.

@@ -18,3 +18,4 @@ pub mod Numbers
 pub mod Told
 pub mod Keepers
 pub mod Demand
+pub mod Spellings

@@ -15,7 +15,7 @@ use Rattle.rules.proofs.01-Lists.{before-irreflexive}
 use Rattle.rows.specs.Rows.{part}
 use Rattle.rows.specs.Table.{Rises, Place}
 use Rattle.rows.proofs.Scan.{part-cons, rising-far}
-use Rattle.base.specs.Tables.{In-order, by-end, ends}
+use Rattle.base.specs.Tables.{In-order, by-end, ends, row-of}
 use Rattle.base.specs.Rows.{end-at, End-row}
 use Rattle.lookup.specs.Found.{End-at, End-found}
 
@@ -32,8 +32,9 @@ end-bytes b i h =
     ∙ ap (λ (l : List ℕ). getD b (at + 1) 0 ∷ l) (rw two (part-cons b (at + 2) 2 1 (omega arith) refl
     ∙ ap (λ (l : List ℕ). getD b (at + 2) 0 ∷ l) (rw three (part-cons b (at + 3) 1 0 (omega arith) refl)))))
 
-pub ends-rises : (b : List ℕ) (n : ℕ) → length b ≡ base-length → n ≤ limits .ends → In-order by-end b n → Rises b (ends .start) (ends .width) n
-ends-rises b n l m r = record { room = omega arith; rise = rising-far b (ends .start) (ends .width) (by-end .key) n r }
+pub ends-rises : (b : List ℕ) (n : ℕ) → length b ≡ base-length → n ≤ limits .ends → In-order by-end b n
+    → Rises b (ends .start) (by-end .named) (ends .width) n
+ends-rises b n l m r = record { name = omega arith; room = omega arith; rise = rising-far (row-of ends b) n r }
 
 module _ {b : List ℕ} {n d l s o r : ℕ} where
   pub end-found-at : End-at b n r d l s o → End-found b n d l s o r
@@ -41,7 +42,7 @@ module _ {b : List ℕ} {n d l s o r : ℕ} where
 
 module _ {b : List ℕ} {n d l s o r : ℕ} (long : length b ≡ base-length) (few : n ≤ limits .ends) (rise : In-order by-end b n)
     (small : (d < 256) × ((l < 256) × ((s < 256) × (o < 256))))
-    (p : Place b (ends .start) n (d % 256 ∷ l % 256 ∷ s % 256 ∷ o % 256 ∷ []) r) where
+    (p : Place b (ends .start) (by-end .named) n (d % 256 ∷ l % 256 ∷ s % 256 ∷ o % 256 ∷ []) r) where
   key : List ℕ
   key = d ∷ l ∷ s ∷ o ∷ []
 
@@ -73,7 +74,7 @@ module _ {b : List ℕ} {n d l s o r : ℕ} (long : length b ≡ base-length) (f
       go false q true w =
           let u = x .below in
           let less = ltb-true r (x .place) w in
-          absurd (true≢false (sym (rising-far b (ends .start) (ends .width) (by-end .key) n rise r (x .place) less u)
+          absurd (true≢false (sym (rising-far (row-of ends b) n rise r (x .place) less u)
           ∙ ap (bytes-before (part b (end-at r) end-width)) (row-key x) ∙ p .later r (omega arith) (omega arith)))
       go false q false w = omega (arith, ltb-false (x .place) r q, ltb-false r (x .place) w)
 

@@ -55,7 +55,7 @@ pub fn end_near(
         (side % 256) as u8,
         (o % 256) as u8,
     ];
-    let at = rows::table::place(base, Base::ENDS_AT, n, &key);
+    let at = rows::table::place(base, Base::ENDS_AT, n, &key, 0);
     if is_end(base, n, at, d, l, side, o) {
         return at;
     }

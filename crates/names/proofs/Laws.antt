@@ -12,7 +12,7 @@ use borrow.Author.Count.{below-more}
 use borrow.Author.Tests.{lt-ltb, le-ltb, lt-leb, le-leb, eq-eqb, ne-eqb}
 use Rattle.rules.specs.01-Lists.{same-bytes, all}
 use Rattle.rules.specs.02-Limits.{limits}
-use Rattle.rules.specs.03-Names.{Name, letter, letter-or-digit, well-formed, parted, names-in}
+use Rattle.rules.specs.03-Names.{Name, letter, letter-or-digit, well-formed, lower, parted, names-in}
 use Rattle.rules.proofs.Bools.{and-both}
 use Rattle.names.specs.declared.Run.{Run}
 use Rattle.names.specs.Bytes.{bit, marked}
@@ -97,7 +97,22 @@ pub letters-end : (l : List ℕ) (i : ℕ) → length l ≤ i → all letter-or-
 unfolding all
 letters-end l i h = rw (drop-of-length-le l h)
 
--- ---- two names, byte for byte
+-- ---- a byte in lower case
+
+module _ (c : ℕ) where
+  pub lower-below : c < 65 → c ≡ lower c
+  unfolding lower
+  lower-below h = rw (lt-leb 65 c h)
+
+  pub lower-past : 90 < c → c ≡ lower c
+  unfolding lower
+  lower-past h = simp (lt-leb c 90 h, and-false)
+
+  pub lower-capital : 65 ≤ c → c ≤ 90 → c + 32 ≡ lower c
+  unfolding lower
+  lower-capital h k = rw (le-leb 65 c h, le-leb c 90 k)
+
+-- ---- two names, byte for byte, as they stand or in lower case
 
 pub same-length : (a b : List ℕ) → (length a ≡ length b → ⊥) → same-bytes a b ≡ false
 unfolding same-bytes

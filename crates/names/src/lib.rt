@@ -1,9 +1,10 @@
 // Names, and the runs of bytes that they stand in. What is well formed and what is the same is `rules`'.
 ghost use mathlib.Core.Path.{_≡_};
 ghost use Prim.Native.Nat.{_≤_};
+ghost use lib.Dec.{eqb};
 ghost use lib.ListN.{length};
 ghost use Rattle.rules.specs.01-Lists.{same-bytes};
-ghost use Rattle.rules.specs.03-Names.{letter, letter-or-digit, well-formed, same-name};
+ghost use Rattle.rules.specs.03-Names.{letter, letter-or-digit, well-formed, lower, same-name};
 ghost use Rattle.names.specs.Bytes.{marked};
 ghost use Rattle.names.specs.Run.{Ended, Started, Standing, Parted};
 use rules::Limits;
@@ -80,11 +81,44 @@ pub fn is_equal(a: &[u8], b: &[u8]) -> bool
     true
 }
 
+// A to Z become a to z.
+pub fn lower(c: u8) -> u8
+    ensures { λ r. ⌜ r ≡ lower c ⌝ }
+{
+    if c < b'A' {
+        return c;
+    }
+    if b'Z' < c {
+        return c;
+    }
+    c + 32
+}
+
+// Most bytes that agree are the same: only others are lowered.
+fn is_same_byte(x: u8, y: u8) -> bool
+    ensures { λ r. ⌜ r ≡ eqb (lower x) (lower y) ⌝ }
+{
+    if x == y {
+        return true;
+    }
+    lower(x) == lower(y)
+}
+
 // Whether two names are one.
 pub fn is_same(a: &[u8], b: &[u8]) -> bool
     ensures { λ r. ⌜ r ≡ same-name (now (a .entry)) (now (b .entry)) ⌝ }
 {
-    is_equal(a, b)
+    if a.len() != b.len() {
+        return false;
+    }
+    let mut i = 0;
+    while i < a.len() {
+        if !is_same_byte(a[i], b[i]) {
+            return false;
+        }
+        i += 1;
+    }
+    true
 }
 
 // A place in a run of names parted by single spaces, by value; where there is no more, none is left.

@@ -4,3 +4,4 @@ pub mod Scan
 pub mod TableLaws
 pub mod Written
 pub mod OrderLaws
+pub mod FoldLaws

@@ -4,24 +4,24 @@ use native.Mathlib.Nat.{add-zero, zero-add}
 use native.Mathlib.Numerals.{add-one}
 use native.Mathlib.Omega.{arith}
 use mathlib.Core.Path.{_≡_, refl, sym, ap, ap₂, _∙_}
-use mathlib.Core.List.{List, [], _∷_, _++_, append-nil}
+use mathlib.Core.List.{List, [], _∷_, _++_, append-nil, map, map-append}
 use mathlib.Core.Bool.{Bool, true, false, _&&_, _||_, and-false, or-false}
 use lib.Dec.{ltb, eqb}
-use lib.ListN.{length, getD}
+use lib.Bits.{bitAnd, and-le-r}
+use lib.ListN.{length, getD, length-map}
 use lib.Pow.{pow-add, pow-mono}
-use borrow.Author.Tests.{ltb-true, ltb-false, lt-ltb, le-ltb, eq-eqb, ne-eqb}
-use Rattle.rules.specs.01-Lists.{bytes-before}
+use borrow.Author.Tests.{ltb-true, ltb-false, lt-ltb, le-ltb, eqb-true, eq-eqb, ne-eqb}
+use Rattle.rules.specs.01-Lists.{same-bytes, bytes-before}
+use Rattle.rules.proofs.Bools.{same-test}
+use Rattle.rules.proofs.01-Lists.{same-bytes-is, same-bytes-refl, before-connected}
 use Rattle.rows.specs.declared.order.Key.{Key}
 use Rattle.rows.specs.Rows.{part, row-at, Rising}
-use Rattle.rows.specs.Order.{number, number-passed, Climbs, numbers-of, Keyed}
+use Rattle.rows.specs.Order.{fold, folded, front, number, number-passed, Climbs, Small, Folded, numbers-of, Keyed}
 use Rattle.rows.proofs.Rows.{part-byte}
 use Rattle.rows.proofs.Scan.{part-cons, length-part}
 use Rattle.rows.proofs.TableLaws.{row-fits}
 
-abbrev Small : List ℕ → Type 0
-Small l = (i : ℕ) → i < length l → getD l i 0 < 256
-
-small-rest : (c : ℕ) (l : List ℕ) → Small (c ∷ l) → Small l
+pub small-rest : (c : ℕ) (l : List ℕ) → Small (c ∷ l) → Small l
 small-rest c l s i h = s (suc i) (omega arith)
 
 -- a lesser number before as many bytes is a lesser number
@@ -65,6 +65,26 @@ number-before (c ∷ a) (d ∷ b) u v x e s t =
         let same : c ≡ d = omega (arith, ltb-false c d f, ltb-false d c g) in
         rw (f, eq-eqb c d same, ← same) (ih (x * 256 + c))
 
+-- as many bytes compare as their numbers do
+number-order : (a b : List ℕ) → length a ≡ length b → Small a → Small b → bytes-before a b ≡ ltb (number 0 a) (number 0 b)
+unfolding bytes-before
+number-order a b e s t =
+    sym (ap₂ bytes-before (append-nil a) (append-nil b))
+    ∙ number-before a b [] [] 0 e s t
+    ∙ ap (λ (z : Bool). ltb (number 0 a) (number 0 b) || z) (and-false (eqb (number 0 a) (number 0 b)))
+    ∙ or-false (ltb (number 0 a) (number 0 b))
+
+-- and are the same where their numbers are
+pub number-same : (a b : List ℕ) → length a ≡ length b → Small a → Small b → same-bytes a b ≡ eqb (number 0 a) (number 0 b)
+number-same a b e s t =
+    same-test (same-bytes a b) (eqb (number 0 a) (number 0 b))
+    (λ h. eq-eqb (number 0 a) (number 0 b) (ap (number 0) (same-bytes-is a b h)))
+    (λ h.
+    let same = eqb-true (number 0 a) (number 0 b) h in
+    let one : a ≡ b = before-connected a b (number-order a b e s t ∙ le-ltb (number 0 a) (number 0 b) (omega arith))
+    (number-order b a (sym e) t s ∙ le-ltb (number 0 b) (number 0 a) (omega arith)) in
+    rw one (same-bytes-refl b))
+
 -- ---- runs of numbers, number by number
 
 module _ (x y : ℕ) where
@@ -82,7 +102,7 @@ module _ (x y : ℕ) where
 
 -- ---- the bytes of a row
 
-part-append : (b : List ℕ) (at n m : ℕ) → at + n ≤ length b → part b at (n + m) ≡ part b at n ++ part b (at + n) m
+pub part-append : (b : List ℕ) (at n m : ℕ) → at + n ≤ length b → part b at (n + m) ≡ part b at n ++ part b (at + n) m
 part-append b at zero m h = rw (zero-add m, add-zero at)
 part-append b at (suc n) m h =
     let more : suc n + m ≡ suc (n + m) = omega arith in
@@ -99,14 +119,8 @@ small-part b at n s h i l =
 -- rows as numbers
 pub numbers-before : (b : List ℕ) (a c w : ℕ) → ((i : ℕ) → getD b i 0 < 256) → a + w ≤ length b → c + w ≤ length b
     → bytes-before (part b a w) (part b c w) ≡ ltb (number 0 (part b a w)) (number 0 (part b c w))
-unfolding bytes-before
 numbers-before b a c w s h l =
-    let x = part b a w in
-    let y = part b c w in
-    sym (ap₂ bytes-before (append-nil x) (append-nil y))
-    ∙ number-before x y [] [] 0 (length-part b a w h ∙ sym (length-part b c w l)) (small-part b a w s h) (small-part b c w s l)
-    ∙ ap (λ (t : Bool). ltb (number 0 x) (number 0 y) || t) (and-false (eqb (number 0 x) (number 0 y)))
-    ∙ or-false (ltb (number 0 x) (number 0 y))
+    number-order (part b a w) (part b c w) (length-part b a w h ∙ sym (length-part b c w l)) (small-part b a w s h) (small-part b c w s l)
 
 -- ---- n rows rise exactly where their numbers do
 
@@ -125,35 +139,67 @@ module _ (x : ℕ) (b : List ℕ) (start w n : ℕ) (small : (i : ℕ) → getD 
       let this : i < n = omega arith in
       numbers-before b (start + i * w) (start + suc i * w) w small (omega (arith, row-fits w this)) (omega (arith, row-fits w h))
 
-  pub climbs-rising : ((i : ℕ) → i < n → Climbs x b start w i) → Rising b start w w n
+  pub climbs-rising : ((i : ℕ) → i < n → Climbs x b start w i) → Rising (row-at b start w) n
   unfolding number-passed
   climbs-rising climbs i h =
       rows-before i h ∙ lt-ltb (number 0 (row-at b start w i)) (number 0 (row-at b start w (suc i))) (climbs (suc i) h)
 
-  pub rising-climbs : Rising b start w w n → (0 < n → x < number 0 (row-at b start w 0)) → (i : ℕ) → i < n → Climbs x b start w i
+  pub rising-climbs : Rising (row-at b start w) n → (0 < n → x < number 0 (row-at b start w 0)) → (i : ℕ) → i < n → Climbs x b start w i
   unfolding number-passed
   rising-climbs rise first zero h = first h
   rising-climbs rise first (suc i) h =
       ltb-true (number 0 (row-at b start w i)) (number 0 (row-at b start w (suc i))) (sym (rows-before i h) ∙ rise i h)
 
-row-parts : (b : List ℕ) (at : ℕ) → at + 17 ≤ length b → part b at 17 ≡ getD b at 0 ∷ (part b (at + 1) 8 ++ part b (at + 9) 8)
-row-parts b at h =
+-- ---- the bytes of a presence that are compared, the name less its case
+
+getD-mapped : (f : ℕ → ℕ) (l : List ℕ) (i : ℕ) → i < length l → getD (map f l) i 0 ≡ f (getD l i 0)
+getD-mapped f [] i h = absurd (omega arith)
+getD-mapped f (x ∷ l) zero h = refl
+getD-mapped f (x ∷ l) (suc i) h = getD-mapped f l i (omega arith)
+
+fold-small : (c : ℕ) → fold c < 256
+unfolding fold
+fold-small c = omega (arith, and-le-r (bitAnd c 127 + 1) 95)
+
+-- a half of the name
+module _ (b : List ℕ) (at : ℕ) (small : (i : ℕ) → getD b i 0 < 256) (fits : at + 8 ≤ length b) where
+  abbrev half : List ℕ
+  half = folded (part b at 8)
+
+  pub half-long : length half ≡ 8
+  half-long = length-map (part b at 8) fold ∙ length-part b at 8 fits
+
+  pub half-small : Small half
+  half-small i h =
+      rw (getD-mapped fold (part b at 8) i (omega (arith, h, length-map (part b at 8) fold))) (fold-small (getD (part b at 8) i 0))
+
+  pub half-folded : {w r : ℕ} → w ≡ number 0 (part b at 8) → Folded w r → r ≡ number 0 half
+  half-folded e l = l .bytes (part b at 8) (length-part b at 8 fits) (small-part b at 8 small fits) e
+
+front-halves : (b : List ℕ) (at : ℕ) → at + 17 ≤ length b → front b at ≡ getD b at 0 ∷ (folded (part b (at + 1) 8) ++ folded (part b (at + 9) 8))
+front-halves b at h =
     let far : at + 1 + 8 ≡ at + 9 = omega arith in
-    part-cons b at 17 16 (omega arith) refl ∙ ap (λ (l : List ℕ). getD b at 0 ∷ l) (rw (← far) (part-append b (at + 1) 8 8 (omega arith)))
+    let halves : part b (at + 1) 16 ≡ part b (at + 1) 8 ++ part b (at + 9) 8 = rw (← far) (part-append b (at + 1) 8 8 (omega arith)) in
+    ap (λ (l : List ℕ). getD b at 0 ∷ folded l) halves
+    ∙ ap (λ (l : List ℕ). getD b at 0 ∷ l) (map-append fold (part b (at + 1) 8) (part b (at + 9) 8))
 
 pub keyed-before : (b : List ℕ) (a c : ℕ) (k m : Key) → ((i : ℕ) → getD b i 0 < 256) → a + 17 ≤ length b → c + 17 ≤ length b
-    → Keyed b a k → Keyed b c m → bytes-before (part b a 17) (part b c 17) ≡ bytes-before (numbers-of k) (numbers-of m)
+    → Keyed b a k → Keyed b c m → bytes-before (front b a) (front b c) ≡ bytes-before (numbers-of k) (numbers-of m)
 unfolding bytes-before
 keyed-before b a c k m s h l x y =
-    rw (row-parts b a h, row-parts b c l, x .sds, x .first, x .second, y .sds, y .first, y .second)
+    let p = half b (a + 1) s (omega arith) in
+    let q = half b (c + 1) s (omega arith) in
+    let u = half b (a + 9) s (omega arith) in
+    let v = half b (c + 9) s (omega arith) in
+    ap₂ bytes-before (front-halves b a h) (front-halves b c l)
+    ∙ rw (x .sds, x .first, x .second, y .sds, y .first, y .second)
     (ap (λ (t : Bool). ltb (getD b a 0) (getD b c 0) || (eqb (getD b a 0) (getD b c 0) && t))
-    (number-before (part b (a + 1) 8) (part b (c + 1) 8) (part b (a + 9) 8) (part b (c + 9) 8) 0
-    (length-part b (a + 1) 8 (omega arith) ∙ sym (length-part b (c + 1) 8 (omega arith)))
-    (small-part b (a + 1) 8 s (omega arith)) (small-part b (c + 1) 8 s (omega arith))
-    ∙ ap
-    (λ (t : Bool).
-    ltb (number 0 (part b (a + 1) 8)) (number 0 (part b (c + 1) 8)) || (eqb (number 0 (part b (a + 1) 8)) (number 0 (part b (c + 1) 8)) && t))
-    (numbers-before b (a + 9) (c + 9) 8 s (omega arith) (omega arith) ∙ sym (before-last (number 0 (part b (a + 9) 8)) (number 0 (part b (c + 9) 8))))))
+    (number-before p q u v 0 (half-long b (a + 1) s (omega arith) ∙ sym (half-long b (c + 1) s (omega arith)))
+    (half-small b (a + 1) s (omega arith)) (half-small b (c + 1) s (omega arith))
+    ∙ ap (λ (t : Bool). ltb (number 0 p) (number 0 q) || (eqb (number 0 p) (number 0 q) && t))
+    (number-order u v (half-long b (a + 9) s (omega arith) ∙ sym (half-long b (c + 9) s (omega arith)))
+    (half-small b (a + 9) s (omega arith)) (half-small b (c + 9) s (omega arith))
+    ∙ sym (before-last (number 0 u) (number 0 v)))))
 
 -- ---- the number of a row of 3 or 4 bytes
 

@@ -1,6 +1,6 @@
 -- What loops over bytes need: a part's first byte, bytes that are all zero, rows that rise, counts. Assumes nothing.
 use Prim.Native.Nat.{ℕ, zero, suc, _+_, _*_, _-_, _≤_, _<_}
-use native.Mathlib.Nat.{add-zero, suc-mul}
+use native.Mathlib.Nat.{add-zero}
 use native.Mathlib.Numerals.{add-one}
 use native.Mathlib.Omega.{arith}
 use mathlib.Core.Path.{_≡_, refl, sym, ap, _∙_, subst}
@@ -42,28 +42,35 @@ zeros-blank b from to r h l e =
 
 -- ---- rows that rise, one more at a time
 
-module _ (b : List ℕ) (start stride w : ℕ) where
-  pub rising-one : Rising b start stride w (0 + 1)
+module _ (row : ℕ → List ℕ) where
+  pub rising-one : Rising row (0 + 1)
   rising-one j h = absurd (omega arith)
 
-  pub rising-more : (i at : ℕ) → at ≡ start + i * stride → Rising b start stride w (i + 1)
-      → bytes-before (part b at w) (part b (at + stride) w) ≡ true → Rising b start stride w (i + 1 + 1)
-  rising-more i at e r n j h = go (ltb j i) refl
+  pub rising-more : (i : ℕ) → Rising row (i + 1) → bytes-before (row i) (row (i + 1)) ≡ true → Rising row (i + 1 + 1)
+  rising-more i r n j h = go (ltb j i) refl
     where
-      go : (t : Bool) → ltb j i ≡ t → bytes-before (part b (start + j * stride) w) (part b (start + suc j * stride) w) ≡ true
+      go : (t : Bool) → ltb j i ≡ t → bytes-before (row j) (row (suc j)) ≡ true
       go true q = r j (omega (arith, ltb-true j i q))
-      go false q =
-          let same : i ≡ j = omega (arith, ltb-false j i q) in
-          let here : at ≡ start + j * stride = e ∙ ap (λ (k : ℕ). start + k * stride) same in
-          let next : at + stride ≡ start + suc j * stride = ap (λ (k : ℕ). k + stride) here ∙ omega (arith, suc-mul j stride) in
-          rw (← here, ← next) n
+      go false q = let same : i ≡ j = omega (arith, ltb-false j i q) in rw (← add-one j, ← same) n
 
   -- two rows that do not rise
-  pub rising-not : (i at n : ℕ) → at ≡ start + i * stride → suc i < n → bytes-before (part b at w) (part b (at + stride) w) ≡ false
-      → Rising b start stride w n → ⊥
-  rising-not i at n e h f r =
-      let next : at + stride ≡ start + suc i * stride = ap (λ (k : ℕ). k + stride) e ∙ omega (arith, suc-mul i stride) in
-      true≢false (sym (rw (← e, ← next) at (r i h)) ∙ f)
+  pub rising-not : (i n : ℕ) → suc i < n → bytes-before (row i) (row (i + 1)) ≡ false → Rising row n → ⊥
+  rising-not i n h f r = true≢false (sym (rw (← add-one i) at (r i h)) ∙ f)
+
+  -- rows that rise one by one rise over any distance
+  pub rising-far : (n : ℕ) → Rising row n → (i j : ℕ) → i < j → j < n → bytes-before (row i) (row j) ≡ true
+  rising-far n r i zero h l = absurd (omega arith)
+  rising-far n r i (suc j) h l = go (ltb i j) refl (λ q. rising-far n r i j q (omega arith))
+    where
+      go : (t : Bool) → ltb i j ≡ t → (i < j → bytes-before (row i) (row j) ≡ true) → bytes-before (row i) (row (suc j)) ≡ true
+      go true q ih = before-transitive (row i) (row j) (row (suc j)) (ih (ltb-true i j q)) (r j l)
+      go false q ih = let same : i ≡ j = omega (arith, ltb-false i j q) in rw same (r j l)
+
+-- the SDSs of rows that rise do not fall
+pub rising-level : (b : List ℕ) (first stride n : ℕ) (rest : ℕ → List ℕ) → Rising (λ i. getD b (first + i * stride) 0 ∷ rest i) n → Level b first stride n
+rising-level b first stride n rest r i j h k =
+    before-first (getD b (first + i * stride) 0) (rest i) (getD b (first + j * stride) 0) (rest j)
+    (rising-far (λ i. getD b (first + i * stride) 0 ∷ rest i) n r i j h k)
 
 -- ---- counts and the room behind rows
 
@@ -92,29 +99,6 @@ counted b start w n r h = record {
 pub room-zero : (b : List ℕ) (from to k : ℕ) (r : Bool) → to - from ≡ k → Decides (part b from (to - from) ≡ replicate (to - from) 0) r
     → Decides (part b from k ≡ replicate k 0) r
 room-zero b from to k r e d = subst (λ (m : ℕ). Decides (part b from m ≡ replicate m 0) r) e d
-
--- rows that rise one by one rise over any distance
-pub rising-far : (b : List ℕ) (start stride w n : ℕ) → Rising b start stride w n → (i j : ℕ) → i < j → j < n
-    → bytes-before (part b (start + i * stride) w) (part b (start + j * stride) w) ≡ true
-rising-far b start stride w n r i zero h l = absurd (omega arith)
-rising-far b start stride w n r i (suc j) h l = go (ltb i j) refl (λ q. rising-far b start stride w n r i j q (omega arith))
-  where
-    row : ℕ → List ℕ
-    row k = part b (start + k * stride) w
-
-    go : (t : Bool) → ltb i j ≡ t → (i < j → bytes-before (row i) (row j) ≡ true) → bytes-before (row i) (row (suc j)) ≡ true
-    go true q ih = before-transitive (row i) (row j) (row (suc j)) (ih (ltb-true i j q)) (r j l)
-    go false q ih = let same : i ≡ j = omega (arith, ltb-false i j q) in rw same (r j l)
-
--- ---- the SDSs of rows that rise
-
-pub rising-level : (b : List ℕ) (start stride w n : ℕ) → ((i : ℕ) → i < n → start + i * stride < length b) → Rising b start stride (suc w) n
-    → Level b start stride n
-rising-level b start stride w n l r i j h k =
-    let x = start + i * stride in
-    let y = start + j * stride in
-    before-first (getD b x 0) (part b (x + 1) w) (getD b y 0) (part b (y + 1) w)
-    (rw (← part-cons b x (suc w) w (l i (omega arith)) refl, ← part-cons b y (suc w) w (l j k) refl) (rising-far b start stride (suc w) n r i j h k))
 
 -- ---- halving: where the rows part, they part between low and high
 

@@ -1,4 +1,4 @@
 pub mod Rows
 pub mod Decides
-pub mod Table
 pub mod Order
+pub mod Table

@@ -57,9 +57,9 @@ pub record Counted (count most r : ℕ) : Type 0 where
   pub is : r ≡ count
   pub fits : r ≤ most
 
--- the first w bytes of each of n rows stand before those of the next
-abbrev pub Rising : List ℕ → ℕ → ℕ → ℕ → ℕ → Type 0
-Rising b start stride w n = (i : ℕ) → suc i < n → bytes-before (part b (start + i * stride) w) (part b (start + suc i * stride) w) ≡ true
+-- what each of n rows is compared by stands before that of the next
+abbrev pub Rising : (ℕ → List ℕ) → ℕ → Type 0
+Rising row n = (i : ℕ) → suc i < n → bytes-before (row i) (row (suc i)) ≡ true
 
 -- the SDSs of n rows do not fall; that of row 0 stands at `first`
 abbrev pub Level : List ℕ → ℕ → ℕ → ℕ → Type 0

@@ -1,12 +1,12 @@
-// The order of rows by keys of 17 bytes, eight bytes at a time.
+// The order of rows by keys of 17 bytes, eight bytes at a time, without regard to case.
 ghost use mathlib.Core.Path.{_≡_};
 ghost use Prim.Native.Nat.{_+_, _≤_};
 ghost use lib.ListN.{length};
 ghost use Rattle.rules.specs.01-Lists.{bytes-before};
 ghost use Rattle.rows.specs.Rows.{part};
-ghost use Rattle.rows.specs.Order.{number, numbers-of, Keyed};
+ghost use Rattle.rows.specs.Order.{folded, number, numbers-of, Keyed, Folded};
 
-// The 17 bytes of a presence that are compared: its SDS, and its name in two numbers.
+// The 17 bytes of a presence that are compared: its SDS, and its name, less its case, in two numbers.
 pub struct Key {
     pub sds: u8,
     pub first: u64,
@@ -27,14 +27,29 @@ fn word(base: &[u8], at: usize) -> u64
     x
 }
 
+// Eight bytes less their case. One more brings the underscore from right before the small letters to where the mask takes it before all
+// letters, as it stands in lower case; bytes that no name has may fall together.
+fn fold8(w: u64) -> u64
+    ensures { λ r. ⌜ Folded w r ⌝ }
+{
+    ((w & 0x7f7f_7f7f_7f7f_7f7f) + 0x0101_0101_0101_0101) & 0x5f5f_5f5f_5f5f_5f5f
+}
+
+pub fn folded(base: &[u8], at: usize) -> u64
+    requires { ⌜ at + 8 ≤ length (now base) ⌝ }
+    ensures { λ r. ⌜ r ≡ number 0 (folded (part (now (base .entry)) at 8)) ⌝ }
+{
+    fold8(word(base, at))
+}
+
 pub fn key_at(base: &[u8], at: usize) -> Key
     requires { ⌜ at + 17 ≤ length (now base) ⌝ }
     ensures { λ r. ⌜ Keyed (now (base .entry)) at r ⌝ }
 {
     Key {
         sds: base[at],
-        first: word(base, at + 1),
-        second: word(base, at + 9),
+        first: folded(base, at + 1),
+        second: folded(base, at + 9),
     }
 }
 

@@ -4,7 +4,7 @@ use Prim.Native.Nat.{ℕ, zero, suc, _+_, _-_, _≤_, _<_}
 use native.Mathlib.Omega.{arith}
 use mathlib.Core.Path.{_≡_, refl, sym, ap, _∙_}
 use mathlib.Core.Logic.{⊎-elim}
-use mathlib.Core.List.{List, [], _∷_, map, List·Memᴰ·not-nil, List·Memᴰ·cases-cons}
+use mathlib.Core.List.{List, [], _∷_, _++_, map, List·Memᴰ·not-nil, List·Memᴰ·cases-cons}
 use mathlib.Core.List.List·Memᴰ.{List·Memᴰ·head, List·Memᴰ·tail}
 use mathlib.Core.Bool.{Bool, true, false, not, cond, _&&_, true≢false, false≢true, and-false}
 use lib.Dec.{ltb, eqb}
@@ -337,6 +337,29 @@ before-connected (x ∷ a) (y ∷ b) p q =
     let rest = before-connected a b (and-rest (eqb x y) (bytes-before a b) (eq-eqb x y same) e)
     (and-rest (eqb y x) (bytes-before b a) (eq-eqb y x (sym same)) f) in
     λ i. same i ∷ rest i
+
+-- ---- runs with others behind them
+
+-- of runs of one length the order decides, whatever stands behind them
+pub before-ahead : (a b u v : List ℕ) → length a ≡ length b → bytes-before a b ≡ true → bytes-before (a ++ u) (b ++ v) ≡ true
+unfolding bytes-before
+before-ahead [] [] u v l e = absurd (false≢true e)
+before-ahead [] (y ∷ b) u v l e = absurd (omega arith)
+before-ahead (x ∷ a) [] u v l e = absurd (omega arith)
+before-ahead (x ∷ a) (y ∷ b) u v l e = go (way x a y b e) (before-ahead a b u v (omega arith))
+  where
+    go : Way x a y b → (bytes-before a b ≡ true → bytes-before (a ++ u) (b ++ v) ≡ true) → bytes-before (x ∷ (a ++ u)) (y ∷ (b ++ v)) ≡ true
+    go (smaller h) f = before-by-less x (a ++ u) y (b ++ v) h
+    go (same h k) f = before-by-same x (a ++ u) y (b ++ v) h (f k)
+
+-- behind one run what follows decides
+pub before-behind : (a u v : List ℕ) → bytes-before (a ++ u) (a ++ v) ≡ bytes-before u v
+unfolding bytes-before
+before-behind [] u v = refl
+before-behind (x ∷ a) u v = rw (le-ltb x x (omega arith), eq-eqb x x refl) (before-behind a u v)
+
+pub before-asymmetric : (a b : List ℕ) → bytes-before a b ≡ true → bytes-before b a ≡ false
+before-asymmetric a b e = fails (bytes-before b a) (λ f. true≢false (sym (before-transitive a b a e f) ∙ before-irreflexive a))
 
 -- ---- a rising list, neighbour by neighbour
 

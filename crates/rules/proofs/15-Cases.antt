@@ -3,7 +3,7 @@ use mathlib.Core.Path.{_≡_, refl}
 use mathlib.Core.List.{_++_}
 use mathlib.Core.Bool.{true}
 use Rattle.rules.specs.01-Lists.{same-bytes, bytes-before, any, all, first, without, rising, put, put-all, place, repeated, numbers, greatest}
-use Rattle.rules.specs.03-Names.{letter, letter-or-digit, well-formed, same-name, name-before, parted, names-in}
+use Rattle.rules.specs.03-Names.{letter, letter-or-digit, well-formed, lower, lowered, same-name, name-before, parted, names-in}
 use Rattle.rules.specs.04-Schema.{fresh, used-sds, parents, is-parent, reverse, present, bears, type-named, local-name, applied, has-end}
 use Rattle.rules.specs.06-Good.{presence-before, application-before, end-before}
 use Rattle.rules.specs.05-Descent.{climbs, descends, height, depth, members}
@@ -18,7 +18,7 @@ use Rattle.rules.specs.15-Cases.{marked, own, row-holds, calls-hold, lin
 pub cases-hold : all row-holds (marked ++ own) ≡ true
 unfolding
     same-bytes bytes-before any all first without rising put put-all place repeated numbers
-    letter letter-or-digit well-formed same-name name-before parted names-in
+    letter letter-or-digit well-formed lower lowered same-name name-before parted names-in
     fresh used-sds parents is-parent reverse present bears type-named local-name applied has-end
     presence-before application-before end-before
     climbs descends greatest height depth members

@@ -28,7 +28,7 @@
 --                       behind the other, `suc n` is n + 1, and `limits .types` a field of a record
 --   λ k. ..             a function without a name, of k
 --   cond c a b          a where c is true, else b. `eqb`, `ltb`, `leb` test x = y, x < y, x ≤ y; `&&`, `||`, `not` are as everywhere
---   getD xs i d         the element at place i, from 0 on; d where there is none. `set xs i a` is xs with a there
+--   getD xs i d         the element at place i, from 0 on; d where there is none. `set xs i a` is xs with a there, `map f xs` f of each
 --   a ≡ b   A × B   ⊥   the statements that a is b, that A and B both hold, and the one that nothing proves: `A → ⊥` says that A fails.
 --                       `p .0` and `p .1` are the halves of a pair. `(n : ℕ) → ..` says it for every n, `(n : ℕ) × ..` for some n
 --   x ∈ xs              x stands in the list

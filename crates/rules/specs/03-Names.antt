@@ -1,6 +1,6 @@
--- "Names are 1 to 16 bytes: ASCII letters, digits and underscore, beginning with a letter, compared byte for byte."
-use Prim.Native.Nat.{ℕ}
-use mathlib.Core.List.{List, [], _∷_}
+-- "Names are 1 to 16 bytes: ASCII letters, digits and underscore, beginning with a letter". When two are the same 02 says (Q-5).
+use Prim.Native.Nat.{ℕ, _+_}
+use mathlib.Core.List.{List, [], _∷_, map}
 use mathlib.Core.Bool.{Bool, cond, _&&_, _||_}
 use lib.Dec.{leb, eqb}
 use lib.ListN.{length, getD}
@@ -25,13 +25,23 @@ well-formed n = leb 1 (length n) && (leb (length n) (limits .name) && (letter (g
 abbrev pub blank : Name → Bool
 blank n = eqb (length n) 0
 
--- "compared byte for byte"; no other definition says when two names are one
-unfoldable pub same-name : Name → Name → Bool
-same-name n m = same-bytes n m
+-- A to Z become a to z, and every other byte stays
+unfoldable pub lower : ℕ → ℕ
+lower c = cond (leb 65 c && leb c 90) (c + 32) c
 
--- the order that rows are kept in, a strict total order; no other definition says which of two names is first
+-- "after ASCII letters are brought to lower case" (02, Q-5)
+unfoldable pub lowered : Name → Name
+lowered n = map lower n
+
+-- "Names are equal when they are equal after ASCII letters are brought to lower case" (02, Q-5); no other definition says when two names
+-- are one
+unfoldable pub same-name : Name → Name → Bool
+same-name n m = same-bytes (lowered n) (lowered m)
+
+-- the order that rows are kept in, a strict total order: by the lowered names, and as they are spelled where these agree; no other
+-- definition says which of two names is first
 unfoldable pub name-before : Name → Name → Bool
-name-before n m = bytes-before n m
+name-before n m = bytes-before (lowered n) (lowered m) || (same-name n m && bytes-before n m)
 
 -- c put in front of the first name
 abbrev onto : ℕ → List Name → List Name

@@ -284,7 +284,8 @@ remove-type d n s =
     verdict (remove-type-refusals d n s)
     (done t 0 0 (less-gone ts (with-presences s (without (λ p. eqb (p .sds) d && among ts (p .type)) (s .presences)))))
 
--- ---- 8 "Rename a presence. Its own present name is accepted and changes nothing."
+-- ---- 8 "Rename a presence. Its own present name is accepted and changes nothing." "A rename that alters only the spelling is still
+-- done" (02, Q-5)
 
 abbrev pub rename-refusals : ℕ → Name → Name → Schema → Refusals
 rename-refusals d n new s =

@@ -248,4 +248,59 @@ own =
     ∷ changes (remove-type 1 (bytes "object")) (success 0 0 0)
     ∷ changes (remove-sds 1) (success 0 0 0)
     ∷ [])))
+    -- names ignore case (02, Q-5): "System" is taken; types are found, taken, repeated and renamed in any spelling
+    ∷ calls
+    (ship
+    ++ (changes (new-sds (bytes "System")) (refusal 11)
+    ∷ changes (new-sds (bytes "BUS")) (refusal 11)
+    ∷ changes (new-sds (bytes "Buses")) (success 2 0 0)
+    ∷ changes (new-object 1 (bytes "UNIT") (bytes "object")) (refusal 11)
+    ∷ changes (new-object 1 (bytes "Fifo") (bytes "Unit unit")) (refusal 8)
+    ∷ changes (new-object 1 (bytes "Fifo") (bytes "Unit RADIO")) (success 8 0 0)
+    ∷ changes (new-pair 1 (bytes "A") (bytes "a") 0 2) (refusal 11)
+    ∷ changes (new-pair 1 (bytes "A") (bytes "b") 0 2) (success 9 10 0)
+    ∷ asks (find (1 ∷ []) (bytes "fIFO")) (success 8 0 0) []
+    ∷ changes (rename 1 (bytes "fifo") (bytes "FIFO")) (success 0 0 0)
+    ∷ changes (rename 1 (bytes "Fifo") (bytes "Radio")) (refusal 11)
+    ∷ changes (apply 1 (bytes "STATE") (bytes "Fifo")) (success 0 0 0)
+    ∷ changes (import 2 0 (bytes "Object") (bytes "Has") []) (success 0 0 0)
+    ∷ changes (import 2 1 (bytes "HAS") [] []) (refusal 11)
+    ∷ changes (import 2 1 (bytes "HAS") (bytes "Of") []) (refusal 11)
+    ∷ changes (import 2 1 (bytes "HAS") (bytes "Of") (bytes "By")) (success 5 6 0)
+    ∷ changes (remove-type 2 (bytes "OF")) (success 5 0 0)
+    ∷ []))
+    -- Z is the last letter that is lowered; the bytes around the letters are in no name; a name of 16 letters is one in any spelling
+    ∷ calls
+    (bus
+    ++ (changes (new-designation 1 (bytes "aZ")) (success 1 0 0)
+    ∷ changes (new-designation 1 (bytes "Az")) (refusal 11)
+    ∷ changes (new-designation 1 (bytes "aY")) (success 2 0 0)
+    ∷ changes (new-designation 1 (bytes "a[")) (refusal 4)
+    ∷ changes (new-designation 1 (bytes "a@")) (refusal 4)
+    ∷ changes (new-designation 1 (bytes "a`")) (refusal 4)
+    ∷ changes (new-designation 1 (bytes "a{")) (refusal 4)
+    ∷ changes (new-sds (replicate 16 90)) (success 2 0 0)
+    ∷ changes (new-sds (replicate 16 122)) (refusal 11)
+    ∷ changes (new-sds (replicate 15 122)) (success 3 0 0)
+    ∷ []))
+    -- rows stand by lowered names: an underscore stands before the letters, where byte for byte B stands before it
+    ∷ calls
+    (bus
+    ++ (changes (new-designation 1 (bytes "AB")) (success 1 0 0)
+    ∷ changes (new-designation 1 (bytes "A_")) (success 2 0 0)
+    ∷ asks (name 1 2) (success 1299 2 0) []
+    ∷ asks (name 1 1) (success 1317 2 0) []
+    ∷ []))
+    -- the run program's SDSs and types in any spelling; its commands byte for byte
+    ∷ lines
+    (("sds bus", "0 1")
+    ∷ ("sds Bus", "11")
+    ∷ ("SDS ground", "?")
+    ∷ ("import BUS System OBJECT", "0 0")
+    ∷ ("object Bus Radio Object", "0 1")
+    ∷ ("object bus radio object", "11")
+    ∷ ("desc bUs oBject", "0 1 1")
+    ∷ ("depth bus RADIO", "0 1")
+    ∷ ("remove BUS rADIO", "0 1")
+    ∷ [])
     ∷ []

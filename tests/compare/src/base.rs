@@ -3,7 +3,7 @@
 #![forbid(unsafe_code)]
 
 use crate::schema::{
-    is_name, Application, End, Name, Schema, Sds, Side, Type, DESIGNATION, IMPLICIT, LAST_VALUE_KIND,
+    has_same, is_name, Application, End, Name, Schema, Sds, Side, Type, DESIGNATION, IMPLICIT, LAST_VALUE_KIND,
 };
 use std::collections::{BTreeMap, BTreeSet};
 
@@ -39,13 +39,25 @@ impl Table {
         &mut base[self.start + number * self.width..][..self.width]
     }
 
-    /// The used rows of a table kept in order: strictly rising with no gap. None if they are not.
-    fn rising_rows(self, base: &[u8]) -> Option<Vec<&[u8]>> {
+    /// The used rows of a table kept in order: strictly rising by what sets them in order, with no gap. None if they are
+    /// not.
+    fn rising_rows<K: Ord>(self, base: &[u8], key: fn(&[u8]) -> K) -> Option<Vec<&[u8]>> {
         let used: Vec<&[u8]> = self.rows(base).take_while(|row| is_used(row)).collect();
         let is_gapless = !self.rows(base).skip(used.len()).any(is_used);
-        let is_rising = used.windows(2).all(|pair| pair[0] < pair[1]);
+        let keys: Vec<K> = used.iter().map(|row| key(row)).collect();
+        let is_rising = keys.windows(2).all(|pair| pair[0] < pair[1]);
         (is_gapless && is_rising).then_some(used)
     }
+}
+
+/// Presences stand by SDS, then name, then type. A name's field may have its padding, which is below every byte of a name.
+pub fn presence_key(row: &[u8]) -> (u8, Name, u8) {
+    (row[0], Name::new(&row[1..][..Schema::NAME]), row[1 + Schema::NAME])
+}
+
+/// Applications and ends stand as their bytes do, which are numbers.
+fn bytes_of(row: &[u8]) -> Vec<u8> {
+    row.to_vec()
 }
 
 /// Every used row has a byte that is not 0.
@@ -128,18 +140,18 @@ pub fn from_bytes(base: &[u8]) -> Option<Schema> {
     for (number, row) in TYPES.rows(base).enumerate().filter(|(_, row)| is_used(row)) {
         schema.types.insert(number, type_in(row)?);
     }
-    for row in PRESENCES.rising_rows(base)? {
+    for row in PRESENCES.rising_rows(base, presence_key)? {
         let presences = &mut schema.sdss.get_mut(&row[0].into())?.presences;
-        let name = name_in(&row[1..][..Schema::NAME])?.to_vec();
-        if presences.insert(name, row[1 + Schema::NAME].into()).is_some() {
+        let name = name_in(&row[1..][..Schema::NAME])?;
+        if presences.insert(Name::new(name), row[1 + Schema::NAME].into()).is_some() {
             return None;
         }
     }
-    for row in APPLICATIONS.rising_rows(base)? {
+    for row in APPLICATIONS.rising_rows(base, bytes_of)? {
         let application = Application { to: row[1].into(), attribute: row[2].into() };
         schema.sdss.get_mut(&row[0].into())?.applications.insert(application);
     }
-    for row in ENDS.rising_rows(base)? {
+    for row in ENDS.rising_rows(base, bytes_of)? {
         let side = match row[2] {
             0 => Side::Origin,
             1 => Side::Destination,
@@ -177,14 +189,13 @@ fn type_in(row: &[u8]) -> Option<Type> {
 }
 
 /// Document 01, "Things in a base" and "A base is sound when", but for what reading the rows has settled: names are
-/// well formed and unique in an SDS, numbers of SDSs and types below the limits, nothing is stored twice.
+/// well formed, numbers of SDSs and types below the limits, nothing is stored twice byte for byte.
 fn is_good(schema: &Schema) -> bool {
     // Names are unique among SDSs.
-    let names: BTreeSet<&Name> = schema.sdss.values().map(|sds| &sds.name).collect();
-    if names.len() < schema.sdss.len() {
+    if has_same(schema.sdss.values().map(|sds| &*sds.name)) {
         return false;
     }
-    // SDS 0 is as in a fresh base, and so is the type that it holds.
+    // SDS 0 is as in a fresh base byte for byte, and so is the type that it holds.
     let fresh = Schema::fresh();
     if schema.sdss.get(&0) != fresh.sdss.get(&0) || schema.types.get(&0) != fresh.types.get(&0) {
         return false;
@@ -240,6 +251,10 @@ fn has_cycle(schema: &Schema) -> bool {
 }
 
 fn is_good_sds(schema: &Schema, sds: &Sds) -> bool {
+    // Local names are unique in an SDS.
+    if has_same(sds.presences.keys().map(|name| &**name)) {
+        return false;
+    }
     // A type has at most one presence in an SDS.
     let present: BTreeSet<usize> = sds.presences.values().copied().collect();
     if present.len() < sds.presences.len() {

@@ -131,7 +131,7 @@ fn add_chain(s: &mut Schema, length: usize) {
     for n in 1..=length {
         let parent = if n < length { n + 1 } else { 0 };
         s.types.insert(n, Type::Object { parents: [parent].into() });
-        here.presences.insert(object(n).into_bytes(), n);
+        here.presences.insert(Name::new(object(n)), n);
     }
 }
 

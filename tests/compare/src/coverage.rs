@@ -5,7 +5,8 @@ use crate::calls::{Call, CALLS, NUMBERS};
 use crate::removals::{traits, REMOVED};
 use crate::schema::Schema;
 use crate::shapes::{visible, SHAPES};
-use crate::spoil::WAYS;
+use crate::spellings::{Spelt, SPELT};
+use crate::spoil::{SPELLINGS, WAYS};
 use std::collections::{BTreeMap, BTreeSet};
 
 /// Each number of each call should come up at least so often.
@@ -24,9 +25,9 @@ const UNLISTED: [&str; 9] = [
     "no SDS listed: descendant_set 6",
 ];
 
-/// What schemas are drawn for should come up so often: each of `REMOVED`, and lists of descendants, of each shape and
-/// with each of these, which one pass by number, first parents alone, too few passes or no look at presences would get
-/// wrong.
+/// What schemas are drawn for should come up so often: each of `REMOVED` and of `SPELT`, and lists of descendants, of each
+/// shape and with each of these, which one pass by number, first parents alone, too few passes or no look at presences
+/// would get wrong.
 const OFTEN_DRAWN: usize = 200;
 const LISTED: [&str; 5] = [
     "a type below its parents",
@@ -35,6 +36,9 @@ const LISTED: [&str; 5] = [
     "126 types or more",
     "a type not visible left out",
 ];
+
+/// So often should each way that spoils spellings have left a base as it is expected to, sound or not.
+const OFTEN_SPOILED: usize = 100;
 
 /// Calls that have something in common.
 #[derive(Clone, Copy, Default)]
@@ -54,6 +58,8 @@ pub struct Counts {
     pub asked: BTreeMap<String, Seen>,
     /// Removals on sound bases, by their traits.
     pub removed: BTreeMap<String, usize>,
+    /// Calls on sound bases, by the spellings of their names.
+    pub spelt: BTreeMap<String, usize>,
 }
 
 impl Counts {
@@ -63,6 +69,7 @@ impl Counts {
             spoiled: [[0; 2]; WAYS.len()],
             asked: BTreeMap::new(),
             removed: BTreeMap::new(),
+            spelt: BTreeMap::new(),
         }
     }
 
@@ -77,8 +84,8 @@ impl Counts {
             sum.done += seen.done;
             sum.longest = sum.longest.max(seen.longest);
         }
-        for (what, number) in &other.removed {
-            *self.removed.entry(what.clone()).or_default() += number;
+        for (sums, numbers) in [(&mut self.removed, &other.removed), (&mut self.spelt, &other.spelt)] {
+            numbers.iter().for_each(|(what, number)| *sums.entry(what.clone()).or_default() += number);
         }
     }
 
@@ -157,8 +164,15 @@ impl Counts {
         }
     }
 
+    /// Counts a call by what it was before it was answered.
+    pub fn spell(&mut self, spelt: Vec<Spelt>, answer: [usize; 4]) {
+        for Spelt { what, .. } in spelt.into_iter().filter(|spelt| spelt.numbers.contains(&answer[0])) {
+            *self.spelt.entry(what).or_default() += 1;
+        }
+    }
+
     /// The pairs of a call and a number that it can answer that came up too seldom, in words; under an empty list too,
-    /// descents and removals.
+    /// descents, removals and spellings, and bases with these spoiled.
     pub fn seldom(&self) -> Vec<String> {
         let mut seldom = Vec::new();
         for (call, counts) in CALLS.iter().zip(&self.answered) {
@@ -170,8 +184,15 @@ impl Counts {
         let descents = SHAPES.map(|(shape, _)| shape).into_iter().chain(LISTED);
         let descents = descents.map(|what| format!("descent: {what}"));
         seldom.extend(descents.filter(|what| is_seldom(what, OFTEN_DRAWN)));
-        let removals = REMOVED.into_iter().filter(|what| self.removed.get(*what).is_none_or(|&n| n < OFTEN_DRAWN));
-        seldom.extend(removals.map(|what| format!("removal: {what}")));
+        for (kind, all, seen) in [("removal", &REMOVED[..], &self.removed), ("spelling", &SPELT[..], &self.spelt)] {
+            let all = all.iter().filter(|what| seen.get(**what).is_none_or(|&calls| calls < OFTEN_DRAWN));
+            seldom.extend(all.map(|what| format!("{kind}: {what}")));
+        }
+        for ((way, _), [sound, unsound]) in WAYS.iter().zip(&self.spoiled) {
+            let expected = SPELLINGS.iter().find(|(name, _)| name == way);
+            let seen = expected.map(|(_, stays_sound)| if *stays_sound { sound } else { unsound });
+            seldom.extend(seen.filter(|seen| **seen < OFTEN_SPOILED).map(|_| format!("spoiled: {way}")));
+        }
         seldom
     }
 
@@ -183,6 +204,8 @@ impl Counts {
         }
         println!("\n{:<48}{:>8}", "removed or refused", "calls");
         self.removed.iter().for_each(|(what, calls)| println!("{what:<48}{calls:>8}"));
+        println!("\n{:<56}{:>8}", "in another spelling", "calls");
+        self.spelt.iter().for_each(|(what, calls)| println!("{what:<56}{calls:>8}"));
         println!("\n{:<28}{:>8}{:>10}", "spoiled", "sound", "not sound");
         for ((name, _), [sound, unsound]) in WAYS.iter().zip(&self.spoiled) {
             println!("{name:<28}{sound:>8}{unsound:>10}");
@@ -207,7 +230,8 @@ impl Counts {
             println!("{:>7.0}%", 100.0 * counts[0] as f64 / on_sound.max(1) as f64);
         }
         let seldom = self.seldom();
-        let least = format!("{OFTEN} times, descents and removals less than {OFTEN_DRAWN}");
+        let drawn = format!("descents, removals and spellings less than {OFTEN_DRAWN}");
+        let least = format!("{OFTEN} times, {drawn}, bases with spoiled spellings less than {OFTEN_SPOILED}");
         println!("pairs of a call and a number that came up less than {least}: {}", seldom.len());
         if !seldom.is_empty() {
             println!("    {}", seldom.join(", "));

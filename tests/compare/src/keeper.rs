@@ -6,7 +6,8 @@
 
 use crate::base;
 use crate::schema::{
-    is_name, Application, End, Name, Schema, Sds, Side, Type, DESIGNATION, IMPLICIT, LAST_VALUE_KIND,
+    has_same, is_name, is_same, Application, End, Name, Schema, Sds, Side, Type, DESIGNATION, IMPLICIT,
+    LAST_VALUE_KIND,
 };
 use std::collections::BTreeSet;
 
@@ -47,7 +48,7 @@ impl Schema {
         if !is_name(name) {
             return refused(4);
         }
-        if self.sdss.values().any(|sds| sds.name == name) {
+        if self.sdss.values().any(|sds| is_same(&sds.name, name)) {
             return refused(11);
         }
         let Some(number) = (0..Self::SDSS).find(|number| !self.sdss.contains_key(number)) else {
@@ -216,14 +217,14 @@ impl Schema {
         if !self.parents(ty).into_iter().all(|parent| to.holds(parent)) {
             return refused(10);
         }
-        // Blanks filled in; a pair is imported together.
+        // Blanks filled in, as the source spells the name; a pair is imported together.
         let filled = |new_name: &[u8], ty: usize| match new_name {
             [] => from.name_of(ty).expect("a reverse is present where its type is").clone(),
-            given => given.to_vec(),
+            given => Name::new(given),
         };
         let mut imported: Vec<(Name, usize)> = vec![(filled(new_name, ty), ty)];
         imported.extend(reverse.map(|reverse| (filled(new_reverse_name, reverse), reverse)));
-        let names: Vec<&[u8]> = imported.iter().map(|(name, _)| name.as_slice()).collect();
+        let names: Vec<&[u8]> = imported.iter().map(|(name, _)| &**name).collect();
         if is_borne(to, &names) {
             return refused(11);
         }
@@ -324,8 +325,8 @@ impl Schema {
             return refused(11);
         }
         let here = self.within(sds);
-        here.presences.remove(name);
-        here.presences.insert(new_name.to_vec(), ty);
+        here.presences.retain(|_, present| *present != ty);
+        here.presences.insert(Name::new(new_name), ty);
         done()
     }
 
@@ -423,7 +424,7 @@ impl Schema {
 
     fn put_type(&mut self, sds: usize, name: &[u8], number: usize, ty: Type) {
         self.types.insert(number, ty);
-        self.within(sds).presences.insert(name.to_vec(), number);
+        self.within(sds).presences.insert(Name::new(name), number);
     }
 
     /// An SDS that the call has found to be used, to be changed.
@@ -438,9 +439,9 @@ fn others(going: &[usize], pairs: impl Iterator<Item = [usize; 2]>) -> BTreeSet<
     both_ways.filter(|(ty, _)| going.contains(ty)).map(|(_, other)| other).collect()
 }
 
-/// Whether a new name is borne in the SDS, or two of the new names are equal.
+/// Whether a new name is borne in the SDS, or two of the new names are the same.
 fn is_borne(sds: &Sds, new_names: &[&[u8]]) -> bool {
-    new_names.iter().any(|name| sds.presences.contains_key(*name)) || has_repeat(new_names)
+    new_names.iter().any(|name| sds.find(name).is_some()) || has_same(new_names.iter().copied())
 }
 
 fn has_repeat<T: Ord>(items: &[T]) -> bool {

@@ -28,6 +28,7 @@ mod run;
 mod schema;
 mod served;
 mod shapes;
+mod spellings;
 mod spoil;
 mod sqlite;
 #[cfg(test)]

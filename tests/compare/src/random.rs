@@ -2,7 +2,7 @@
 #![forbid(unsafe_code)]
 
 use crate::calls::{Call, Text, CALLS};
-use crate::schema::{Name, Schema, Sds, Side, DESIGNATION, LAST_VALUE_KIND};
+use crate::schema::{is_same, Name, Schema, Sds, Side, DESIGNATION, LAST_VALUE_KIND};
 
 /// A small deterministic generator (splitmix64).
 pub struct Random(u64);
@@ -43,6 +43,53 @@ impl Random {
         (0..length).map(|_| self.byte()).collect()
     }
 
+    /// The name in another spelling: the case of one letter is another, if may be of A or Z, or of all or some of them.
+    pub fn respelt(&mut self, name: &[u8]) -> Vec<u8> {
+        let letters: Vec<usize> = (0..name.len()).filter(|&at| name[at].is_ascii_alphabetic()).collect();
+        let (Some(&first), Some(&last)) = (letters.first(), letters.last()) else { return name.to_vec() };
+        let outermost: Vec<usize> = letters.iter().copied().filter(|&at| b"AZaz".contains(&name[at])).collect();
+        let turned = match (self.below(6), self.pick(&outermost)) {
+            (0, _) => vec![first],
+            (1, _) => vec![last],
+            (2, Some(at)) => vec![at],
+            (3, _) => letters,
+            _ => {
+                let count = 1 + self.below(letters.len());
+                self.shuffled(letters).into_iter().take(count).collect()
+            }
+        };
+        let mut respelt = name.to_vec();
+        turned.into_iter().for_each(|at| respelt[at] ^= CASE);
+        respelt
+    }
+
+    /// The name in any spelling.
+    pub fn spelt(&mut self, name: &[u8]) -> Vec<u8> {
+        match self.below(4) {
+            0 => name.to_ascii_lowercase(),
+            1 => name.to_ascii_uppercase(),
+            _ => {
+                let mut turned = |byte: u8| byte.is_ascii_alphabetic() && self.one_in(2);
+                name.iter().map(|&byte| if turned(byte) { byte ^ CASE } else { byte }).collect()
+            }
+        }
+    }
+
+    /// A name that is nearly the same: one byte is another, at times one beside the letters, or one that the bit of the
+    /// case alone tells from what was there, though that is no letter.
+    pub fn missed(&mut self, name: &[u8]) -> Vec<u8> {
+        let mut missed = name.to_vec();
+        if !missed.is_empty() {
+            let byte = &mut missed[self.below(name.len())];
+            *byte = match self.below(3) {
+                0 => BESIDE_LETTERS[self.below(BESIDE_LETTERS.len())],
+                1 if !byte.is_ascii_alphabetic() => *byte ^ CASE,
+                _ => b"_09azAZ"[self.below(7)],
+            };
+        }
+        missed
+    }
+
     pub fn shuffled<T>(&mut self, mut items: Vec<T>) -> Vec<T> {
         for at in (1..items.len()).rev() {
             items.swap(at, self.below(at + 1));
@@ -50,6 +97,12 @@ impl Random {
         items
     }
 }
+
+/// The bit that tells a letter's case.
+pub const CASE: u8 = b'a' ^ b'A';
+
+/// The bytes right before A and a, and right behind Z and z.
+pub const BESIDE_LETTERS: [u8; 4] = *b"@[`{";
 
 /// Where the calls lead: a small schema; one that grows as it comes; a long chain of parents, in no order of numbers;
 /// or a full table with at most two places free.
@@ -78,8 +131,9 @@ impl Mode {
     ];
 }
 
-/// Names that differ in case, in the last byte or in length only; of 1, 15 and 16 bytes.
-const NAMES: [&[u8]; 16] = [
+/// Names that differ in the last byte, in length or in case only, and in the first byte or the last of 16; names that
+/// stand otherwise by their bytes than with their letters brought to one case.
+const NAMES: [&[u8]; 24] = [
     b"a",
     b"A",
     b"z",
@@ -87,19 +141,28 @@ const NAMES: [&[u8]; 16] = [
     b"a0",
     b"a9",
     b"a_",
+    b"A_",
     b"aa",
     b"aA",
+    b"Ab",
+    b"aB",
+    b"aZ",
+    b"Z_z",
     b"object",
     b"system",
     b"abcdefghijklmno",
     b"abcdefghijklmnop",
+    b"Abcdefghijklmnop",
+    b"abcdefghijklmnoP",
     b"abcdefghijklmnoq",
+    b"zbcdefghijklmnoZ",
     b"ABCDEFGHIJKLMNO0",
     b"x______________9",
 ];
 
-/// Blank, too long, beginning with no letter, with a neighbour of the letters, digits and underscore, with a byte 0.
-const MALFORMED: [&[u8]; 26] = [
+/// Blank, too long, beginning with no letter, with a neighbour of the letters, digits and underscore, with a byte 0, with
+/// a digit or an underscore but for the bit of the case.
+const MALFORMED: [&[u8]; 32] = [
     b"",
     b"abcdefghijklmnopq",
     b"abcdefghijklmnop\0",
@@ -126,6 +189,12 @@ const MALFORMED: [&[u8]; 26] = [
     b"a\0",
     b"a\0b",
     b"a\xc1",
+    b"A[",
+    b"Z{",
+    b"a\x10",
+    b"a\x7f",
+    b"abcdefghijklmno[",
+    b"@bcdefghijklmnop",
 ];
 
 type IsWanted = fn(&Schema, usize) -> bool;
@@ -263,7 +332,7 @@ impl Caller {
         if !here.holds(0) {
             return import_object(sds);
         }
-        let name = Text(self.made_name(|name| !here.presences.contains_key(name)));
+        let name = Text(self.made_name(|name| here.find(name).is_none()));
         if schema.types.len() < Schema::TYPES - 8 {
             return Call::NewAttribute { sds, name, value_kind: 0 };
         }
@@ -281,7 +350,7 @@ impl Caller {
         }
         let leaves = named(|schema, ty| schema.is_object(ty) && schema.children(ty).is_empty());
         let lowest = leaves.into_iter().max_by_key(|&(_, ty)| schema.ancestors(ty).len());
-        let mut parents = lowest.map_or(Vec::new(), |(name, _)| name.clone());
+        let mut parents = lowest.map_or(Vec::new(), |(name, _)| self.random.spelt(name));
         if self.random.one_in(2) {
             parents = [parents, self.parents(schema, sds).0].join(&b' ');
         }
@@ -338,8 +407,11 @@ impl Caller {
         let borne: Vec<&Name> = schema.sdss.values().map(|sds| &sds.name).collect();
         let name = match self.random.below(8) {
             0 => self.malformed(),
-            1 => self.random.pick(&borne).expect("there is SDS 0").clone(),
-            _ => self.made_name(|name| !borne.contains(&name)),
+            1 => {
+                let name = self.random.pick(&borne).expect("there is SDS 0");
+                self.given(name)
+            }
+            _ => self.made_name(|name| !borne.iter().any(|borne| is_same(borne, name))),
         };
         Call::NewSds { name: Text(name) }
     }
@@ -368,7 +440,7 @@ impl Caller {
 
     fn new_pair(&mut self, schema: &Schema, sds: usize) -> Call {
         let name = self.new_name(schema, sds);
-        let reverse_name = if self.random.one_in(12) { name.clone() } else { self.new_name(schema, sds) };
+        let reverse_name = if self.random.one_in(12) { self.again(&name) } else { self.new_name(schema, sds) };
         let (category, reverse_category) = (self.code(DESIGNATION), self.code(DESIGNATION));
         Call::NewPair { sds, name, reverse_name, category, reverse_category }
     }
@@ -381,7 +453,7 @@ impl Caller {
         };
         let importable = importable(schema, target, source);
         let name = match self.random.pick(&importable) {
-            Some(name) if !self.random.one_in(4) => Text(name.clone()),
+            Some(name) if !self.random.one_in(4) => Text(self.given(name)),
             _ => self.borne_name(schema, source, any_type),
         };
         let ty = schema.sdss.get(&source).and_then(|sds| sds.find(&name.0));
@@ -390,7 +462,7 @@ impl Caller {
         let new_name = self.import_name(schema, target, is_blank);
         let is_blank = if has_reverse { self.random.one_in(2) } else { !self.random.one_in(8) };
         let new_reverse_name = match self.random.below(12) {
-            0 if has_reverse => new_name.clone(),
+            0 if has_reverse => self.again(&new_name),
             _ => self.import_name(schema, target, is_blank),
         };
         Call::Import { target, source, name, new_name, new_reverse_name }
@@ -432,7 +504,7 @@ impl Caller {
 
     fn rename(&mut self, schema: &Schema, sds: usize) -> Call {
         let name = self.borne_name(schema, sds, any_type);
-        let new_name = if self.random.one_in(6) { name.clone() } else { self.new_name(schema, sds) };
+        let new_name = if self.random.one_in(6) { self.again(&name) } else { self.new_name(schema, sds) };
         Call::Rename { sds, name, new_name }
     }
 
@@ -521,13 +593,31 @@ impl Caller {
         self.random.pick(&used).unwrap_or(0)
     }
 
-    fn malformed(&mut self) -> Name {
+    fn malformed(&mut self) -> Vec<u8> {
         MALFORMED[self.random.below(MALFORMED.len())].to_vec()
     }
 
+    /// A name that is borne, as a call gives it: at times in another spelling, seldom one that is nearly the same.
+    fn given(&mut self, name: &[u8]) -> Vec<u8> {
+        match self.random.below(32) {
+            0 => self.random.missed(name),
+            1..=10 => self.random.respelt(name),
+            _ => name.to_vec(),
+        }
+    }
+
+    /// A name that the call gives already, once more.
+    fn again(&mut self, name: &Text) -> Text {
+        if self.random.one_in(2) {
+            Text(self.random.respelt(&name.0))
+        } else {
+            name.clone()
+        }
+    }
+
     /// A well-formed name, and one that is free if one is soon found.
-    fn made_name(&mut self, is_free: impl Fn(&Name) -> bool) -> Name {
-        let mut name = Name::new();
+    fn made_name(&mut self, is_free: impl Fn(&[u8]) -> bool) -> Vec<u8> {
+        let mut name = Vec::new();
         for _ in 0..10 {
             name = if self.random.one_in(3) {
                 NAMES[self.random.below(NAMES.len())].to_vec()
@@ -548,7 +638,7 @@ impl Caller {
         Text(match self.random.below(12) {
             0 => self.malformed(),
             1 => return self.borne_name(schema, sds, any_type),
-            _ => self.made_name(|name| !here.is_some_and(|here| here.presences.contains_key(name))),
+            _ => self.made_name(|name| here.is_none_or(|here| here.find(name).is_none())),
         })
     }
 
@@ -572,7 +662,7 @@ impl Caller {
             _ => self.random.pick(&wanted),
         };
         Text(match found {
-            Some((name, _)) => name.clone(),
+            Some((name, _)) => self.given(name),
             None => self.made_name(|_| true),
         })
     }
@@ -580,12 +670,13 @@ impl Caller {
     /// A run of parents: mostly 1 to 4 different object types, parted by one space.
     fn parents(&mut self, schema: &Schema, sds: usize) -> Text {
         let presences = schema.sdss.get(&sds).map_or(Vec::new(), |sds| sds.presences.iter().collect());
-        let objects = presences.into_iter().filter(|(_, &ty)| schema.is_object(ty)).map(|(name, _)| name.clone());
-        let mut names: Vec<Name> = self.random.shuffled(objects.collect());
-        names.truncate(if self.random.one_in(10) { self.random.below(7) } else { 1 + self.random.below(4) });
+        let objects = presences.into_iter().filter(|(_, &ty)| schema.is_object(ty)).map(|(name, _)| name);
+        let objects: Vec<&Name> = self.random.shuffled(objects.collect());
+        let count = if self.random.one_in(10) { self.random.below(7) } else { 1 + self.random.below(4) };
+        let mut names: Vec<Vec<u8>> = objects.into_iter().take(count).map(|name| self.given(name)).collect();
         match self.random.below(12) {
             0 => names.push(self.borne_name(schema, sds, any_type).0),
-            1 => names.extend(names.first().cloned()),
+            1 => names.extend(names.first().map(|name| self.again(&name.into()).0)),
             _ => {}
         }
         let mut run = names.join(&b' ');
@@ -607,7 +698,7 @@ impl Caller {
         if let Some(here) = schema.sdss.get(&sds).filter(|_| !self.random.one_in(3)) {
             let applications: Vec<_> = here.applications.iter().collect();
             if let Some(application) = self.random.pick(&applications) {
-                return (name_of(here, application.attribute), name_of(here, application.to));
+                return (self.name_of(here, application.attribute), self.name_of(here, application.to));
             }
         }
         self.application(schema, sds)
@@ -624,10 +715,14 @@ impl Caller {
         if let Some(here) = schema.sdss.get(&sds).filter(|_| !self.random.one_in(3)) {
             let ends: Vec<_> = here.ends.iter().filter(|end| end.side == side).collect();
             if let Some(end) = self.random.pick(&ends) {
-                return (name_of(here, end.link), name_of(here, end.object));
+                return (self.name_of(here, end.link), self.name_of(here, end.object));
             }
         }
         self.end(schema, sds)
+    }
+
+    fn name_of(&mut self, sds: &Sds, ty: usize) -> Text {
+        Text(self.given(sds.name_of(ty).expect("what is applied or an end is present")))
     }
 
     /// A working schema: some or all of the used SDSs; at times none, one twice, or one that is not used. Under an
@@ -693,7 +788,7 @@ fn has_empty_sds(schema: &Schema) -> bool {
 }
 
 /// The names in the source of types that the target lacks, but not their parents.
-fn importable(schema: &Schema, target: usize, source: usize) -> Vec<&Name> {
+pub fn importable(schema: &Schema, target: usize, source: usize) -> Vec<&Name> {
     let (Some(to), Some(from)) = (schema.sdss.get(&target), schema.sdss.get(&source)) else {
         return Vec::new();
     };
@@ -706,8 +801,4 @@ fn importable(schema: &Schema, target: usize, source: usize) -> Vec<&Name> {
 fn import_object(target: usize) -> Call {
     let blank = Text(Vec::new());
     Call::Import { target, source: 0, name: "object".into(), new_name: blank.clone(), new_reverse_name: blank }
-}
-
-fn name_of(sds: &Sds, ty: usize) -> Text {
-    Text(sds.name_of(ty).expect("what is applied or an end is present").clone())
 }

@@ -4,7 +4,7 @@
 
 use crate::calls::{Call, TELLING};
 use crate::random::Random;
-use crate::schema::{Application, End, Schema, Sds, Side, Type, DESIGNATION};
+use crate::schema::{Application, End, Name, Schema, Sds, Side, Type, DESIGNATION};
 use crate::shapes::in_any_order;
 use std::collections::{BTreeMap, BTreeSet};
 
@@ -176,7 +176,7 @@ fn draw_types(random: &mut Random) -> Vec<Vec<(usize, Type)>> {
 /// An SDS that holds the types. It has no applications and ends, few or many.
 fn draw_sds(random: &mut Random, s: &Schema, sds: usize, held: &[usize]) -> Sds {
     let mut here = Sds::named(format!("sds{sds}").as_bytes());
-    let names = (0..held.len()).map(|n| format!("type_{n:03}").into_bytes()).collect();
+    let names = (0..held.len()).map(|n| Name::new(format!("type_{n:03}"))).collect();
     here.presences.extend(in_any_order(random, names).into_iter().zip(held.iter().copied()));
     let of_kind = |is_wanted: fn(&Schema, usize) -> bool| -> Vec<usize> {
         held.iter().copied().filter(|&ty| is_wanted(s, ty)).collect()

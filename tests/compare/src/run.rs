@@ -6,17 +6,19 @@ use crate::calls::{apply, apply_to, Call, CALLS, TELLING};
 use crate::coverage::Counts;
 use crate::library::{Expected, Lent, Library};
 use crate::random::{Caller, Mode, Random};
-use crate::removals::{draw, removal};
+use crate::removals;
 use crate::schema::Schema;
 use crate::shapes::{question, SHAPES};
+use crate::spellings;
 use crate::spoil::{spoiled, WAYS};
 
 /// Questions about each schema that is drawn for descents.
 const QUESTIONS: usize = 20;
 
-/// Schemas that are drawn for removals, and removals on each.
+/// Schemas that are drawn for removals, as many for spellings, and calls on each.
 const DRAWN: usize = 10;
 const REMOVALS: usize = 20;
+const RESPELLINGS: usize = 40;
 
 pub struct Run {
     caller: Caller,
@@ -50,7 +52,7 @@ impl Run {
             }
         }
         self.check_base()?;
-        for ending in [Run::descents, Run::removals] {
+        for ending in [Run::descents, Run::removals, Run::spellings] {
             self.place = format!("seed {seed}, history {number}");
             ending(self)?;
         }
@@ -98,15 +100,31 @@ impl Run {
 
     /// Removals on schemas drawn for them.
     pub fn removals(&mut self) -> Result<(), String> {
+        self.on_drawn("removal", REMOVALS, removals::draw, removals::removal)
+    }
+
+    /// Calls that give names in another spelling, on schemas drawn for them.
+    pub fn spellings(&mut self) -> Result<(), String> {
+        self.on_drawn("respelling", RESPELLINGS, spellings::draw, spellings::respelling)
+    }
+
+    fn on_drawn(
+        &mut self,
+        what: &str,
+        calls: usize,
+        draw: fn(&mut Random) -> Schema,
+        call: fn(&mut Random, &Schema) -> Call,
+    ) -> Result<(), String> {
         let place = self.place.clone();
         for drawn in 1..=DRAWN {
             self.place = format!("{place}, schema {drawn}");
             self.draw(draw)?;
-            for number in 1..=REMOVALS {
-                self.place = format!("{place}, schema {drawn}, removal {number}");
-                let call = removal(&mut self.caller.random, &self.schema);
+            for number in 1..=calls {
+                self.place = format!("{place}, schema {drawn}, {what} {number}");
+                let call = call(&mut self.caller.random, &self.schema);
                 self.on_present(&call)?;
             }
+            self.check_base()?;
         }
         Ok(())
     }
@@ -122,8 +140,10 @@ impl Run {
     fn on_present(&mut self, call: &Call) -> Result<[usize; 4], String> {
         let before = self.lent(self.base.clone(), call);
         let mut after = before.clone();
+        let spelt = spellings::traits(&self.schema, call);
         let answer = apply_to(&mut self.schema, &mut after.base, &mut after.output, call);
         self.compare(call, &before, answer, &after)?;
+        self.counts.spell(spelt, answer);
         self.counts.ask(&self.schema, call, before.output.len(), answer);
         self.counts.remove(&self.schema, call, answer);
         self.base = after.base;

@@ -3,9 +3,63 @@
 //! Numbers are `usize` throughout, as callers give them: 2^32 + n is then never found where n is.
 #![forbid(unsafe_code)]
 
+use std::cmp::Ordering;
 use std::collections::{BTreeMap, BTreeSet};
+use std::ops::Deref;
 
-pub type Name = Vec<u8>;
+/// A name as it is spelt, which is kept and shown. Two are equal when they are byte for byte; whether they are the same
+/// name is for `is_same` to say.
+#[derive(Clone, Debug, PartialEq, Eq)]
+pub struct Name(pub Vec<u8>);
+
+impl Name {
+    pub fn new(bytes: impl AsRef<[u8]>) -> Name {
+        Name(bytes.as_ref().to_vec())
+    }
+}
+
+impl Deref for Name {
+    type Target = [u8];
+
+    fn deref(&self) -> &[u8] {
+        &self.0
+    }
+}
+
+impl AsRef<[u8]> for Name {
+    fn as_ref(&self) -> &[u8] {
+        &self.0
+    }
+}
+
+/// The order in which an SDS has its names: that of the lowered names, and of the spellings where these agree.
+impl Ord for Name {
+    fn cmp(&self, other: &Name) -> Ordering {
+        lowered(self).cmp(lowered(other)).then_with(|| self.0.cmp(&other.0))
+    }
+}
+
+impl PartialOrd for Name {
+    fn partial_cmp(&self, other: &Name) -> Option<Ordering> {
+        Some(self.cmp(other))
+    }
+}
+
+/// The bytes with A to Z brought to a to z, and no other changed (02, Q-5).
+pub fn lowered(name: &[u8]) -> impl Iterator<Item = u8> + '_ {
+    name.iter().map(u8::to_ascii_lowercase)
+}
+
+/// Whether two names are the same, however they are spelt.
+pub fn is_same(name: &[u8], other: &[u8]) -> bool {
+    lowered(name).eq(lowered(other))
+}
+
+/// Whether two of the names are the same.
+pub fn has_same<'a>(names: impl IntoIterator<Item = &'a [u8]>) -> bool {
+    let mut seen = BTreeSet::new();
+    !names.into_iter().all(|name| seen.insert(lowered(name).collect::<Vec<u8>>()))
+}
 
 /// Names are 1 to 16 bytes: ASCII letters, digits and underscore, beginning with a letter.
 pub fn is_name(bytes: &[u8]) -> bool {
@@ -65,7 +119,7 @@ impl End {
 #[derive(Clone, Debug, PartialEq, Eq)]
 pub struct Sds {
     pub name: Name,
-    /// Local names are unique in an SDS.
+    /// Local names are unique in an SDS, in whatever spelling.
     pub presences: BTreeMap<Name, usize>,
     pub applications: BTreeSet<Application>,
     pub ends: BTreeSet<End>,
@@ -74,19 +128,24 @@ pub struct Sds {
 impl Sds {
     pub fn named(name: &[u8]) -> Sds {
         Sds {
-            name: name.to_vec(),
+            name: Name::new(name),
             presences: BTreeMap::new(),
             applications: BTreeSet::new(),
             ends: BTreeSet::new(),
         }
     }
 
-    /// The type that bears the local name.
+    /// The type that bears the local name, in whatever spelling.
     pub fn find(&self, name: &[u8]) -> Option<usize> {
-        self.presences.get(name).copied()
+        self.kept(name).map(|(_, ty)| ty)
     }
 
-    /// The local name of the type, if it is present.
+    /// The spelling that is kept of the local name, and the type that bears it.
+    pub fn kept(&self, name: &[u8]) -> Option<(&Name, usize)> {
+        self.presences.iter().find(|(kept, _)| is_same(kept, name)).map(|(kept, &ty)| (kept, ty))
+    }
+
+    /// The local name of the type as it is spelt, if it is present.
     pub fn name_of(&self, ty: usize) -> Option<&Name> {
         self.presences.iter().find(|&(_, &present)| present == ty).map(|(name, _)| name)
     }
@@ -114,7 +173,7 @@ impl Schema {
     /// SDS 0 "system", holding type 0 "object", and nothing else.
     pub fn fresh() -> Schema {
         let mut system = Sds::named(b"system");
-        system.presences.insert(b"object".to_vec(), 0);
+        system.presences.insert(Name::new("object"), 0);
         let object = Type::Object { parents: BTreeSet::new() };
         Schema { sdss: BTreeMap::from([(0, system)]), types: BTreeMap::from([(0, object)]) }
     }

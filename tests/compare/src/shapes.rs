@@ -4,7 +4,7 @@
 
 use crate::calls::Call;
 use crate::random::Random;
-use crate::schema::{End, Schema, Sds, Side, Type, DESIGNATION};
+use crate::schema::{End, Name, Schema, Sds, Side, Type, DESIGNATION};
 use std::collections::BTreeSet;
 
 type Shape = fn(&mut Random) -> Schema;
@@ -116,7 +116,7 @@ impl Drawn {
         s.types.extend(self.types);
         for (sds, held) in random.shuffled((1..Schema::SDSS).collect()).into_iter().zip(self.held) {
             let mut here = Sds::named(format!("sds{sds}").as_bytes());
-            let names = (0..held.len()).map(|n| format!("type_{n:03}").into_bytes()).collect();
+            let names = (0..held.len()).map(|n| Name::new(format!("type_{n:03}"))).collect();
             here.presences.extend(in_any_order(random, names).into_iter().zip(held));
             s.sdss.insert(sds, here);
         }
@@ -134,7 +134,7 @@ fn add_link(s: &mut Schema, random: &mut Random) {
         for side in [Side::Origin, Side::Destination] {
             here.ends.insert(End { link, side, object: random.pick(&objects).expect("there is type 0") });
         }
-        here.presences.insert(b"link".to_vec(), link);
+        here.presences.insert(Name::new("link"), link);
     }
 }
 

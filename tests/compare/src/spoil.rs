@@ -3,8 +3,10 @@
 //! it was.
 #![forbid(unsafe_code)]
 
-use crate::base::{from_bytes, is_used, to_bytes, Table, APPLICATIONS, ENDS, LENGTH, PRESENCES, SDSS, TYPES};
-use crate::random::Random;
+use crate::base::{
+    from_bytes, is_used, presence_key, to_bytes, Table, APPLICATIONS, ENDS, LENGTH, PRESENCES, SDSS, TYPES,
+};
+use crate::random::{Random, BESIDE_LETTERS, CASE};
 use crate::schema::{Application, End, Name, Schema, Sds, Side, Type};
 use std::collections::BTreeSet;
 
@@ -14,7 +16,7 @@ pub enum Way {
     Schema(fn(&mut Random, &mut Schema)),
 }
 
-pub const WAYS: [(&str, Way); 38] = [
+pub const WAYS: [(&str, Way); 49] = [
     ("wrong length", Way::Length(wrong_length)),
     ("flipped bit", Way::Layout(flipped_bit)),
     ("changed byte of a row", Way::Layout(changed_byte)),
@@ -33,6 +35,16 @@ pub const WAYS: [(&str, Way); 38] = [
     ("number of parents", Way::Layout(number_of_parents)),
     ("row of an unused SDS", Way::Layout(row_of_an_unused_sds)),
     ("same name twice", Way::Layout(same_name_twice)),
+    ("both spellings of a name", Way::Layout(both_spellings)),
+    ("both spellings, falling", Way::Layout(both_spellings_falling)),
+    ("both spellings, by bytes", Way::Layout(both_spellings_by_bytes)),
+    ("rows by bytes", Way::Layout(rows_by_bytes)),
+    ("two rows by bytes", Way::Layout(two_rows_by_bytes)),
+    ("rows by capitals", Way::Layout(rows_by_capitals)),
+    ("byte beside the letters", Way::Layout(byte_beside_the_letters)),
+    ("SDS 0 respelt", Way::Layout(sds_0_respelt)),
+    ("name respelt", Way::Layout(name_respelt)),
+    ("every name respelt", Way::Layout(every_name_respelt)),
     ("cycle of parents", Way::Schema(cycle_of_parents)),
     ("ring of any length", Way::Schema(ring_of_any_length)),
     ("no parents", Way::Schema(no_parents)),
@@ -52,7 +64,23 @@ pub const WAYS: [(&str, Way); 38] = [
     ("mirror of another", Way::Schema(mirror_of_another)),
     ("SDS 0 changed", Way::Schema(sds_0_changed)),
     ("two SDSs of one name", Way::Schema(two_sdss_of_one_name)),
+    ("two SDSs in two spellings", Way::Schema(two_sdss_in_two_spellings)),
     ("malformed name", Way::Schema(malformed_name)),
+];
+
+/// The ways that spoil spellings, and whether a base stays sound.
+pub const SPELLINGS: [(&str, bool); 11] = [
+    ("both spellings of a name", false),
+    ("both spellings, falling", false),
+    ("both spellings, by bytes", false),
+    ("rows by bytes", false),
+    ("two rows by bytes", false),
+    ("rows by capitals", false),
+    ("byte beside the letters", false),
+    ("SDS 0 respelt", false),
+    ("name respelt", true),
+    ("every name respelt", true),
+    ("two SDSs in two spellings", false),
 ];
 
 /// A sound base spoiled in the way.
@@ -207,7 +235,13 @@ fn key_out_of_order(random: &mut Random, base: &mut [u8]) {
     }
     let at = random.below(rows.len() - 1);
     let (low, high) = (&rows[at], &rows[at + 1]);
-    let byte = (0..table.width).find(|&byte| low[byte] != high[byte]).expect("rows rise");
+    // A letter's case sets no rows in order, though a number may be that of a letter.
+    let is_name = |byte: usize| table.start == PRESENCES.start && (1..=Schema::NAME).contains(&byte);
+    let differs = |byte: usize| match is_name(byte) {
+        true => !low[byte].eq_ignore_ascii_case(&high[byte]),
+        false => low[byte] != high[byte],
+    };
+    let byte = (0..table.width).find(|&byte| differs(byte)).expect("rows rise");
     if random.one_in(2) {
         table.row(base, at)[byte] = high[byte].saturating_add(1);
     } else {
@@ -283,8 +317,126 @@ fn same_name_twice(random: &mut Random, base: &mut [u8]) {
     if let Some(at) = random.pick(&(1..rows.len()).collect::<Vec<_>>()) {
         let before = rows[at - 1].clone();
         rows[at][..=Schema::NAME].copy_from_slice(&before[..=Schema::NAME]);
+        rows.sort_by_key(|row| presence_key(row));
+        put_rows(base, PRESENCES, &rows);
+    }
+}
+
+/// Two neighbours in an SDS get one name in two spellings. The rows, and where the two stand; none if there are none.
+fn rows_with_both_spellings(random: &mut Random, base: &[u8]) -> Option<(Vec<Vec<u8>>, usize)> {
+    let mut rows = used_rows(base, PRESENCES);
+    let firsts: Vec<usize> =
+        (1..rows.len()).filter(|&at| rows[at - 1][0] == rows[at][0]).map(|at| at - 1).collect();
+    let first = random.pick(&firsts)?;
+    let name = rows[first + random.below(2)][1..][..Schema::NAME].to_vec();
+    let mut names = [random.respelt(&name), name];
+    names.sort();
+    for (row, name) in rows[first..].iter_mut().zip(names) {
+        row[1..][..Schema::NAME].copy_from_slice(&name);
+    }
+    Some((rows, first))
+}
+
+/// In order but for that.
+fn both_spellings(random: &mut Random, base: &mut [u8]) {
+    if let Some((rows, _)) = rows_with_both_spellings(random, base) {
+        put_rows(base, PRESENCES, &rows);
+    }
+}
+
+/// The higher spelling stands first.
+fn both_spellings_falling(random: &mut Random, base: &mut [u8]) {
+    if let Some((mut rows, first)) = rows_with_both_spellings(random, base) {
+        rows.swap(first, first + 1);
+        put_rows(base, PRESENCES, &rows);
+    }
+}
+
+/// All rows stand as their bytes do, mostly with others between the two.
+fn both_spellings_by_bytes(random: &mut Random, base: &mut [u8]) {
+    if let Some((mut rows, _)) = rows_with_both_spellings(random, base) {
         rows.sort();
         put_rows(base, PRESENCES, &rows);
+    }
+}
+
+fn rows_by_bytes(_: &mut Random, base: &mut [u8]) {
+    let mut rows = used_rows(base, PRESENCES);
+    rows.sort();
+    put_rows(base, PRESENCES, &rows);
+}
+
+/// Two neighbours that stand otherwise by their bytes stand so.
+fn two_rows_by_bytes(random: &mut Random, base: &mut [u8]) {
+    let mut rows = used_rows(base, PRESENCES);
+    let falling: Vec<usize> = (1..rows.len()).filter(|&at| rows[at - 1] > rows[at]).collect();
+    if let Some(at) = random.pick(&falling) {
+        rows.swap(at - 1, at);
+        put_rows(base, PRESENCES, &rows);
+    }
+}
+
+/// With the letters brought to capitals, and not to small letters, an underscore stands behind them.
+fn rows_by_capitals(_: &mut Random, base: &mut [u8]) {
+    let mut rows = used_rows(base, PRESENCES);
+    rows.sort_by_key(|row| (row[0], row[1..][..Schema::NAME].to_ascii_uppercase()));
+    put_rows(base, PRESENCES, &rows);
+}
+
+/// The name of an SDS or a presence, to be changed; of SDS 0 or of another.
+fn name_where<'a>(random: &mut Random, base: &'a mut [u8], is_of_sds_0: bool) -> Option<&'a mut [u8]> {
+    if random.one_in(2) {
+        let numbers = rows_where(base, SDSS, |_| true).into_iter().filter(|&sds| (sds == 0) == is_of_sds_0);
+        let number = random.pick(&numbers.collect::<Vec<_>>())?;
+        Some(SDSS.row(base, number))
+    } else {
+        let row = row_where(random, base, PRESENCES, |row| (row[0] == 0) == is_of_sds_0)?;
+        Some(&mut row[1..][..Schema::NAME])
+    }
+}
+
+/// A name gets a byte that stands right before or behind the letters, or a digit or underscore without the bit that
+/// tells a letter's case.
+fn byte_beside_the_letters(random: &mut Random, base: &mut [u8]) {
+    let is_of_sds_0 = random.one_in(8);
+    if let Some(name) = name_where(random, base, is_of_sds_0) {
+        let length = name.iter().position(|&byte| byte == 0).unwrap_or(name.len());
+        let byte = &mut name[random.below(length)];
+        *byte = match *byte {
+            b'A' | b'a' => *byte - 1,
+            b'Z' | b'z' => *byte + 1,
+            letter if letter.is_ascii_alphabetic() => BESIDE_LETTERS[random.below(BESIDE_LETTERS.len())],
+            other => other ^ CASE,
+        };
+    }
+}
+
+fn sds_0_respelt(random: &mut Random, base: &mut [u8]) {
+    if let Some(name) = name_where(random, base, true) {
+        let respelt = random.respelt(name);
+        name.copy_from_slice(&respelt);
+    }
+}
+
+/// The base stays sound: the same names stand in the same order.
+fn name_respelt(random: &mut Random, base: &mut [u8]) {
+    if let Some(name) = name_where(random, base, false) {
+        let respelt = random.respelt(name);
+        name.copy_from_slice(&respelt);
+    }
+}
+
+/// The base stays sound.
+fn every_name_respelt(random: &mut Random, base: &mut [u8]) {
+    for number in 1..SDSS.rows {
+        let name = SDSS.row(base, number);
+        let spelt = random.spelt(name);
+        name.copy_from_slice(&spelt);
+    }
+    for number in rows_where(base, PRESENCES, |row| row[0] != 0) {
+        let name = &mut PRESENCES.row(base, number)[1..][..Schema::NAME];
+        let spelt = random.spelt(name);
+        name.copy_from_slice(&spelt);
     }
 }
 
@@ -354,7 +506,7 @@ fn ring_of_any_length(random: &mut Random, schema: &mut Schema) {
     let last = first + length - 1;
     let has_short_ways = random.one_in(2);
     *schema = Schema::fresh();
-    let mut sds = Sds { name: b"chain".to_vec(), ..schema.sdss[&0].clone() };
+    let mut sds = Sds { name: Name::new("chain"), ..schema.sdss[&0].clone() };
     for (at, &ty) in chain.iter().enumerate() {
         let next = if at == last { first } else { at + 1 };
         let mut parents = BTreeSet::from([chain.get(next).copied().unwrap_or(0)]);
@@ -362,7 +514,7 @@ fn ring_of_any_length(random: &mut Random, schema: &mut Schema) {
             parents.insert(0);
         }
         schema.types.insert(ty, Type::Object { parents });
-        sds.presences.insert(format!("type_{ty}").into_bytes(), ty);
+        sds.presences.insert(Name::new(format!("type_{ty}")), ty);
     }
     schema.sdss.insert(1, sds);
 }
@@ -419,7 +571,7 @@ fn no_parent_in_one_more_sds(random: &mut Random, schema: &mut Schema) {
         .collect();
     if let Some((number, ty)) = random.pick(&orphans) {
         let sds = schema.sdss.get_mut(&number).expect("a used SDS");
-        sds.presences.insert(b"orphan".to_vec(), ty);
+        sds.presences.insert(Name::new("orphan"), ty);
     }
 }
 
@@ -465,7 +617,7 @@ fn type_twice(random: &mut Random, schema: &mut Schema) {
     }
     if let Some(sds) = sds_where(random, schema, |sds| !sds.presences.is_empty()) {
         let ty = random.pick(&present(sds, |_| true)).expect("there is one");
-        sds.presences.insert(b"twice".to_vec(), ty);
+        sds.presences.insert(Name::new("twice"), ty);
     }
 }
 
@@ -564,10 +716,10 @@ fn sds_0_changed(random: &mut Random, schema: &mut Schema) {
     let (has_presence, has_end) = (schema.presence_count() < Schema::PRESENCES, schema.end_count() < Schema::ENDS);
     let system = schema.sdss.get_mut(&0).expect("a used SDS");
     match (random.below(8), random.pick(&used)) {
-        (0, _) => system.name = b"System".to_vec(),
-        (1, _) => system.presences = [(b"objects".to_vec(), 0)].into(),
+        (0, _) => system.name = Name::new("systems"),
+        (1, _) => system.presences = [(Name::new("objects"), 0)].into(),
         (2, _) => system.presences.clear(),
-        (3, Some(ty)) if has_presence => _ = system.presences.insert(b"other".to_vec(), ty),
+        (3, Some(ty)) if has_presence => _ = system.presences.insert(Name::new("other"), ty),
         (4, Some(link)) if has_end => _ = system.ends.insert(End { link, side: Side::Origin, object: 0 }),
         (5, Some(parent)) => put_parent(schema, 0, parent),
         (6, _) => _ = schema.types.insert(0, Type::Attribute { value_kind: 0 }),
@@ -584,9 +736,19 @@ fn two_sdss_of_one_name(random: &mut Random, schema: &mut Schema) {
     schema.sdss.entry(number).or_insert(Sds::named(b"")).name = name;
 }
 
+/// An SDS other than SDS 0, or one that was not used, gets the name of another in another spelling.
+fn two_sdss_in_two_spellings(random: &mut Random, schema: &mut Schema) {
+    let used: Vec<usize> = schema.sdss.keys().copied().collect();
+    let other = random.pick(&used).expect("there is SDS 0");
+    let name = Name(random.respelt(&schema.sdss[&other].name));
+    let numbers: Vec<usize> = (1..Schema::SDSS).filter(|&sds| sds != other).collect();
+    let number = random.pick(&numbers).expect("there are many");
+    schema.sdss.entry(number).or_insert(Sds::named(b"")).name = name;
+}
+
 fn malformed_name(random: &mut Random, schema: &mut Schema) {
     let malformed: [&[u8]; 9] = [b"", b"0a", b"_", b"a b", b"a\0b", b"a-", b"{", b"\x80", b"abcdefghijklmno."];
-    let malformed = malformed[random.below(malformed.len())].to_vec();
+    let malformed = Name::new(malformed[random.below(malformed.len())]);
     if let Some(sds) = sds_where(random, schema, |sds| !sds.presences.is_empty()) {
         if random.one_in(3) {
             sds.name = malformed;

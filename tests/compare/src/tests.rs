@@ -9,8 +9,9 @@ use crate::coverage::Counts;
 use crate::random::{free_places, Mode, Random};
 use crate::removals::traits;
 use crate::run::Run;
-use crate::schema::{Application, End, Schema, Sds, Side, Type};
-use crate::spoil::{spoiled, WAYS};
+use crate::schema::{is_name, is_same, Application, End, Name, Schema, Sds, Side, Type};
+use crate::spellings;
+use crate::spoil::{spoiled, SPELLINGS, WAYS};
 use std::collections::BTreeSet;
 
 // Calls, as short as they can be written.
@@ -1098,6 +1099,223 @@ fn name_is_a_stretch_of_the_base() {
     }
 }
 
+// Names in another spelling (02, Q-5).
+
+/// A to Z are a to z, each in each place, and no other byte is another.
+#[test]
+fn which_names_are_the_same() {
+    let all: Vec<u8> = (0..=255).collect();
+    for (first, second) in all.iter().flat_map(|first| all.iter().map(move |second| (*first, *second))) {
+        let (name, other) = (Name::new([b'a', first]), Name::new([b'a', second]));
+        if !is_name(&name) || !is_name(&other) {
+            continue;
+        }
+        let is_other_case = first.is_ascii_alphabetic() && second.is_ascii_alphabetic() && first ^ second == 0x20;
+        assert_eq!(is_same(&name, &other), first == second || is_other_case, "{name:?} {other:?}");
+    }
+    let long = "abcdefghijklmnop";
+    for at in 0..long.len() {
+        let mut other = Name::new(long);
+        other.0[at].make_ascii_uppercase();
+        assert!(is_same(&other, long.as_bytes()) && !is_same(&other, &long.as_bytes()[1..]));
+        assert!(!is_same(&other, &long.as_bytes()[..15]));
+    }
+}
+
+/// Both sides: names that are those of another in another spelling, and names that are not.
+#[test]
+fn taken_in_another_spelling() {
+    let calls = [
+        (11, new_sds("System")),
+        (11, new_sds("SYSTEM")),
+        (11, new_sds("onE")),
+        (0, new_sds("systems")),
+        (0, new_sds("System_")),
+        (11, new_object(1, "Unit", "part")),
+        (0, new_object(1, "Units", "part")),
+        (11, new_attribute(1, "oBject", 0)),
+        (0, new_attribute(2, "oBject", 0)),
+        (11, new_designation(1, "SEES")),
+        (0, new_designation(1, "SEE")),
+        (11, new_pair(1, "Has", "new", 0, 0)),
+        (11, new_pair(1, "new", "Has", 0, 0)),
+        (11, new_pair(1, "new", "nEw", 0, 0)),
+        (11, new_pair(1, "A", "a", 0, 0)),
+        (0, new_pair(1, "new", "new_", 0, 0)),
+        (11, import(2, 1, "sees", "Unit", "")),
+        (11, import(2, 1, "Unit", "", "")),
+        (11, import(2, 1, "has", "", "UNIT")),
+        (11, import(2, 1, "has", "OF", "")),
+        (11, import(2, 1, "has", "", "HAS")),
+        (11, import(2, 1, "has", "New", "new")),
+        (0, import(2, 1, "has", "OF", "HAS")),
+        (9, import(2, 1, "SIZE", "", "")),
+        (10, import(2, 1, "Part", "", "")),
+        (11, rename(1, "Part", "UNIT")),
+        (0, rename(1, "Part", "PARTS")),
+        (8, new_object(1, "new", "Unit unit")),
+        (8, new_object(1, "new", "unit part uNit")),
+        (0, new_object(1, "new", "Unit Part")),
+        (6, new_object(1, "new", "Unit Parts")),
+        (4, new_object(1, "new", "unit uni[")),
+        (4, find(&[1], "siz@")),
+        (6, find(&[1], "siz_")),
+        (8, find(&[1, 1], "Size")),
+        (7, apply(1, "Unit", "Size")),
+        (9, apply(1, "Size", "Unit")),
+        (13, unapply(1, "Size", "Part")),
+        (9, apply_link(1, "Has", "Unit")),
+        (13, remove_destination(1, "SEES", "PART")),
+    ];
+    for (number, call) in calls {
+        assert_eq!(some_base().number(&call), number, "{call:?}");
+    }
+    assert_eq!(some_base().call(&remove_type(1, "UNIT")), [16, PART, 0, 0]);
+}
+
+#[test]
+fn found_in_another_spelling() {
+    let calls = [
+        (find(&[1], "UNIT"), [0, UNIT]),
+        (find(&[2, 1], "Unit"), [0, SIZE]),
+        (new_object(1, "New", "PART Object"), [0, 7]),
+        (apply(1, "SIZE", "new"), DONE),
+        (unapply(1, "Size", "NEW"), DONE),
+        (apply_link(1, "Sees", "NEW"), DONE),
+        (unapply_link(1, "SEES", "nEw"), DONE),
+        (add_destination(1, "HAS", "Part"), DONE),
+        (remove_destination(1, "Has", "PART"), DONE),
+        (rename(1, "NEW", "Newest"), DONE),
+        (find(&[1], "new"), [6, 0]),
+        (remove_type(1, "NEWEST"), [0, 7]),
+        (find(&[1], "newest"), [6, 0]),
+    ];
+    answer_in_turn(some_base(), &calls);
+}
+
+/// How a type is named in an SDS.
+fn spelling(lent: &mut Lent, sds: usize, ty: usize) -> String {
+    let [no, start, length, _] = lent.call(&name(sds, ty));
+    assert_eq!(no, 0);
+    String::from_utf8(lent.0[start..][..length].to_vec()).expect("a name")
+}
+
+/// The spelling is another, and the row stays where it is.
+#[test]
+fn rename_to_another_spelling() {
+    let renamings = [("part", "Part"), ("PART", "pARt"), ("paRT", "PArt"), ("PART", "PART"), ("Part", "part")];
+    let mut lent = some_base();
+    let first = lent.0.clone();
+    for (given, new_name) in renamings {
+        let before = lent.0.clone();
+        let row = lent.call(&name(1, PART));
+        assert_eq!(lent.call(&rename(1, given, new_name)), [0; 4]);
+        assert!(lent.0 != before, "{given} {new_name}");
+        assert_eq!((spelling(&mut lent, 1, PART).as_str(), lent.call(&name(1, PART))), (new_name, row));
+        assert_eq!(lent.done(&find(&[1], "pART")), PART);
+    }
+    assert!(lent.0 == first);
+    // Its own name, asked for in another spelling, changes nothing.
+    assert_eq!(lent.call(&rename(1, "PART", "part")), [0; 4]);
+    assert!(lent.0 == first);
+    // Another's is taken in every spelling; that of another SDS is not.
+    assert_eq!(lent.number(&rename(1, "part", "Unit")), 11);
+    assert_eq!(lent.number(&rename(1, "part", "THING")), 0);
+}
+
+#[test]
+fn import_keeps_the_spelling() {
+    let mut lent = some_base();
+    lent.done(&rename(1, "has", "Has"));
+    lent.done(&rename(1, "of", "oF"));
+    assert_eq!(lent.call(&import(2, 1, "HAS", "", "")), [0, HAS, 6, 0]);
+    assert_eq!([spelling(&mut lent, 2, HAS), spelling(&mut lent, 2, 6)], ["Has", "oF"]);
+    lent.done(&import(3, 1, "OF", "", "hAS"));
+    assert_eq!([spelling(&mut lent, 3, HAS), spelling(&mut lent, 3, 6)], ["hAS", "oF"]);
+    lent.done(&import(3, 2, "uNIT", "UNIT", ""));
+    assert_eq!([spelling(&mut lent, 3, SIZE), spelling(&mut lent, 2, SIZE)], ["UNIT", "unit"]);
+}
+
+/// An underscore stands behind the digits and before the letters, which stand alike in either case.
+#[test]
+fn rows_stand_by_lowered_names() {
+    let names = ["a", "A0", "a0_", "A_", "a_9", "AA", "ab", "aB_", "ABA", "Az", "az_", "B", "z", "ZZ"];
+    let mut random = Random::new(1);
+    for _ in 0..50 {
+        let mut lent = Lent::fresh();
+        lent.done(&new_sds("One"));
+        for name in random.shuffled(names.to_vec()) {
+            lent.done(&new_attribute(1, name, 0));
+        }
+        let rows: Vec<Vec<u8>> = PRESENCES.rows(&lent.0).skip(1).take(names.len()).map(<[u8]>::to_vec).collect();
+        for (row, name) in rows.iter().zip(names) {
+            assert!(row[1..].starts_with(name.as_bytes()) && row[1 + name.len()] == 0, "{name}");
+        }
+        // By bytes, and as capitals, they would stand otherwise, and the base would not be sound.
+        let mut otherwise = [rows.clone(), rows];
+        otherwise[0].sort();
+        otherwise[1].sort_by_key(|row| row[1..17].to_ascii_uppercase());
+        for rows in otherwise {
+            let mut base = lent.0.clone();
+            base[PRESENCES.start + PRESENCES.width..][..rows.len() * PRESENCES.width]
+                .copy_from_slice(&rows.concat());
+            assert!(base != lent.0 && !is_sound(&base));
+        }
+    }
+}
+
+/// Numbers that letters have as bytes are numbers: 70 stands before 97.
+#[test]
+fn numbers_are_not_lowered() {
+    let mut lent = two_sdss();
+    for number in 1..=122 {
+        lent.done(&new_object(1, &format!("o{number}"), "object"));
+    }
+    lent.done(&new_attribute(1, "a", 0));
+    lent.done(&new_designation(1, "d"));
+    for number in [97, 70, 122, 90, 65, 103] {
+        lent.done(&apply(1, "A", &format!("O{number}")));
+        lent.done(&apply_link(1, "D", &format!("O{number}")));
+    }
+    let rising = [65, 70, 90, 97, 103, 122];
+    assert!(APPLICATIONS.rows(&lent.0).take(6).map(|row| row[1]).eq(rising));
+    assert!(ENDS.rows(&lent.0).take(6).map(|row| row[3]).eq(rising));
+    assert!(is_sound(&lent.0));
+}
+
+#[test]
+fn traits_of_a_spelling() {
+    let mut lent = some_base();
+    let mut has_traits = |call: Call, expected: &[&str]| {
+        let before = from_bytes(&lent.0).unwrap();
+        let no = lent.number(&call);
+        let traits = spellings::traits(&before, &call).into_iter().filter(|spelt| spelt.numbers.contains(&no));
+        assert_eq!(traits.map(|spelt| spelt.what).collect::<Vec<_>>(), expected, "{call:?}");
+    };
+    has_traits(new_sds("System"), &["new_sds 11", "new_sds 11, SDS 0"]);
+    has_traits(new_sds("system"), &[]);
+    has_traits(new_sds("syste["), &["4, a byte beside the letters"]);
+    has_traits(new_object(1, "new", "Unit unit"), &["new_object 8"]);
+    has_traits(new_object(1, "new", "unit unit"), &[]);
+    has_traits(new_pair(1, "A", "a", 0, 0), &["new_pair 11, the two alike"]);
+    has_traits(new_pair(1, "Has", "new", 0, 0), &["new_pair 11, the first name"]);
+    has_traits(new_pair(1, "Has", "oF", 0, 0), &[]);
+    has_traits(new_pair(1, "hAs", "new", 0, 0), &["new_pair 11, the first name", "A alone"]);
+    has_traits(import(2, 1, "has", "", "Unit"), &["import 11, a given reverse name"]);
+    has_traits(import(2, 1, "Unit", "", ""), &[]);
+    has_traits(rename(1, "unit", "Unit"), &["rename 0, the spelling alone", "rename 0, elsewhere by bytes"]);
+    has_traits(import(2, 1, "unit", "", ""), &["import 11, a filled name"]);
+    has_traits(rename(2, "unit", "z"), &[]);
+    let filled =
+        ["import 0, its name", "import 0, capitals filled in", "import 0, filled in as kept and not as asked for"];
+    has_traits(import(2, 1, "uniT", "", ""), &[&filled[..], &["import 0, elsewhere by bytes"]].concat());
+    has_traits(find(&[1], "siZe"), &["find 0", "Z alone"]);
+    has_traits(find(&[1], "si_e"), &["find 6, but for a byte"]);
+    has_traits(remove_type(1, "UNIT"), &["remove_type 16 to 18"]);
+    // By bytes "Unit" stands first.
+    has_traits(new_attribute(1, "s_", 0), &["new_attribute 0, elsewhere by bytes", "elsewhere by capitals"]);
+}
+
 // The base in bytes.
 
 #[test]
@@ -1149,19 +1367,37 @@ fn each_sentence_of_soundness() {
         Type::Link { category, reverse: Some(reverse) }
     }
     assert!(is_sound_after(|_| {}));
-    let faults: [fn(&mut Schema); 42] = [
-        |s| one(s).name = b"two".to_vec(),
-        |s| one(s).name = b"o ne".to_vec(),
+    // A name in another spelling is no fault, unless it is that of another or in SDS 0.
+    assert!(is_sound_after(|s| one(s).name = Name::new("ONE")));
+    assert!(is_sound_after(|s| {
+        one(s).presences.remove(&Name::new("part"));
+        one(s).presences.insert(Name::new("paRt"), PART);
+    }));
+    let faults: [fn(&mut Schema); 48] = [
+        |s| one(s).name = Name::new("two"),
+        |s| one(s).name = Name::new("twO"),
+        |s| one(s).name = Name::new("System"),
         |s| {
-            one(s).presences.remove(&b"part"[..]);
-            one(s).presences.insert(b"pa rt".to_vec(), PART);
+            one(s).presences.remove(&Name::new("part"));
+            one(s).presences.insert(Name::new("Unit"), PART);
         },
-        |s| _ = one(s).presences.insert(b"again".to_vec(), SIZE),
-        |s| _ = one(s).presences.insert(b"unused".to_vec(), 7),
-        |s| _ = one(s).presences.insert(b"unused".to_vec(), 128),
-        |s| _ = s.sdss.get_mut(&0).unwrap().presences.insert(b"size".to_vec(), SIZE),
-        |s| s.sdss.get_mut(&0).unwrap().name = b"systems".to_vec(),
-        |s| s.sdss.get_mut(&0).unwrap().presences = [(b"thing".to_vec(), 0)].into(),
+        |s| {
+            one(s).presences.remove(&Name::new("part"));
+            one(s).presences.insert(Name::new("uniT"), PART);
+        },
+        |s| s.sdss.get_mut(&0).unwrap().name = Name::new("System"),
+        |s| s.sdss.get_mut(&0).unwrap().presences = [(Name::new("Object"), 0)].into(),
+        |s| one(s).name = Name::new("o ne"),
+        |s| {
+            one(s).presences.remove(&Name::new("part"));
+            one(s).presences.insert(Name::new("pa rt"), PART);
+        },
+        |s| _ = one(s).presences.insert(Name::new("again"), SIZE),
+        |s| _ = one(s).presences.insert(Name::new("unused"), 7),
+        |s| _ = one(s).presences.insert(Name::new("unused"), 128),
+        |s| _ = s.sdss.get_mut(&0).unwrap().presences.insert(Name::new("size"), SIZE),
+        |s| s.sdss.get_mut(&0).unwrap().name = Name::new("systems"),
+        |s| s.sdss.get_mut(&0).unwrap().presences = [(Name::new("thing"), 0)].into(),
         |s| _ = s.sdss.remove(&0),
         |s| _ = s.types.insert(0, Type::Attribute { value_kind: 0 }),
         |s| _ = s.types.insert(0, object(&[UNIT])),
@@ -1183,9 +1419,9 @@ fn each_sentence_of_soundness() {
         |s| _ = s.types.insert(HAS, Type::Link { category: 0, reverse: None }),
         |s| _ = s.types.insert(4, Type::Link { category: 2, reverse: None }),
         |s| _ = s.types.insert(4, link(2, HAS)),
-        |s| _ = one(s).presences.remove(&b"unit"[..]),
-        |s| _ = one(s).presences.remove(&b"of"[..]),
-        |s| _ = one(s).presences.remove(&b"size"[..]),
+        |s| _ = one(s).presences.remove(&Name::new("unit")),
+        |s| _ = one(s).presences.remove(&Name::new("of")),
+        |s| _ = one(s).presences.remove(&Name::new("size")),
         |s| _ = one(s).applications.insert(Application { to: SIZE, attribute: SIZE }),
         |s| _ = one(s).applications.insert(Application { to: UNIT, attribute: PART }),
         |s| _ = s.sdss.get_mut(&2).unwrap().applications.insert(Application { to: UNIT, attribute: SIZE }),
@@ -1242,9 +1478,26 @@ fn each_rule_of_the_layout() {
 fn every_way_of_spoiling() {
     let mut random = Random::new(1);
     let base = scanned_base().0;
-    for (name, way) in &WAYS {
+    for (name, way) in WAYS.iter().filter(|(name, _)| SPELLINGS.iter().all(|(spelling, _)| spelling != name)) {
         let bases = (0..200).map(|_| spoiled(way, &mut random, &base));
         assert!(bases.filter(|spoiled| !is_sound(spoiled)).count() > 40, "{name}");
+    }
+}
+
+/// Where there is something to spoil, a base stays sound or it doesn't, always.
+#[test]
+fn every_way_of_spoiling_spellings() {
+    let mut random = Random::new(1);
+    for (name, stays_sound) in SPELLINGS {
+        let (_, way) = WAYS.iter().find(|(way, _)| *way == name).expect("a way");
+        let mut changed = 0;
+        for _ in 0..200 {
+            let base = to_bytes(&spellings::draw(&mut random));
+            let spoiled = spoiled(way, &mut random, &base);
+            changed += usize::from(spoiled != base);
+            assert_eq!(is_sound(&spoiled), stays_sound || spoiled == base, "{name}");
+        }
+        assert!(changed > 150, "{name} {changed}");
     }
 }
 

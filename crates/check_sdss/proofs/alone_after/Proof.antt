@@ -3,14 +3,16 @@
 use borrow.Author.Needs.{needs}
 use Prim.Native.Nat.{ℕ, _≤_, _<_, _-_}
 use native.Mathlib.Omega.{arith}
-use mathlib.Core.Path.{_≡_, sym, ap₂, _∙_}
+use mathlib.Core.Path.{_≡_, sym, ap₂, _∙_, subst}
 use mathlib.Core.Bool.{true, true≢false}
 use borrow.Author.Count.{below-more}
 use Rattle.rules.specs.02-Limits.{limits}
 use Rattle.rules.specs.03-Names.{same-name}
 use Rattle.rows.specs.Rows.{part}
+use Rattle.rows.specs.Order.{Name-bytes}
 use Rattle.rows.proofs.Decides.{decides-yes, decides-no}
 use Rattle.base.specs.Rows.{sds-at}
+use Rattle.check_sdss.proofs.SdsLaws.{fine-bytes}
 use Rattle.check_sdss.proofs.alone_after.Statement.{statement}
 use Rattle.check_sdss.proofs.alone_after.Tie as tie
 
@@ -33,15 +35,22 @@ sds-field-requires c κs = search needs
 sds-field-requires-2 : tie.Need-sds-field-requires-2 Inv-loop μ-loop
 sds-field-requires-2 c κs = search needs
 
-is-same-requires : tie.Need-is-same-requires Inv-loop μ-loop
-is-same-requires c κs = search needs
+are-same-requires : tie.Need-are-same-requires Inv-loop μ-loop
+are-same-requires c κs =
+    let x = c .before .before .before .before .before in
+    let e = c .before .before .before .loop .e in
+    let below : e < 16 = c .before .before .loop-test .taken in
+    let fine = fine-bytes (x .args .base .now) (x .pre .0 .0) in (
+      subst Name-bytes (sym (c .before .sds-field .ensures)) (fine (x .args .d) (x .pre .0 .1) (x .pre .1 (x .args .d) (x .pre .0 .1))),
+      subst Name-bytes (sym (c .sds-field2 .ensures)) (fine e below (x .pre .1 e below)),
+    )
 
 returns : tie.Need-returns Inv-loop μ-loop
 returns c =
     let at = c .before .before .before .before .before in
     let same = ap₂ same-name (sym (c .before .before .before .sds-field .ensures)) (sym (c .before .before .sds-field2 .ensures)) in
     decides-no (λ f. f (at .loop .e) (c .before .before .before .before .loop-test .taken) (at .loop .inv .0)
-    (same ∙ sym (c .before .is-same .ensures) ∙ c .if1 .taken))
+    (same ∙ sym (c .before .are-same .ensures) ∙ c .if1 .taken))
 
 add-e-2 : tie.Need-add-e-2 Inv-loop μ-loop
 add-e-2 c = search needs
@@ -53,7 +62,7 @@ loop-again : tie.Need-loop-again Inv-loop μ-loop
 loop-again c =
     let at = c .before .before .before .before .before in
     let same = ap₂ same-name (sym (c .before .before .before .sds-field .ensures)) (sym (c .before .before .sds-field2 .ensures)) in
-    (omega arith, omega arith, below-more _ _ (at .loop .inv .2) (λ l q. true≢false (sym q ∙ same ∙ sym (c .before .is-same .ensures) ∙ c .if1 .left)))
+    (omega arith, omega arith, below-more _ _ (at .loop .inv .2) (λ l q. true≢false (sym q ∙ same ∙ sym (c .before .are-same .ensures) ∙ c .if1 .left)))
 
 returns-2 : tie.Need-returns-2 Inv-loop μ-loop
 returns-2 c = decides-yes (λ k h l. c .before .loop .inv .2 k (omega arith) l)
@@ -68,7 +77,7 @@ alone-after-spec =
     loop-holds
     sds-field-requires
     sds-field-requires-2
-    is-same-requires
+    are-same-requires
     returns
     add-e-2
     loop-less

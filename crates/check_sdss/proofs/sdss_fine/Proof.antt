@@ -18,7 +18,7 @@ returns c =
     decides-no (λ s. c .before .sds-fields-fine .ensures .fails (not-true _ (c .if1 .taken)) (fields-of (x .args .base .now) (x .pre) s))
 
 names-differ-requires : tie.Need-names-differ-requires
-names-differ-requires c κs = search needs
+names-differ-requires c κs = (c .before .before .before .pre, c .before .sds-fields-fine .ensures .holds (not-false _ (c .if1 .left)))
 
 returns-2 : tie.Need-returns-2
 returns-2 c =

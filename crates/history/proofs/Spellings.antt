@@ -1,0 +1,62 @@
+-- "the spelling given is kept and shown. A rename that alters only the spelling is still done. Uniqueness, find, .. read so from then on"
+-- (02, Q-5). That uniqueness does is said by `Good`. Assumes nothing.
+use Prim.Native.Nat.{ℕ}
+use mathlib.Core.Path.{_≡_, refl, sym, _∙_}
+use mathlib.Core.List.{List, [], _∷_}
+use mathlib.Core.Bool.{true, false, not, true≢false, and-false}
+use lib.Dec.{eqb}
+use borrow.Author.Tests.{eq-eqb}
+use Rattle.rules.specs.01-Lists.{any, first, without, put, repeated}
+use Rattle.rules.specs.03-Names.{Name, same-name}
+use Rattle.rules.specs.04-Schema.{Schema, Presence, holds-type, bears, type-named, local-name, with-presences}
+use Rattle.rules.specs.06-Good.{presence-before}
+use Rattle.rules.specs.09-Refusals.{_when_, verdict, unknown-sds, system-sds, malformed, no-such-name, no-name-listed, borne-by-another}
+use Rattle.rules.specs.09-Refusals.Outcome.{done}
+use Rattle.rules.specs.10-Changes.{rename}
+use Rattle.rules.specs.11-Asks.{find}
+use Rattle.rules.proofs.Bools.{and-of}
+use Rattle.rules.proofs.01-Lists.{any-at}
+use Rattle.rules.proofs.03-Names.{same-bears, same-type, same-borne}
+use Rattle.rules.proofs.Edits.{put-new, put-each, first-in, without-in}
+
+-- two spellings find the same
+pub find-any-spelling : (w : List ℕ) (n m : Name) (s : Schema) → malformed n ≡ malformed m → same-name n m ≡ true → find w n s ≡ find w m s
+unfolding find no-name-listed
+find-any-spelling w n m s f e = λ i.
+    verdict
+    ((2 when any (unknown-sds s) w) ∷ (4 when f i) ∷ (6 when not (any (λ d. same-bears n m e s d i) w)) ∷ (8 when repeated w) ∷ [])
+    (done (same-type n m e s (first (λ d. same-bears n m e s d i) 0 w) i) 0 0 [])
+
+-- the type of SDS d that bears n, and what a rename of it makes
+module _ (s : Schema) (d : ℕ) (n new : Name) where
+  -- no other type bears a type's own name
+  not-another : borne-by-another s d (type-named s d n) n ≡ false
+  unfolding borne-by-another
+  not-another = rw (eq-eqb (type-named s d n) (type-named s d n) refl) (and-false (bears s d n))
+
+  abbrev renamed : Schema
+  renamed =
+      let t = type-named s d n in
+      with-presences s (put presence-before (record { sds = d; name = new; type = t }) (without (holds-type d t) (s .presences)))
+
+  -- no number refuses another spelling, unless it would refuse any new name
+  pub rename-respells : unknown-sds s d ≡ false → system-sds d ≡ false → malformed n ≡ false → malformed new ≡ false → no-such-name s d n ≡ false
+      → same-name n new ≡ true → rename d n new s ≡ done 0 0 0 renamed
+  unfolding rename verdict
+  rename-respells a b c c′ f e = rw (a, b, c, c′, f, another) refl
+    where
+      another : borne-by-another s d (type-named s d n) new ≡ false
+      another = sym (same-borne n new e s d (type-named s d n)) ∙ not-another
+
+  -- the new name stands there as it was spelled
+  pub rename-spells : local-name renamed d (type-named s d n) ≡ new
+  unfolding local-name
+  rename-spells =
+      let t = type-named s d n in
+      let x : Presence = record { sds = d; name = new; type = t } in
+      let left = without (holds-type d t) (s .presences) in
+      let it = and-of (eqb d d) (eqb t t) (eq-eqb d d refl) (eq-eqb t t refl) in
+      let (i, h) = first-in (holds-type d t) (record { sds = 0; name = []; type = 0 }) (put presence-before x left)
+      (any-at (holds-type d t) (put-new presence-before x left) it) in
+      put-each presence-before i (λ q. holds-type d t q ≡ true → q .name ≡ new) (λ k. refl)
+      (λ j k. absurd (true≢false (sym k ∙ without-in (holds-type d t) (s .presences) j .1))) h

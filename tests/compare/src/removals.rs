@@ -219,19 +219,9 @@ pub fn removal(random: &mut Random, s: &Schema) -> Call {
 
 #[cfg(test)]
 mod tests {
-    use super::{draw, REMOVED};
-    use crate::base::{is_sound, to_bytes};
-    use crate::random::Random;
+    use super::REMOVED;
     use crate::run::Run;
     use crate::{HISTORY, LONG};
-
-    #[test]
-    fn every_schema_is_sound() {
-        let mut random = Random::new(1);
-        for s in (0..200).map(|_| draw(&mut random)) {
-            assert!(is_sound(&to_bytes(&s)));
-        }
-    }
 
     /// A long run has as many histories, and each ends with removals.
     #[test]

@@ -588,19 +588,9 @@ fn rename(random: &mut Random, s: &Schema, sds: usize) -> Call {
 
 #[cfg(test)]
 mod tests {
-    use super::{draw, SPELT};
-    use crate::base::{is_sound, to_bytes};
-    use crate::random::Random;
+    use super::SPELT;
     use crate::run::Run;
     use crate::{HISTORY, LONG};
-
-    #[test]
-    fn every_schema_is_sound() {
-        let mut random = Random::new(1);
-        for s in (0..200).map(|_| draw(&mut random)) {
-            assert!(is_sound(&to_bytes(&s)));
-        }
-    }
 
     /// A long run has as many histories, twice as long, and each ends with such calls.
     #[test]

@@ -7,7 +7,7 @@ use crate::calls::{apply as keep, Call, CALLS, TELLING};
 use crate::cases::printed;
 use crate::coverage::Counts;
 use crate::random::{free_places, Mode, Random};
-use crate::removals::traits;
+use crate::removals::{self, traits};
 use crate::run::Run;
 use crate::schema::{is_name, is_same, Application, End, Name, Schema, Sds, Side, Type};
 use crate::spellings;
@@ -1119,6 +1119,16 @@ fn which_names_are_the_same() {
         other.0[at].make_ascii_uppercase();
         assert!(is_same(&other, long.as_bytes()) && !is_same(&other, &long.as_bytes()[1..]));
         assert!(!is_same(&other, &long.as_bytes()[..15]));
+    }
+}
+
+#[test]
+fn every_drawn_schema_is_sound() {
+    let mut random = Random::new(1);
+    for draw in [removals::draw, spellings::draw] {
+        for s in (0..200).map(|_| draw(&mut random)) {
+            assert!(is_sound(&to_bytes(&s)));
+        }
     }
 }
 

@@ -22,7 +22,7 @@
 #include <stddef.h>
 #include <stdint.h>
 
-#define CF_VERSION "0.4.0"
+#define CF_VERSION "0.4.1"
 
 /* What a base has room for, and its length in bytes. tests/c/test.c holds these to the library. */
 #define CF_BASE_LENGTH 13312
@@ -211,7 +211,9 @@ cf_answer cf_name(const uint8_t *base, size_t base_len, size_t sds, size_t type)
 
 /* The calls below ask under a working schema, `schema`: a list of SDS numbers, a byte each. A type is visible if
  * a listed SDS holds it; an empty list shows nothing: 6. Only visible types are given, and only what is applied, an
- * origin or a destination in a listed SDS counts.
+ * origin or a destination in a listed SDS counts. The order of the list matters to cf_find alone. Two lists put end to
+ * end, with no SDS twice, show what either does, and a type's descendants are those under either; what it has by its
+ * ancestors can be more than under the two apart.
  *
  * `output` takes a list: types in rising number, each once, an entry being two bytes, low byte first. Its room is
  * counted in whole entries, and what lies beyond the entries put down stays as it was. CF_OUTPUT_LENGTH bytes are enough

@@ -14,8 +14,8 @@ use Rattle.rules.specs.05-Descent.Descends.{by-parent}
 use Rattle.rules.specs.06-Good.{Good}
 use Rattle.rules.specs.08-Working.{visible, applied-in, end-in, upward}
 use Rattle.rules.proofs.Bools.{same-test, fails}
-use Rattle.rules.proofs.01-Lists.{any-at, any-where, among-in, in-among}
-use Rattle.rules.proofs.05-Descent.{members-in, members-of, descends-sound}
+use Rattle.rules.proofs.01-Lists.{any-at, any-where}
+use Rattle.rules.proofs.05-Descent.{members-in, members-of, members-among, descends-sound}
 use Rattle.rules.proofs.08-Working.{ancestors-visible}
 use Rattle.kin.specs.Kin.{parents-of, children-of, ancestors-of, descendants-of, with-descendants}
 use Rattle.kin.proofs.KinLaws.{parent-is}
@@ -39,16 +39,6 @@ members-turned p q = same-test (any q (members p)) (any p (members q)) (turn p q
         let (x, i, h) = any-where q (members p) e in
         let (u, g) = members-in p x i in
         any-at p (members-of q x u h) g
-
-members-among : (q : ℕ → Bool) (k : ℕ) → (128 ≤ k → q k ≡ false) → among (members q) k ≡ q k
-members-among q k past = same-test (among (members q) k) (q k) (λ e. members-in q k (among-in (members q) k e) .1) (λ e. in-among (members-of q k (below e) e))
-  where
-    below : q k ≡ true → k < 128
-    below e = go (ltb k 128) refl
-      where
-        go : (x : Bool) → ltb k 128 ≡ x → k < 128
-        go true h = ltb-true k 128 h
-        go false h = absurd (true≢false (sym e ∙ past (ltb-false k 128 h)))
 
 -- a scan whose types are all visible
 all-seen : {p y : Bool} {x : Bool} → p ≡ y → (y ≡ true → x ≡ true) → p ≡ x && y

@@ -3,15 +3,16 @@
 use Prim.Native.Nat.{ℕ, zero, suc, _+_, _-_, _≤_, _<_}
 use native.Mathlib.Omega.{arith}
 use mathlib.Core.Path.{_≡_, refl, sym, ap, _∙_}
-use mathlib.Core.Logic.{⊎-elim}
-use mathlib.Core.List.{List, [], _∷_, _++_, map, List·Memᴰ·not-nil, List·Memᴰ·cases-cons}
+use mathlib.Core.Logic.{⊎-elim, ∥∥₁-elim}
+use mathlib.Core.List.{List, [], _∷_, _++_, map, List·Memᴰ·not-nil, List·Memᴰ·cases-cons, List·Permᴰ, Perm}
 use mathlib.Core.List.List·Memᴰ.{List·Memᴰ·head, List·Memᴰ·tail}
-use mathlib.Core.Bool.{Bool, true, false, not, cond, _&&_, true≢false, false≢true, and-false}
+use mathlib.Core.List.List·Permᴰ.{List·Permᴰ·nil, List·Permᴰ·cons, List·Permᴰ·swap, List·Permᴰ·trans}
+use mathlib.Core.Bool.{Bool, true, false, not, cond, _&&_, _||_, Bool-set, true≢false, false≢true, and-false, or-assoc}
 use lib.Dec.{ltb, eqb}
 use lib.ListN.{length, getD}
 use borrow.Author.Tests.{ltb-true, ltb-false, lt-ltb, le-ltb, eqb-true, eqb-false, eq-eqb, ne-eqb}
-use Rattle.rules.specs.01-Lists.{_∈_, same-bytes, bytes-before, any, all, among, repeated, rising, numbers}
-use Rattle.rules.proofs.Bools.{or-cases, or-left, or-right, or-neither, and-both, and-of, and-rest, fails}
+use Rattle.rules.specs.01-Lists.{_∈_, same-bytes, bytes-before, any, all, first, among, repeated, rising, numbers}
+use Rattle.rules.proofs.Bools.{or-cases, or-left, or-right, or-neither, or-turned, or-crossed, and-both, and-of, and-rest, fails, eqb-turned}
 
 -- ---- tests over a list
 
@@ -275,6 +276,56 @@ numbers-most p a (suc m) = go (p a) (numbers-most p (suc a) m)
     go : (b : Bool) → length (numbers (suc a) m p) ≤ m → length (cond b (a ∷ numbers (suc a) m p) (numbers (suc a) m p)) ≤ suc m
     go true h = omega arith
     go false h = omega arith
+
+-- ---- lists end to end, and a list in another order
+
+pub any-joined : (p : ℕ → Bool) (v w : List ℕ) → any p (v ++ w) ≡ any p v || any p w
+unfolding any
+any-joined p [] w = refl
+any-joined p (d ∷ v) w = rw (any-joined p v w) (sym (or-assoc (p d) (any p v) (any p w)))
+
+pub first-joined : (p : ℕ → Bool) (n : ℕ) (v w : List ℕ) → first p n (v ++ w) ≡ cond (any p v) (first p n v) (first p n w)
+unfolding any first
+first-joined p n [] w = refl
+first-joined p n (d ∷ v) w = go (p d) (first-joined p n v w)
+  where
+    go : (b : Bool) → first p n (v ++ w) ≡ cond (any p v) (first p n v) (first p n w)
+        → cond b d (first p n (v ++ w)) ≡ cond (b || any p v) (cond b d (first p n v)) (first p n w)
+    go true e = refl
+    go false e = e
+
+pub once-joined : (v w : List ℕ) → repeated (v ++ w) ≡ false → (repeated v ≡ false) × (repeated w ≡ false)
+unfolding repeated
+once-joined [] w e = (refl, e)
+once-joined (d ∷ v) w e =
+    let (new, rest) = or-neither (among (v ++ w) d) (repeated (v ++ w)) e in
+    let (once, others) = once-joined v w rest in
+    let apart = or-neither (among v d) (among w d) (sym (any-joined (eqb d) v w) ∙ new) .0 in
+    (rw (apart, once), others)
+
+any-turned : (p : ℕ → Bool) {v w : List ℕ} → List·Permᴰ v w → any p v ≡ any p w
+unfolding any
+any-turned p List·Permᴰ·nil = refl
+any-turned p (List·Permᴰ·cons e d) = λ i. p (e i) || any-turned p d i
+any-turned p (List·Permᴰ·swap {a′ = a′} {b′ = b′} {l = l} e f) = (λ i. p (e i) || (p (f i) || any p l)) ∙ or-turned (p b′) (p a′) (any p l)
+any-turned p (List·Permᴰ·trans d d′) = any-turned p d ∙ any-turned p d′
+
+repeated-turned : {v w : List ℕ} → List·Permᴰ v w → repeated v ≡ repeated w
+unfolding repeated any
+repeated-turned List·Permᴰ·nil = refl
+repeated-turned (List·Permᴰ·cons e d) = λ i. any-turned (eqb (e i)) d i || repeated-turned d i
+repeated-turned (List·Permᴰ·swap {a′ = a′} {b′ = b′} {l = l} e f) =
+    (λ i. (eqb (e i) (f i) || among l (e i)) || (among l (f i) || repeated l))
+    ∙ or-crossed (eqb b′ a′) (among l b′) (among l a′) (repeated l)
+    ∙ ap (λ (x : Bool). (x || among l a′) || (among l b′ || repeated l)) (eqb-turned b′ a′)
+repeated-turned (List·Permᴰ·trans d d′) = repeated-turned d ∙ repeated-turned d′
+
+module _ {v w : List ℕ} (turned : Perm v w) where
+  pub any-order : (p : ℕ → Bool) → any p v ≡ any p w
+  any-order p = ∥∥₁-elim turned (Bool-set (any p v) (any p w)) (any-turned p)
+
+  pub repeated-order : repeated v ≡ repeated w
+  repeated-order = ∥∥₁-elim turned (Bool-set (repeated v) (repeated w)) repeated-turned
 
 -- ---- the order of bytes: strict and total
 

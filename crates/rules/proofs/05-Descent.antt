@@ -6,19 +6,20 @@ use mathlib.Core.Path.{_≡_, refl, sym, ap, _∙_, subst}
 use mathlib.Core.Logic.{_⊎_, inl, inr, ⊎-elim, _↔_}
 use mathlib.Core.List.{List, [], _∷_, List·Memᴰ·not-nil, List·Memᴰ·cases-cons, List·Memᴰ·eq-of-singleton}
 use mathlib.Core.List.List·Memᴰ.{List·Memᴰ·head, List·Memᴰ·tail}
-use mathlib.Core.Bool.{Bool, true, false, _||_, false≢true}
+use mathlib.Core.Bool.{Bool, true, false, _||_, true≢false, false≢true}
 use lib.Dec.{ltb, eqb}
 use lib.ListN.{length, getD, List·getD-eq-default}
 use borrow.Author.Tests.{ltb-false, ltb-true, eqb-true, eq-eqb}
-use Rattle.rules.specs.01-Lists.{_∈_, rising, greatest}
+use Rattle.rules.specs.01-Lists.{_∈_, among, rising, greatest}
 use Rattle.rules.specs.04-Schema.{Schema, Kind, kind-of, is-used, is-object, parents, parents-in}
 use Rattle.rules.specs.04-Schema.Kind.{unused, object, attribute, designation, paired}
 use Rattle.rules.specs.05-Descent.{Parent, Descends, Chain, climbs, descends, height, depth, members}
 use Rattle.rules.specs.05-Descent.Descends.{by-parent, by-step}
 use Rattle.rules.specs.05-Descent.Chain.{at-root, up}
 use Rattle.rules.specs.06-Good.{Good}
-use Rattle.rules.proofs.Bools.{or-cases, or-left, or-right}
-use Rattle.rules.proofs.01-Lists.{any-at, any-where, numbers-in, numbers-of, numbers-rising, rising-once, Different, at-most, numbers-most}
+use Rattle.rules.proofs.Bools.{or-cases, or-left, or-right, same-test}
+use Rattle.rules.proofs.01-Lists.{any-at, any-where, among-in, in-among, rising-once, Different, at-most}
+use Rattle.rules.proofs.01-Lists.{numbers-in, numbers-of, numbers-rising, numbers-most}
 
 -- descent over parents that were there
 pub descends-over : {s s′ : Schema} → ((t a : ℕ) → Parent s t a → Parent s′ t a) → {t a : ℕ} → Descends s t a → Descends s′ t a
@@ -34,6 +35,16 @@ members-in p k i = let (l, u, e) = numbers-in p 0 128 k i in (omega arith, e)
 pub members-of : (p : ℕ → Bool) (k : ℕ) → k < 128 → p k ≡ true → k ∈ members p
 unfolding members
 members-of p k h e = numbers-of p 0 128 k (omega arith) (omega arith) e
+
+pub members-among : (q : ℕ → Bool) (k : ℕ) → (128 ≤ k → q k ≡ false) → among (members q) k ≡ q k
+members-among q k past = same-test (among (members q) k) (q k) (λ e. members-in q k (among-in (members q) k e) .1) (λ e. in-among (members-of q k (below e) e))
+  where
+    below : q k ≡ true → k < 128
+    below e = go (ltb k 128) refl
+      where
+        go : (x : Bool) → ltb k 128 ≡ x → k < 128
+        go true h = ltb-true k 128 h
+        go false h = absurd (true≢false (sym e ∙ past (ltb-false k 128 h)))
 
 pub members-rising : (p : ℕ → Bool) → rising ltb (members p) ≡ true
 unfolding members

@@ -1,13 +1,14 @@
 -- The stretch of a local name. The words of the set of descendants: bit n mod 64 of word n div 64 is the mark of type n. And the list of descendants is whole.
 -- Assumes nothing.
-use Prim.Native.Nat.{ℕ, zero, suc, _+_, _*_, _/_, _%_, _^_, _≤_, _<_}
+use Prim.Native.Nat.{ℕ, zero, suc, _+_, _*_, _/_, _%_, _^_, _≤_, _<_, max}
 use native.Mathlib.Nat.{div-one, add-zero, pow-suc}
 use native.Mathlib.Numerals.{one-add}
 use native.Mathlib.Omega.{arith}
 use mathlib.Core.Path.{_≡_, refl, sym, ap, _∙_, subst}
 use mathlib.Core.List.{List, [], _∷_}
-use mathlib.Core.Bool.{Bool, true, false, not, cond, _&&_, true≢false, false≢true}
+use mathlib.Core.Bool.{Bool, true, false, not, cond, _&&_, _||_, true≢false, false≢true}
 use lib.Arith.{digits-mod, digits-div}
+use lib.Bits.{bitOr, or-step}
 use lib.ListN.{length, getD, take, drop}
 use lib.Pow.{shr-shr}
 use Rattle.rules.specs.Read.{name-offset}
@@ -114,6 +115,32 @@ module _ (p : ℕ → Bool) where
       let along : suc start + i ≡ start + suc i = omega arith in
       ap (λ (x : ℕ). x % 2) (step ∙ ap (λ (x : ℕ). x / 2 ^ i) half) ∙ marks-bit (suc start) many i (omega arith)
       ∙ ap (λ (x : ℕ). one-if (p x)) along
+
+-- the marks of either of two sets
+pub marks-or : (p q : ℕ → Bool) (start many : ℕ) → marks start many (λ k. p k || q k) ≡ bitOr (marks start many p) (marks start many q)
+unfolding marks
+marks-or p q start zero = refl
+marks-or p q start (suc many) =
+    rw (marks-or p q (suc start) many, or-step (next p) (next q), half p, half q, low p, low q)
+    (ap (λ (x : ℕ). bitOr (rest p) (rest q) * 2 + x) (one-if-or (p start) (q start)))
+  where
+    rest : (ℕ → Bool) → ℕ
+    rest p = marks (suc start) many p
+
+    next : (ℕ → Bool) → ℕ
+    next p = rest p * 2 + one-if (p start)
+
+    half : (p : ℕ → Bool) → next p / 2 ≡ rest p
+    half p = digits-div (rest p) (one-if-small (p start))
+
+    low : (p : ℕ → Bool) → next p % 2 ≡ one-if (p start)
+    low p = digits-mod (rest p) (one-if-small (p start))
+
+    one-if-or : (a b : Bool) → one-if (a || b) ≡ max (one-if a) (one-if b)
+    one-if-or true true = refl
+    one-if-or true false = refl
+    one-if-or false true = refl
+    one-if-or false false = refl
 
 -- ---- the list of descendants
 

@@ -12,4 +12,5 @@ pub mod NameTests
 pub mod 11-Asks
 pub mod 12-Contracts
 pub mod Questions
+pub mod Joins
 pub mod 15-Cases

@@ -124,6 +124,10 @@ ship =
     ∷ changes (new-designation 1 (bytes "see")) (success 7 0 0)
     ∷ [])
 
+-- two teams' SDSs: "bus", and SDS 2 "ground" with type 0 in it too
+abbrev teams : List Step
+teams = bus ++ (changes (new-sds (bytes "ground")) (success 2 0 0) ∷ changes (import 2 0 (bytes "object") [] []) (success 0 0 0) ∷ [])
+
 abbrev applications-and-ends : List Step
 applications-and-ends =
     changes (apply 1 (bytes "state") (bytes "unit")) (success 0 0 0)
@@ -290,6 +294,37 @@ own =
     ∷ changes (new-designation 1 (bytes "A_")) (success 2 0 0)
     ∷ asks (name 1 2) (success 1299 2 0) []
     ∷ asks (name 1 1) (success 1317 2 0) []
+    ∷ []))
+    -- "Attribute-all can give more than the two apart" (02, Q-10): bus holds t and its parent a, ground a with x applied
+    ∷ calls
+    (teams
+    ++ (changes (new-object 1 (bytes "a") (bytes "object")) (success 1 0 0)
+    ∷ changes (new-object 1 (bytes "t") (bytes "a")) (success 2 0 0)
+    ∷ changes (import 2 1 (bytes "a") [] []) (success 1 0 0)
+    ∷ changes (new-attribute 2 (bytes "x") 5) (success 3 0 0)
+    ∷ changes (apply 2 (bytes "x") (bytes "a")) (success 0 0 0)
+    ∷ asks (scan-object (1 ∷ []) 2 5 9) (success 0 0 0) []
+    ∷ asks (scan-object (2 ∷ []) 2 5 9) (refusal 6) []
+    ∷ asks (scan-object (1 ∷ 2 ∷ []) 2 5 9) (success 1 0 0) (3 ∷ [])
+    ∷ []))
+    -- the order of the list decides what find answers, and alters no scan; descendants of a join, which can need more room (02, Q-10)
+    ∷ calls
+    (teams
+    ++ (changes (new-object 1 (bytes "radio") (bytes "object")) (success 1 0 0)
+    ∷ changes (new-object 2 (bytes "radio") (bytes "object")) (success 2 0 0)
+    ∷ changes (new-object 2 (bytes "dish") (bytes "radio")) (success 3 0 0)
+    ∷ asks (find (1 ∷ 2 ∷ []) (bytes "radio")) (success 1 0 0) []
+    ∷ asks (find (2 ∷ 1 ∷ []) (bytes "radio")) (success 2 0 0) []
+    ∷ asks (find (1 ∷ []) (bytes "dish")) (refusal 6) []
+    ∷ asks (find (1 ∷ 2 ∷ []) (bytes "dish")) (success 3 0 0) []
+    ∷ asks (scan-object (1 ∷ []) 0 1 2) (success 1 0 0) (1 ∷ [])
+    ∷ asks (scan-object (2 ∷ []) 0 1 2) (success 2 0 0) (2 ∷ 3 ∷ [])
+    ∷ asks (scan-object (1 ∷ 2 ∷ []) 0 1 3) (success 3 0 0) (1 ∷ 2 ∷ 3 ∷ [])
+    ∷ asks (scan-object (2 ∷ 1 ∷ []) 0 1 3) (success 3 0 0) (1 ∷ 2 ∷ 3 ∷ [])
+    ∷ asks (scan-object (1 ∷ 2 ∷ []) 0 1 2) (refusal 15) []
+    ∷ asks (scan-object (1 ∷ []) 2 1 2) (refusal 6) []
+    ∷ asks (scan-object (1 ∷ 2 ∷ []) 2 1 2) (success 1 0 0) (3 ∷ [])
+    ∷ asks (descendant-set (2 ∷ 1 ∷ []) 0) (success 14 0 3) []
     ∷ []))
     -- the run program's SDSs and types in any spelling; its commands byte for byte
     ∷ lines

@@ -8,8 +8,8 @@ use mathlib.Core.Bool.{Bool, true, false, _||_, or-false}
 use lib.Dec.{eqb}
 use lib.ListN.{length, getD, drop}
 use lib.Seq.{drop-cons}
-use borrow.Author.Tests.{eqb-true, eqb-false, eq-eqb, ne-eqb}
 use Rattle.rules.specs.01-Lists.{any, among, repeated}
+use Rattle.rules.proofs.Bools.{or-crossed, eqb-turned}
 use Rattle.rules.proofs.01-Lists.{any-nowhere}
 
 -- what is left behind one place more, and behind the last
@@ -33,23 +33,10 @@ either true true c = refl
 either true false c = refl
 either false b c = ap (λ (x : Bool). x || c) (sym (or-false b))
 
-eqb-turned : (a b : ℕ) → eqb a b ≡ eqb b a
-eqb-turned a b = go (eqb a b) refl
-  where
-    go : (t : Bool) → eqb a b ≡ t → t ≡ eqb b a
-    go true e = sym (eq-eqb b a (sym (eqb-true a b e)))
-    go false e = sym (ne-eqb b a (λ q. eqb-false a b e (sym q)))
-
 any-added : (m n : ℕ → Bool) (x : ℕ) → ((k : ℕ) → n k ≡ eqb k x || m k) → (l : List ℕ) → any n l ≡ among l x || any m l
 unfolding any
 any-added m n x h [] = refl
-any-added m n x h (y ∷ l) = rw (h y, eqb-turned y x, any-added m n x h l) (go (eqb x y) (m y) (among l x) (any m l))
-  where
-    go : (a b c d : Bool) → (a || b) || (c || d) ≡ (a || c) || (b || d)
-    go true b c d = refl
-    go false true true d = refl
-    go false true false d = refl
-    go false false c d = refl
+any-added m n x h (y ∷ l) = rw (h y, eqb-turned y x, any-added m n x h l) (or-crossed (eqb x y) (m y) (among l x) (any m l))
 
 any-no : (m : ℕ → Bool) → ((k : ℕ) → m k ≡ false) → (l : List ℕ) → any m l ≡ false
 any-no m none l = any-nowhere m l (λ i h. none (getD l i 0))

@@ -186,6 +186,21 @@ impl Call {
         Some(Asked { schema, code, has_output })
     }
 
+    /// The same call under another working schema, if it has one.
+    pub fn under(&self, list: &[u8]) -> Call {
+        let mut call = self.clone();
+        if let Call::ScanObject { schema, .. }
+        | Call::ScanLink { schema, .. }
+        | Call::Profile { schema, .. }
+        | Call::Find { schema, .. }
+        | Call::Depth { schema, .. }
+        | Call::DescendantSet { schema, .. } = &mut call
+        {
+            *schema = list.to_vec();
+        }
+        call
+    }
+
     /// The entries that the call has put down, by its answer.
     pub fn entries(&self, [_, one, two, three]: [usize; 4]) -> usize {
         match self {

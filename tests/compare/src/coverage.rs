@@ -2,6 +2,7 @@
 #![forbid(unsafe_code)]
 
 use crate::calls::{Call, CALLS, NUMBERS};
+use crate::joins::JOINED;
 use crate::removals::{traits, REMOVED};
 use crate::schema::Schema;
 use crate::shapes::{visible, SHAPES};
@@ -25,9 +26,9 @@ const UNLISTED: [&str; 9] = [
     "no SDS listed: descendant_set 6",
 ];
 
-/// What schemas are drawn for should come up so often: each of `REMOVED` and of `SPELT`, and lists of descendants, of each
-/// shape and with each of these, which one pass by number, first parents alone, too few passes or no look at presences
-/// would get wrong.
+/// What schemas are drawn for should come up so often: each of `REMOVED`, of `SPELT` and of `JOINED`, and lists of
+/// descendants, of each shape and with each of these, which one pass by number, first parents alone, too few passes or no
+/// look at presences would get wrong.
 const OFTEN_DRAWN: usize = 200;
 const LISTED: [&str; 5] = [
     "a type below its parents",
@@ -60,6 +61,8 @@ pub struct Counts {
     pub removed: BTreeMap<String, usize>,
     /// Calls on sound bases, by the spellings of their names.
     pub spelt: BTreeMap<String, usize>,
+    /// Questions under two lists and their join, or under a list in another order.
+    pub joined: BTreeMap<String, usize>,
 }
 
 impl Counts {
@@ -70,6 +73,7 @@ impl Counts {
             asked: BTreeMap::new(),
             removed: BTreeMap::new(),
             spelt: BTreeMap::new(),
+            joined: BTreeMap::new(),
         }
     }
 
@@ -84,7 +88,11 @@ impl Counts {
             sum.done += seen.done;
             sum.longest = sum.longest.max(seen.longest);
         }
-        for (sums, numbers) in [(&mut self.removed, &other.removed), (&mut self.spelt, &other.spelt)] {
+        for (sums, numbers) in [
+            (&mut self.removed, &other.removed),
+            (&mut self.spelt, &other.spelt),
+            (&mut self.joined, &other.joined),
+        ] {
             numbers.iter().for_each(|(what, number)| *sums.entry(what.clone()).or_default() += number);
         }
     }
@@ -171,6 +179,16 @@ impl Counts {
         }
     }
 
+    /// Counts what a law was held to.
+    pub fn join(&mut self, what: &str) {
+        *self.joined.entry(what.into()).or_default() += 1;
+    }
+
+    /// What a long run of joins should have seen and came up too seldom.
+    pub fn seldom_joined(&self) -> Vec<String> {
+        seldom_of("join", &JOINED, &self.joined)
+    }
+
     /// The pairs of a call and a number that it can answer that came up too seldom, in words; under an empty list too,
     /// descents, removals and spellings, and bases with these spoiled.
     pub fn seldom(&self) -> Vec<String> {
@@ -184,10 +202,8 @@ impl Counts {
         let descents = SHAPES.map(|(shape, _)| shape).into_iter().chain(LISTED);
         let descents = descents.map(|what| format!("descent: {what}"));
         seldom.extend(descents.filter(|what| is_seldom(what, OFTEN_DRAWN)));
-        for (kind, all, seen) in [("removal", &REMOVED[..], &self.removed), ("spelling", &SPELT[..], &self.spelt)] {
-            let all = all.iter().filter(|what| seen.get(**what).is_none_or(|&calls| calls < OFTEN_DRAWN));
-            seldom.extend(all.map(|what| format!("{kind}: {what}")));
-        }
+        seldom.extend(seldom_of("removal", &REMOVED, &self.removed));
+        seldom.extend(seldom_of("spelling", &SPELT, &self.spelt));
         for ((way, _), [sound, unsound]) in WAYS.iter().zip(&self.spoiled) {
             let expected = SPELLINGS.iter().find(|(name, _)| name == way);
             let seen = expected.map(|(_, stays_sound)| if *stays_sound { sound } else { unsound });
@@ -202,14 +218,20 @@ impl Counts {
         for (what, seen) in &self.asked {
             println!("{what:<40}{:>8}{:>8}{:>14}", seen.calls, seen.done, seen.longest);
         }
-        println!("\n{:<48}{:>8}", "removed or refused", "calls");
-        self.removed.iter().for_each(|(what, calls)| println!("{what:<48}{calls:>8}"));
-        println!("\n{:<56}{:>8}", "in another spelling", "calls");
-        self.spelt.iter().for_each(|(what, calls)| println!("{what:<56}{calls:>8}"));
+        print_drawn("removed or refused", &self.removed);
+        print_drawn("in another spelling", &self.spelt);
         println!("\n{:<28}{:>8}{:>10}", "spoiled", "sound", "not sound");
         for ((name, _), [sound, unsound]) in WAYS.iter().zip(&self.spoiled) {
             println!("{name:<28}{sound:>8}{unsound:>10}");
         }
+        println!();
+    }
+
+    pub fn print_joined(&self) {
+        print_drawn("under a join or in another order", &self.joined);
+        let seldom = self.seldom_joined();
+        println!("that came up less than {OFTEN_DRAWN} times: {}", seldom.len());
+        seldom.iter().for_each(|what| println!("    {what}"));
         println!();
     }
 
@@ -237,4 +259,15 @@ impl Counts {
             println!("    {}", seldom.join(", "));
         }
     }
+}
+
+/// Those that came up too seldom for what schemas are drawn for.
+fn seldom_of(kind: &str, all: &[&str], seen: &BTreeMap<String, usize>) -> Vec<String> {
+    let all = all.iter().filter(|what| seen.get(**what).is_none_or(|&calls| calls < OFTEN_DRAWN));
+    all.map(|what| format!("{kind}: {what}")).collect()
+}
+
+fn print_drawn(heading: &str, seen: &BTreeMap<String, usize>) {
+    println!("\n{heading:<56}{:>8}", "calls");
+    seen.iter().for_each(|(what, calls)| println!("{what:<56}{calls:>8}"));
 }

@@ -2,8 +2,11 @@
 //! byte by byte: answer, base, output, and the guards around what is lent.
 //!
 //! `compare [--calls N] [--spoiled N] [--seed S] [-- PROGRAM..]`
+//! `compare joins [--schemas N] [--seed S] [-- PROGRAM..]`
 //! `compare bench SQLITE -- PROGRAM..`
 //! `compare cases STDIN STDOUT`
+//!
+//! Joins are two working schemas put end to end, and what is answered under them is held to laws.
 //!
 //! PROGRAM and its words start the process that serves the library (`tests/c/serve.c`); without one the library is the
 //! one linked (`build.rs`). A call that crashes ends the comparison where the library is linked; served, it is named.
@@ -17,6 +20,7 @@ mod bench;
 mod calls;
 mod cases;
 mod coverage;
+mod joins;
 mod keeper;
 mod library;
 #[cfg(linked)]
@@ -54,16 +58,23 @@ const SHOWN: usize = 10;
 struct Options {
     calls: usize,
     spoiled: usize,
+    /// Where joins are asked about, on so many, and nothing else is.
+    schemas: Option<usize>,
     seed: u64,
 }
 
 fn options(arguments: &[String]) -> Option<Options> {
-    let mut options = Options { calls: LONG, spoiled: 50_000, seed: 1 };
+    let (schemas, arguments) = match arguments {
+        [mode, arguments @ ..] if mode == "joins" => (Some(joins::LONG), arguments),
+        arguments => (None, arguments),
+    };
+    let mut options = Options { calls: LONG, spoiled: 50_000, schemas, seed: 1 };
     for pair in arguments.chunks(2) {
         let [option, value] = pair else { return None };
         match option.as_str() {
-            "--calls" => options.calls = value.parse().ok()?,
-            "--spoiled" => options.spoiled = value.parse().ok()?,
+            "--calls" if schemas.is_none() => options.calls = value.parse().ok()?,
+            "--spoiled" if schemas.is_none() => options.spoiled = value.parse().ok()?,
+            "--schemas" if schemas.is_some() => options.schemas = Some(value.parse().ok()?),
             "--seed" => options.seed = value.parse().ok()?,
             _ => return None,
         }
@@ -71,9 +82,12 @@ fn options(arguments: &[String]) -> Option<Options> {
     Some(options)
 }
 
-/// Makes the histories, one on each processor at a time; each has a share of the spoiled bases.
-fn run(options: &Options, program: &[String]) -> Result<(Counts, Vec<String>), String> {
-    let histories = options.calls.div_ceil(HISTORY);
+/// Makes so many histories, one on each processor at a time.
+fn run(
+    histories: usize,
+    program: &[String],
+    history: impl Fn(&mut Run, usize) -> Result<(), String> + Sync,
+) -> Result<(Counts, Vec<String>), String> {
     let begun = AtomicUsize::new(0);
     let shows_progress = stderr().is_terminal();
     let work = || {
@@ -86,9 +100,7 @@ fn run(options: &Options, program: &[String]) -> Result<(Counts, Vec<String>), S
             if shows_progress {
                 eprint!("\rhistory {number} of {histories} ");
             }
-            let calls = HISTORY.min(options.calls - number * HISTORY);
-            let spoiled = options.spoiled * (number + 1) / histories - options.spoiled * number / histories;
-            if let Err(fault) = run.history(options.seed, number, calls, spoiled) {
+            if let Err(fault) = history(&mut run, number) {
                 // Where the process that serves the library ended, it is the one to say why.
                 return Err(run.finish().err().unwrap_or(fault));
             }
@@ -111,6 +123,19 @@ fn run(options: &Options, program: &[String]) -> Result<(Counts, Vec<String>), S
     Ok((counts, differences))
 }
 
+/// The joins, or the calls, where each history has a share of the spoiled bases.
+fn compared(options: &Options, program: &[String]) -> Result<(Counts, Vec<String>), String> {
+    let &Options { calls, spoiled, schemas, seed } = options;
+    if let Some(schemas) = schemas {
+        return run(schemas, program, |run, number| run.joins(seed, number));
+    }
+    let histories = calls.div_ceil(HISTORY);
+    run(histories, program, |run, number| {
+        let calls = HISTORY.min(calls - number * HISTORY);
+        run.history(seed, number, calls, spoiled * (number + 1) / histories - spoiled * number / histories)
+    })
+}
+
 fn main() -> ExitCode {
     let arguments: Vec<String> = std::env::args().skip(1).collect();
     if let [mode, stdin, stdout] = &arguments[..] {
@@ -127,22 +152,33 @@ fn main() -> ExitCode {
     }
     let Some(options) = options(&arguments[..at]) else {
         eprintln!("compare [--calls N] [--spoiled N] [--seed S] [-- PROGRAM..]");
+        eprintln!("compare joins [--schemas N] [--seed S] [-- PROGRAM..]");
         eprintln!("compare bench SQLITE -- PROGRAM..\ncompare cases STDIN STDOUT");
         return ExitCode::from(2);
     };
-    let (counts, differences) = match run(&options, program) {
+    let (counts, differences) = match compared(&options, program) {
         Ok(ended) => ended,
         Err(fault) => {
             println!("compare: {fault}");
             return ExitCode::FAILURE;
         }
     };
-    counts.print();
+    let has_seen_all = match options.schemas {
+        Some(schemas) => {
+            counts.print_joined();
+            schemas < joins::LONG || counts.seldom_joined().is_empty()
+        }
+        None => {
+            counts.print();
+            options.calls < LONG || counts.seldom().is_empty()
+        }
+    };
     differences.iter().take(SHOWN).for_each(|difference| println!("{difference}"));
     let spoiled: usize = counts.spoiled.as_flattened().iter().sum();
     let calls = counts.answered.as_flattened().iter().sum::<usize>() - spoiled;
-    println!("compare: {calls} calls, {spoiled} spoiled bases, {} differences", differences.len());
-    if differences.is_empty() && (options.calls < LONG || counts.seldom().is_empty()) {
+    let on = options.schemas.map_or(format!("{spoiled} spoiled bases"), |schemas| format!("{schemas} schemas"));
+    println!("compare: {calls} calls, {on}, {} differences", differences.len());
+    if differences.is_empty() && has_seen_all {
         ExitCode::SUCCESS
     } else {
         ExitCode::FAILURE

@@ -728,8 +728,7 @@ impl Caller {
     /// A working schema: some or all of the used SDSs; at times none, one twice, or one that is not used. Under an
     /// empty list no call is done, so there an unknown code and a malformed name are drawn more often than elsewhere.
     fn list(&mut self, schema: &Schema) -> Vec<u8> {
-        let used: Vec<u8> = schema.sdss.keys().map(|&sds| sds as u8).collect();
-        let mut list = self.random.shuffled(used);
+        let mut list = self.random.shuffled(schema.used());
         match self.random.below(32) {
             0..=11 => {}
             12 => list = list.repeat(if self.random.one_in(2) { 2 } else { 17 }),

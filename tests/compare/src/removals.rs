@@ -163,7 +163,13 @@ fn draw_types(random: &mut Random) -> Vec<Vec<(usize, Type)>> {
             with_children.push(ty);
         }
     }
-    groups.extend((0..4).map(|value_kind| vec![(number(), Type::Attribute { value_kind })]));
+    groups.extend(other_types(number));
+    groups
+}
+
+/// Groups of attribute and link types, with the numbers that come next.
+pub fn other_types(mut number: impl FnMut() -> usize) -> Vec<Vec<(usize, Type)>> {
+    let mut groups: Vec<_> = (0..4).map(|value_kind| vec![(number(), Type::Attribute { value_kind })]).collect();
     groups.push(vec![(number(), Type::Link { category: DESIGNATION, reverse: None })]);
     for _ in 0..2 {
         let (ty, reverse) = (number(), number());
@@ -174,7 +180,7 @@ fn draw_types(random: &mut Random) -> Vec<Vec<(usize, Type)>> {
 }
 
 /// An SDS that holds the types. It has no applications and ends, few or many.
-fn draw_sds(random: &mut Random, s: &Schema, sds: usize, held: &[usize]) -> Sds {
+pub fn draw_sds(random: &mut Random, s: &Schema, sds: usize, held: &[usize]) -> Sds {
     let mut here = Sds::named(format!("sds{sds}").as_bytes());
     let names = (0..held.len()).map(|n| Name::new(format!("type_{n:03}"))).collect();
     here.presences.extend(in_any_order(random, names).into_iter().zip(held.iter().copied()));

@@ -20,15 +20,22 @@ const DRAWN: usize = 10;
 const REMOVALS: usize = 20;
 const RESPELLINGS: usize = 40;
 
+/// What a question was answered, and its output afterwards.
+#[derive(Clone, Debug, PartialEq, Eq)]
+pub struct Told {
+    pub answer: [usize; 4],
+    pub output: Vec<u8>,
+}
+
 pub struct Run {
-    caller: Caller,
+    pub caller: Caller,
     /// The present base, which is sound, and its schema.
     base: Vec<u8>,
     pub schema: Schema,
     /// Without one the keeper's own answers are checked, and that is all.
     library: Option<Box<dyn Library>>,
     /// Where the run is, in words.
-    place: String,
+    pub place: String,
     pub counts: Counts,
 }
 
@@ -130,7 +137,7 @@ impl Run {
     }
 
     /// A schema that is drawn takes the place of the present one.
-    fn draw(&mut self, draw: fn(&mut Random) -> Schema) -> Result<(), String> {
+    pub fn draw(&mut self, draw: fn(&mut Random) -> Schema) -> Result<(), String> {
         self.schema = draw(&mut self.caller.random);
         self.base = to_bytes(&self.schema);
         self.check_base()
@@ -148,6 +155,35 @@ impl Run {
         self.counts.remove(&self.schema, call, answer);
         self.base = after.base;
         Ok(answer)
+    }
+
+    /// A question about the present base, with this output lent.
+    pub fn ask(&mut self, call: &Call, output: &[u8]) -> Result<Told, String> {
+        let told = self.told(call, output);
+        self.expect(call, output, &told)?;
+        Ok(told)
+    }
+
+    /// A question whose answer a law knows: the keeper and the library are held to that.
+    pub fn hold(&mut self, call: &Call, output: &[u8], known: &Told) -> Result<(), String> {
+        if self.told(call, output) != *known {
+            let answer = known.answer;
+            return Err(format!("{}: keeper breaks the law, which gives {answer:?}: {call:?}", self.place));
+        }
+        self.expect(call, output, known)
+    }
+
+    /// What the keeper answers; a question leaves the base alone.
+    fn told(&mut self, call: &Call, output: &[u8]) -> Told {
+        let mut output = output.to_vec();
+        let answer = apply_to(&mut self.schema, &mut [], &mut output, call);
+        Told { answer, output }
+    }
+
+    fn expect(&mut self, call: &Call, output: &[u8], Told { answer, output: after }: &Told) -> Result<(), String> {
+        let [before, after] =
+            [output, after].map(|output| Lent { base: self.base.clone(), output: output.to_vec() });
+        self.compare(call, &before, *answer, &after)
     }
 
     /// A call on the present base spoiled, which tells whether that is sound; the present base stays.
@@ -184,8 +220,13 @@ impl Run {
     }
 
     fn lent(&mut self, base: Vec<u8>, call: &Call) -> Lent {
+        Lent { base, output: self.output(call) }
+    }
+
+    /// An output for the call, of any bytes.
+    pub fn output(&mut self, call: &Call) -> Vec<u8> {
         let length = self.caller.output(&self.schema, call);
-        Lent { base, output: self.caller.random.bytes(length) }
+        self.caller.random.bytes(length)
     }
 
     /// The keeper's answer and what it left are checked, and compared with the library's.

@@ -178,6 +178,11 @@ impl Schema {
         Schema { sdss: BTreeMap::from([(0, system)]), types: BTreeMap::from([(0, object)]) }
     }
 
+    /// The used SDSs, as a list has them.
+    pub fn used(&self) -> Vec<u8> {
+        self.sdss.keys().map(|&sds| sds as u8).collect()
+    }
+
     pub fn is_object(&self, ty: usize) -> bool {
         matches!(self.types.get(&ty), Some(Type::Object { .. }))
     }

@@ -50,15 +50,21 @@ fn diamonds(random: &mut Random) -> Schema {
 /// Each type in an SDS of its own choice, and in half of those that hold its parents too.
 fn held_by_one(random: &mut Random) -> Schema {
     let sdss = 2 + random.below(Schema::SDSS - 2);
+    let numbers = some_numbers(random);
+    spread(random, sdss, &numbers).schema(random)
+}
+
+/// The same with these types, before the SDSs have numbers and the types names.
+pub fn spread(random: &mut Random, sdss: usize, numbers: &[usize]) -> Drawn {
     let mut drawn = Drawn::new(sdss, 2);
-    for ty in some_numbers(random) {
+    for &ty in numbers {
         // Room for this type and a link type in every SDS.
         if 1 + drawn.held.concat().len() + 2 * sdss <= Schema::PRESENCES {
             let sds = random.below(sdss);
             drawn.add(random, ty, sds, nearest(&drawn.held[sds], 8), 1);
         }
     }
-    drawn.schema(random)
+    drawn
 }
 
 /// Numbers of types in no order; some are left.
@@ -83,10 +89,10 @@ pub fn in_any_order<T>(random: &mut Random, rising: Vec<T>) -> Vec<T> {
 }
 
 /// A schema on its way.
-struct Drawn {
-    types: Vec<(usize, Type)>,
+pub struct Drawn {
+    pub types: Vec<(usize, Type)>,
     /// What each SDS but SDS 0 holds, no type before its parents.
-    held: Vec<Vec<usize>>,
+    pub held: Vec<Vec<usize>>,
     /// An SDS that holds a type's parents lacks it one time in so many.
     lacking: usize,
 }
@@ -101,13 +107,18 @@ impl Drawn {
     fn add(&mut self, random: &mut Random, ty: usize, sds: usize, above: Vec<usize>, least: usize) {
         let count = least + random.below(Schema::PARENTS + 1 - least);
         let parents: BTreeSet<usize> = random.shuffled(above).into_iter().take(count).collect();
+        self.put(random, sds, &parents.clone(), vec![(ty, Type::Object { parents })]);
+    }
+
+    /// Types that are present together, in the SDS, and if may be in others that hold all that is above them.
+    pub fn put(&mut self, random: &mut Random, sds: usize, above: &BTreeSet<usize>, group: Vec<(usize, Type)>) {
         for (other, held) in self.held.iter_mut().enumerate() {
-            let may_hold = parents.iter().all(|parent| held.contains(parent));
+            let may_hold = above.iter().all(|parent| held.contains(parent));
             if other == sds || may_hold && !random.one_in(self.lacking) {
-                held.push(ty);
+                held.extend(group.iter().map(|(ty, _)| ty));
             }
         }
-        self.types.push((ty, Type::Object { parents }));
+        self.types.extend(group);
     }
 
     /// The SDSs have any numbers, and the presences of each any order of names, which is that of the rows.
@@ -145,7 +156,7 @@ pub fn visible(s: &Schema, list: &[u8]) -> BTreeSet<usize> {
 
 /// A question about descent under some of the SDSs, mostly about a visible type: type 0, one right below it, or any.
 pub fn question(random: &mut Random, s: &Schema) -> Call {
-    let mut schema = random.shuffled(s.sdss.keys().map(|&sds| sds as u8).collect());
+    let mut schema = random.shuffled(s.used());
     schema.truncate(1 + random.below(schema.len()));
     let types: Vec<usize> = match random.below(16) {
         0 => s.types.keys().copied().collect(),

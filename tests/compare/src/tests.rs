@@ -6,6 +6,7 @@ use crate::base::{from_bytes, is_sound, to_bytes, APPLICATIONS, ENDS, LENGTH, PR
 use crate::calls::{apply as keep, Call, CALLS, TELLING};
 use crate::cases::printed;
 use crate::coverage::Counts;
+use crate::joins;
 use crate::random::{free_places, Mode, Random};
 use crate::removals::{self, traits};
 use crate::run::Run;
@@ -1058,6 +1059,28 @@ fn find_takes_the_first_listed() {
     assert_eq!(lent.number(&find(&[2, 2], "low")), 6);
 }
 
+/// Attribute-all under a join gives more than under the two lists apart (02, Q-10): the one SDS holds the type and its
+/// parent, the other the parent with what is applied to it.
+#[test]
+fn attribute_all_of_a_join() {
+    let mut lent = two_sdss();
+    for call in [
+        new_object(1, "base", "object"),
+        new_object(1, "unit", "base"),
+        import(2, 1, "base", "", ""),
+        new_attribute(2, "mass", 3),
+        apply(2, "mass", "base"),
+    ] {
+        lent.done(&call);
+    }
+    let (unit, mass) = (2, 3);
+    assert_eq!(lent.list(&scan_object(&[1], unit, 5)), ([0; 3], vec![]));
+    assert_eq!(lent.number(&scan_object(&[2], unit, 5)), 6);
+    for join in [[1, 2], [2, 1]] {
+        assert_eq!(lent.list(&scan_object(&join, unit, 5)), ([1, 0, 0], vec![mass]));
+    }
+}
+
 /// With all SDSs listed each is done, with none it is 6, and nothing is put down.
 #[test]
 fn empty_list_shows_nothing() {
@@ -1125,7 +1148,7 @@ fn which_names_are_the_same() {
 #[test]
 fn every_drawn_schema_is_sound() {
     let mut random = Random::new(1);
-    for draw in [removals::draw, spellings::draw] {
+    for draw in [removals::draw, spellings::draw, joins::draw] {
         for s in (0..200).map(|_| draw(&mut random)) {
             assert!(is_sound(&to_bytes(&s)));
         }

@@ -1,8 +1,9 @@
 /* A keeper of schema definition sets (SDSs) over one lent base of bytes.
  *
  * Every function takes every input, a base with spoiled bytes included, and ends in an answer or a numbered refusal. A
- * refusal leaves all that was lent byte for byte as it was. Where several numbers would apply, the lowest is told.
- * Numbers are tested at their full width. Nothing is kept between calls, and nothing is allocated.
+ * refusal leaves all that was lent byte for byte as it was. Where several numbers would apply, the first of them is told,
+ * in the order 1 to 5, 19, 6 to 12, 16, 17, 18, 13, 14, 15. Numbers are tested at their full width. Nothing is kept
+ * between calls, and nothing is allocated.
  *
  * What the host owes. A pointer of a length above 0 points to so many bytes; one of length 0 may be NULL. None needs to
  * be aligned. What a call may write, a base or an output, overlaps nothing else that is lent, and no other thread reads
@@ -22,10 +23,10 @@
 #include <stddef.h>
 #include <stdint.h>
 
-#define CF_VERSION "0.4.1"
+#define CF_VERSION "0.5.0"
 
 /* What a base has room for, and its length in bytes. tests/c/test.c holds these to the library. */
-#define CF_BASE_LENGTH 13312
+#define CF_BASE_LENGTH 14336
 #define CF_SDSS 16
 #define CF_TYPES 128
 #define CF_PRESENCES 512
@@ -33,6 +34,17 @@
 #define CF_ENDS 512
 #define CF_PARENTS 4
 #define CF_NAME_LENGTH 16
+
+/* What may be done through an SDS with a type that it holds. A set of modes is the sum of those in it, so 0 is the empty
+ * one. The keeper keeps and tells two sets for each type in an SDS, usage and definition; they bar no call of its own. */
+enum cf_mode {
+    CF_CREATE = 1,
+    CF_DELETE = 2,
+    CF_READ = 4,
+    CF_WRITE = 8,
+    CF_NAVIGATE = 16,
+    CF_ALL_MODES = 31
+};
 
 /* So many bytes of output are enough for every call: an entry has two, a list has each type once, and the three lists
  * of a profile are of three kinds of types. */
@@ -59,7 +71,8 @@ enum cf_no {
     CF_OUTPUT_SHORT = 15,   /* the output has too little room */
     CF_HAS_CHILD = 16,      /* the type has a child there; one: the lowest */
     CF_APPLIED = 17,        /* the type is applied or has anything applied to it there; one: the lowest of these */
-    CF_HAS_END = 18         /* the type is or has an end there; one: the lowest of these */
+    CF_HAS_END = 18,        /* the type is or has an end there; one: the lowest of these */
+    CF_UNKNOWN_MODE = 19    /* a set of modes has one that is none of the five */
 };
 
 /* `no` is a number of the above; then the values that the call gives, in order. All others are 0. A refusal gives no
@@ -95,6 +108,7 @@ static inline const char *cf_words(size_t no)
     case CF_HAS_CHILD: return "the type has a child there";
     case CF_APPLIED: return "the type is applied or has anything applied to it there";
     case CF_HAS_END: return "the type is or has an end there";
+    case CF_UNKNOWN_MODE: return "a mode is unknown";
     default: return "no such number";
     }
 }
@@ -204,6 +218,14 @@ cf_answer cf_remove_type(uint8_t *base, size_t base_len, size_t sds, const uint8
 cf_answer cf_rename(uint8_t *base, size_t base_len, size_t sds, const uint8_t *name, size_t name_len,
                     const uint8_t *new_name, size_t new_name_len);
 
+/* Sets the two sets of modes of a type in an SDS, by its local name there; of a link type those of its reverse too. Each
+ * is a sum of enum cf_mode, and may be empty. A type has all five of both where it is made or imported; a rename keeps
+ * what it has.
+ * 1: the base is not sound; 2: no SDS has the number; 3: it is SDS 0; 4: the name is malformed; 19: a set is over 31;
+ * 6: no type bears the name there. */
+cf_answer cf_set_modes(uint8_t *base, size_t base_len, size_t sds, const uint8_t *name, size_t name_len, size_t usage,
+                       size_t definition);
+
 /* Where the local name of a type in an SDS stands. one: its start in the base; two: its length. A later change of the
  * base may move it, and it lies in the base: copy it before it is handed to a call that changes that base.
  * 1: the base is not sound; 2: no SDS has the number; 6: the type is not in that SDS. */
@@ -261,6 +283,10 @@ cf_answer cf_depth(const uint8_t *base, size_t base_len, const uint8_t *schema, 
  * SDS is listed twice. */
 cf_answer cf_descendant_set(const uint8_t *base, size_t base_len, const uint8_t *schema, size_t schema_len,
                             size_t type);
+
+/* The modes of a type of any kind: those that it has in any of the listed SDSs that hold it. one: usage; two: definition.
+ * 1: the base is not sound; 2: no SDS has a number listed; 6: the type is not visible; 8: an SDS is listed twice. */
+cf_answer cf_modes(const uint8_t *base, size_t base_len, const uint8_t *schema, size_t schema_len, size_t type);
 
 #ifdef __cplusplus
 }

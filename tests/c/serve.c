@@ -43,13 +43,15 @@ struct lent {
     CALL(remove_destination, BASE, NUMBER(0), TEXT(0), TEXT(1)) \
     CALL(remove_type, BASE, NUMBER(0), TEXT(0)) \
     CALL(rename, BASE, NUMBER(0), TEXT(0), TEXT(1)) \
+    CALL(set_modes, BASE, NUMBER(0), TEXT(0), NUMBER(1), NUMBER(2)) \
     CALL(name, BASE, NUMBER(0), NUMBER(1)) \
     CALL(scan_object, BASE, TEXT(0), NUMBER(0), NUMBER(1), OUTPUT) \
     CALL(scan_link, BASE, TEXT(0), NUMBER(0), NUMBER(1), OUTPUT) \
     CALL(profile, BASE, TEXT(0), NUMBER(0), OUTPUT) \
     CALL(find, BASE, TEXT(0), TEXT(1)) \
     CALL(depth, BASE, TEXT(0), NUMBER(0)) \
-    CALL(descendant_set, BASE, TEXT(0), NUMBER(0))
+    CALL(descendant_set, BASE, TEXT(0), NUMBER(0)) \
+    CALL(modes, BASE, TEXT(0), NUMBER(0))
 
 #ifdef ANSWER_BY_POINTER
 /* The library's x86-64 module compiled for another machine (tests/native): there as on x86-64 the caller hands over

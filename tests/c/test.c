@@ -77,6 +77,7 @@ static cf_answer name(size_t sds, size_t type) { return cf_name(base, LENGTH, sd
 #define REMOVE_DESTINATION(sds, link, object) cf_remove_destination(base, LENGTH, sds, TEXT(link), TEXT(object))
 #define ADD_DESTINATION(sds, link, object) cf_add_destination(base, LENGTH, sds, TEXT(link), TEXT(object))
 #define RENAME(sds, name, new_name) cf_rename(base, LENGTH, sds, TEXT(name), TEXT(new_name))
+#define SET_MODES(sds, name, usage, definition) cf_set_modes(base, LENGTH, sds, TEXT(name), usage, definition)
 
 /* The asking calls; a working schema is a string of bytes, written as SCHEMA("\1\2"). The output's length is the one
  * that is set before. */
@@ -89,6 +90,7 @@ static size_t output_length;
 #define FIND(sdss, name) cf_find(base, LENGTH, SCHEMA(sdss), TEXT(name))
 #define DEPTH(sdss, type) cf_depth(base, LENGTH, SCHEMA(sdss), type)
 #define DESCENDANT_SET(sdss, type) cf_descendant_set(base, LENGTH, SCHEMA(sdss), type)
+#define MODES(sdss, type) cf_modes(base, LENGTH, SCHEMA(sdss), type)
 
 /* Whether the call, done, has put down the types, a byte each in the string, and nothing beyond. */
 static int is_put_down(const char *types, size_t count)
@@ -126,9 +128,9 @@ static void begin(const char *first, const char *second)
     fresh();
     new_sds(first);
     new_sds(second);
-    next.presence = base + 1280 + 18;
-    next.application = base + 10496;
-    next.end = base + 11264;
+    next.presence = base + 1280 + 20;
+    next.application = base + 11520;
+    next.end = base + 12288;
 }
 
 /* kind, value kind or category, reverse, number of parents, parents */
@@ -141,7 +143,8 @@ static void put_presence(uint8_t sds, const char *name, uint8_t type)
     next.presence[0] = sds;
     memcpy(next.presence + 1, name, strlen(name));
     next.presence[17] = type;
-    next.presence += 18;
+    next.presence[18] = next.presence[19] = CF_ALL_MODES;
+    next.presence += 20;
 }
 
 /* The auditor's case: fifo and fifo2 are both of template and radio. */
@@ -595,7 +598,7 @@ static void rows_by_lowered_names(void)
     for (size_t type = 1; type <= NAMED; type++) {
         const char *spelling = by_lowered[type - 1];
         ANSWERS(FIND("\1", spelling), 0, type, 0, 0);
-        ANSWERS(name(1, type), 0, 1281 + 18 * type, strlen(spelling), 0);
+        ANSWERS(name(1, type), 0, 1281 + 20 * type, strlen(spelling), 0);
     }
     EXPECT(is_kept());
     /* One schema has one base. */
@@ -624,7 +627,7 @@ static void spellings_spoiled(void)
 {
     /* where the name of SDS n, and that of the presence in row n, stands */
 #define SDS(n) (16 * (n))
-#define ROW(n) (1281 + 18 * (n))
+#define ROW(n) (1281 + 20 * (n))
     EXPECT(is_sound_with(ROW(1), "A"));
     EXPECT(is_sound_with(ROW(6), "ab"));
     EXPECT(is_sound_with(SDS(1), "ONE"));
@@ -706,6 +709,147 @@ static void what_holds_an_sds(void)
     EXPECT(is_guarded());
 }
 
+/* What is made or imported has all five modes; what is set is set in one SDS, of a pair for both (02, Q-2). */
+static void modes_are_set(void)
+{
+    a_base_with_links();
+    ANSWERS(MODES("\0", 0), 0, 31, 31, 0);
+    ANSWERS(MODES("\1", FIVE), 0, 31, 31, 0);
+    EXPECT(CF_ALL_MODES == (CF_CREATE | CF_DELETE | CF_READ | CF_WRITE | CF_NAVIGATE));
+    ANSWERS(SET_MODES(1, "top", 31, 31), 0, 0, 0, 0);
+    EXPECT(is_kept());
+    ANSWERS(SET_MODES(1, "TOP", CF_CREATE | CF_READ, CF_NAVIGATE), 0, 0, 0, 0);
+    ANSWERS(SET_MODES(1, "five", 0, 0), 0, 0, 0, 0);
+    ANSWERS(SET_MODES(1, "nine", 0, 31), 0, 0, 0, 0);
+    ANSWERS(MODES("\1", TOP), 0, 5, 16, 0);
+    ANSWERS(MODES("\2", TOP), 0, 31, 31, 0);
+    ANSWERS(MODES("\1", FIVE), 0, 0, 0, 0);
+    ANSWERS(MODES("\1", NINE), 0, 0, 31, 0);
+    ANSWERS(MODES("\1", LEFT), 0, 31, 31, 0);
+    /* a pair by the one name, and by the other */
+    ANSWERS(SET_MODES(1, "seven", 3, 4), 0, 0, 0, 0);
+    ANSWERS(MODES("\1", SEVEN), 0, 3, 4, 0);
+    ANSWERS(MODES("\1", EIGHT), 0, 3, 4, 0);
+    ANSWERS(SET_MODES(2, "eight", 8, 20), 0, 0, 0, 0);
+    ANSWERS(MODES("\2", SEVEN), 0, 8, 20, 0);
+    ANSWERS(MODES("\2", EIGHT), 0, 8, 20, 0);
+    ANSWERS(MODES("\1", EIGHT), 0, 3, 4, 0);
+    /* the union, in any order, with SDSs that lack the type too */
+    ANSWERS(MODES("\1\2", SEVEN), 0, 11, 20, 0);
+    ANSWERS(MODES("\2\0\1", EIGHT), 0, 11, 20, 0);
+    ANSWERS(MODES("\2\1", NINE), 0, 0, 31, 0);
+    /* bytes 18 and 19 of a row, and no others */
+    ANSWERS(SET_MODES(1, "eight", 31, 31), 0, 0, 0, 0);
+    ANSWERS(SET_MODES(2, "seven", 31, 31), 0, 0, 0, 0);
+    ANSWERS(SET_MODES(1, "five", 31, 31), 0, 0, 0, 0);
+    ANSWERS(SET_MODES(1, "nine", 31, 31), 0, 0, 0, 0);
+    uint8_t *row = before + name(1, TOP).one - 1;
+    row[18] = 5;
+    row[19] = 16;
+    EXPECT(is_kept());
+    EXPECT(is_guarded());
+}
+
+/* Each set on both sides of 31, and at full width; 19 is tried after 4 and before 6. */
+static void modes_refused(void)
+{
+    static const size_t over[] = {32, 63, 255, 256, 256 + 1, 65536, ((size_t)1 << 32) + 1, SIZE_MAX};
+    a_base_with_links();
+    ANSWERS(SET_MODES(3, "", 32, 32), 2, 0, 0, 0);
+    ANSWERS(SET_MODES(256 + 1, "top", 1, 1), 2, 0, 0, 0);
+    ANSWERS(SET_MODES(((size_t)1 << 32) + 1, "top", 1, 1), 2, 0, 0, 0);
+    ANSWERS(SET_MODES(0, "", 32, 32), 3, 0, 0, 0);
+    ANSWERS(SET_MODES(0, "object", 31, 31), 3, 0, 0, 0);
+    ANSWERS(SET_MODES(1, "", 32, 32), 4, 0, 0, 0);
+    ANSWERS(SET_MODES(1, "1top", 31, 31), 4, 0, 0, 0);
+    for (size_t n = 0; n < sizeof over / sizeof *over; n++) {
+        ANSWERS(SET_MODES(1, "top", over[n], 31), 19, 0, 0, 0);
+        ANSWERS(SET_MODES(1, "top", 31, over[n]), 19, 0, 0, 0);
+        ANSWERS(SET_MODES(1, "none", over[n], over[n]), 19, 0, 0, 0);
+    }
+    ANSWERS(SET_MODES(1, "none", 31, 31), 6, 0, 0, 0);
+    ANSWERS(SET_MODES(2, "low", 0, 0), 6, 0, 0, 0);
+    ANSWERS(MODES("\1\1\3", 128), 2, 0, 0, 0);
+    ANSWERS(MODES("\1\1", 128), 6, 0, 0, 0);
+    ANSWERS(MODES("\2\2", LOW), 6, 0, 0, 0);
+    ANSWERS(MODES("", TOP), 6, 0, 0, 0);
+    ANSWERS(MODES("\1\2\1", LOW), 8, 0, 0, 0);
+    ANSWERS(MODES("\1", 256 + TOP), 6, 0, 0, 0);
+    ANSWERS(MODES("\1", ((size_t)1 << 32) + TOP), 6, 0, 0, 0);
+    EXPECT(is_kept());
+    EXPECT(is_guarded());
+}
+
+/* A rename keeps what was; an import has all five, whatever the source has, and so it has where a type was before. */
+static void modes_kept_and_given(void)
+{
+    begin("one", "two");
+    IMPORT(1, 0, "object", "", "");
+    NEW_OBJECT(1, "unit", "object");
+    NEW_PAIR(1, "has", "of", 0, 3);
+    ANSWERS(SET_MODES(1, "unit", 1, 2), 0, 0, 0, 0);
+    ANSWERS(SET_MODES(1, "of", 4, 8), 0, 0, 0, 0);
+    ANSWERS(SET_MODES(1, "object", 0, 0), 0, 0, 0, 0);
+    ANSWERS(RENAME(1, "unit", "Aunit"), 0, 0, 0, 0);
+    ANSWERS(RENAME(1, "has", "zone"), 0, 0, 0, 0);
+    ANSWERS(RENAME(1, "object", "OBJECT"), 0, 0, 0, 0);
+    ANSWERS(MODES("\1", 1), 0, 1, 2, 0);
+    ANSWERS(MODES("\1", 2), 0, 4, 8, 0);
+    ANSWERS(MODES("\1", 3), 0, 4, 8, 0);
+    ANSWERS(MODES("\1", 0), 0, 0, 0, 0);
+    ANSWERS(IMPORT(2, 1, "object", "", ""), 0, 0, 0, 0);
+    ANSWERS(IMPORT(2, 1, "aunit", "", ""), 0, 1, 0, 0);
+    ANSWERS(IMPORT(2, 1, "of", "", ""), 0, 3, 2, 0);
+    for (size_t type = 0; type < 4; type++)
+        ANSWERS(MODES("\2", type), 0, 31, 31, 0);
+    ANSWERS(MODES("\1", 2), 0, 4, 8, 0);
+    ANSWERS(REMOVE_TYPE(1, "zone"), 0, 2, 0, 0);
+    ANSWERS(IMPORT(1, 2, "zone", "", ""), 0, 2, 3, 0);
+    ANSWERS(MODES("\1", 2), 0, 31, 31, 0);
+    ANSWERS(MODES("\1", 3), 0, 31, 31, 0);
+    ANSWERS(MODES("\1", 1), 0, 1, 2, 0);
+    EXPECT(is_guarded());
+}
+
+/* Whether the base with links is sound with other modes in the rows of two types in an SDS. */
+static int is_sound_with_modes(size_t sds, size_t type, const char *modes, size_t other, const char *others)
+{
+    a_base_with_links();
+    size_t row = name(sds, type).one + 17, other_row = name(sds, other).one + 17;
+    memcpy(base + row, modes, 2);
+    memcpy(base + other_row, others, 2);
+    keep();
+    cf_answer found = MODES("\0", 0);
+    EXPECT(same(found, (cf_answer){0, 31, 31, 0}) || same(found, (cf_answer){1, 0, 0, 0}));
+    EXPECT(is_kept());
+    return found.no == 0;
+}
+
+static void modes_spoiled(void)
+{
+    EXPECT(is_sound_with_modes(1, TOP, "\0\0", FIVE, "\1\2"));
+    EXPECT(is_sound_with_modes(1, NINE, "\x1f\0", LOW, "\0\x1f"));
+    EXPECT(!is_sound_with_modes(1, TOP, "\x20\0", FIVE, "\1\2"));
+    EXPECT(!is_sound_with_modes(1, TOP, "\0\x20", FIVE, "\1\2"));
+    EXPECT(!is_sound_with_modes(1, NINE, "\xff\0", LOW, "\0\0"));
+    EXPECT(!is_sound_with_modes(0, 0, "\x1e\x1f", 0, "\x1e\x1f"));
+    EXPECT(!is_sound_with_modes(0, 0, "\x1f\0", 0, "\x1f\0"));
+    /* a pair alike, and otherwise, in each SDS that has it */
+    for (size_t sds = 1; sds < 3; sds++) {
+        EXPECT(is_sound_with_modes(sds, SEVEN, "\5\6", EIGHT, "\5\6"));
+        EXPECT(!is_sound_with_modes(sds, SEVEN, "\5\6", EIGHT, "\6\5"));
+        EXPECT(!is_sound_with_modes(sds, SEVEN, "\x1f\x1f", EIGHT, "\x1f\xf"));
+        EXPECT(!is_sound_with_modes(sds, SEVEN, "\x1e\x1f", EIGHT, "\x1f\x1f"));
+        EXPECT(!is_sound_with_modes(sds, SEVEN, "\x20\1", EIGHT, "\x20\1"));
+    }
+    /* a row that is not used */
+    a_base_with_links();
+    next.presence[18] = 1;
+    ANSWERS(MODES("\1", TOP), 1, 0, 0, 0);
+    ANSWERS(SET_MODES(1, "top", 1, 1), 1, 0, 0, 0);
+    EXPECT(is_guarded());
+}
+
 static void a_spoiled_base(void)
 {
     fresh();
@@ -714,6 +858,7 @@ static void a_spoiled_base(void)
     ANSWERS(new_sds("bus"), 1, 0, 0, 0);
     ANSWERS(remove_sds(16), 1, 0, 0, 0);
     ANSWERS(RENAME(0, "object", "object"), 1, 0, 0, 0);
+    ANSWERS(SET_MODES(16, "", 32, 32), 1, 0, 0, 0);
     ANSWERS(name(0, 0), 1, 0, 0, 0);
     EXPECT(is_kept());
     ANSWERS(fresh(), 0, 0, 0, 0);
@@ -959,12 +1104,12 @@ static void the_limits(void)
 /* Each number has words of its own. */
 static void words_for_numbers(void)
 {
-    for (size_t no = 0; no <= CF_HAS_END; no++) {
+    for (size_t no = 0; no <= CF_UNKNOWN_MODE; no++) {
         EXPECT(strcmp(cf_words(no), "no such number") != 0);
         for (size_t other = 0; other < no; other++)
             EXPECT(strcmp(cf_words(no), cf_words(other)) != 0);
     }
-    EXPECT(strcmp(cf_words(CF_HAS_END + 1), "no such number") == 0);
+    EXPECT(strcmp(cf_words(CF_UNKNOWN_MODE + 1), "no such number") == 0);
     EXPECT(strcmp(cf_words(SIZE_MAX), "no such number") == 0);
 }
 
@@ -1010,6 +1155,7 @@ static void null_with_length_0(void)
     ALIKE(cf_remove_destination(room, 0, 1, TEXT("nine"), TEXT("top")));
     ALIKE(cf_remove_type(room, 0, 1, TEXT("six")));
     ALIKE(cf_rename(room, 0, 1, TEXT("six"), TEXT("ten")));
+    ALIKE(cf_set_modes(room, 0, 1, TEXT("six"), 1, 2));
     ALIKE(cf_name(none, 0, 1, TOP));
     ALIKE(cf_scan_object(none, 0, SCHEMA("\1"), TOP, 0, output, OUTPUT));
     ALIKE(cf_scan_link(none, 0, SCHEMA("\1"), NINE, 0, output, OUTPUT));
@@ -1017,6 +1163,7 @@ static void null_with_length_0(void)
     ALIKE(cf_find(none, 0, SCHEMA("\1"), TEXT("top")));
     ALIKE(cf_depth(none, 0, SCHEMA("\1"), TOP));
     ALIKE(cf_descendant_set(none, 0, SCHEMA("\1"), TOP));
+    ALIKE(cf_modes(none, 0, SCHEMA("\1"), TOP));
 
     ALIKE(cf_new_sds(base, LENGTH, none, 0));
     ALIKE(cf_new_object(base, LENGTH, 1, none, 0, TEXT("top")));
@@ -1044,6 +1191,7 @@ static void null_with_length_0(void)
     ALIKE(cf_remove_type(base, LENGTH, 1, none, 0));
     ALIKE(cf_rename(base, LENGTH, 1, none, 0, TEXT("ten")));
     ALIKE(cf_rename(base, LENGTH, 1, TEXT("six"), none, 0));
+    ALIKE(cf_set_modes(base, LENGTH, 1, none, 0, 1, 2));
     ALIKE(cf_find(base, LENGTH, SCHEMA("\1"), none, 0));
 
     /* an empty list of SDSs; and an output of length 0, for lists that have entries and for one that has none */
@@ -1059,6 +1207,7 @@ static void null_with_length_0(void)
     ALIKE(cf_find(base, LENGTH, none, 0, TEXT("top")));
     ALIKE(cf_depth(base, LENGTH, none, 0, TOP));
     ALIKE(cf_descendant_set(base, LENGTH, none, 0, TOP));
+    ALIKE(cf_modes(base, LENGTH, none, 0, TOP));
     EXPECT(is_guarded());
 }
 
@@ -1075,6 +1224,7 @@ static void a_spoiled_base_asked(void)
     ANSWERS(FIND("\1", "low"), 1, 0, 0, 0);
     ANSWERS(DEPTH("\1", LOW), 1, 0, 0, 0);
     ANSWERS(DESCENDANT_SET("\1", LOW), 1, 0, 0, 0);
+    ANSWERS(MODES("\x10", LOW), 1, 0, 0, 0);
     EXPECT(is_kept() && is_guarded());
 }
 
@@ -1099,6 +1249,10 @@ int main(void)
     spellings_spoiled();
     what_holds_a_type();
     what_holds_an_sds();
+    modes_are_set();
+    modes_refused();
+    modes_kept_and_given();
+    modes_spoiled();
     a_spoiled_base();
     a_fresh_base_asked();
     every_descendant();

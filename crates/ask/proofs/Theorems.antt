@@ -11,9 +11,9 @@ use lib.Count.{ones}
 use lib.Dec.{ltb, eqb}
 use lib.ListN.{length, drop}
 use Rattle.rules.specs.declared.Answer.{Answer}
-use Rattle.rules.specs.01-Lists.{_∈_, all, rising}
+use Rattle.rules.specs.01-Lists.{_∈_, all, among, rising}
 use Rattle.rules.specs.03-Names.{Name}
-use Rattle.rules.specs.04-Schema.{Schema, kind-of, is-object}
+use Rattle.rules.specs.04-Schema.{Schema, has-mode, kind-of, is-object}
 use Rattle.rules.specs.05-Descent.{Descends, Chain, depth, members}
 use Rattle.rules.specs.06-Good.{Good}
 use Rattle.rules.specs.07-Picture.{picture}
@@ -21,7 +21,7 @@ use Rattle.rules.specs.08-Working.{visible, descendant}
 use Rattle.rules.specs.09-Refusals.{Outcome, Refusals, verdict, answer-of, refusal, success, not-visible, no-object}
 use Rattle.rules.specs.09-Refusals.Outcome.{done}
 use Rattle.rules.specs.11-Asks.{object-scan-list, scan-object, scan-object-refusals, object-refusals, find, depth-of, marks}
-use Rattle.rules.specs.11-Asks.{visible-descendant, descendant-set}
+use Rattle.rules.specs.11-Asks.{visible-descendant, descendant-set, modes-under, modes-refusals, modes-of}
 use Rattle.rules.specs.12-Contracts.{entries, room, output-after, Listed, Answered}
 use Rattle.rules.specs.13-History.{ask-rule}
 use Rattle.rules.proofs.Bools.{and-both}
@@ -31,6 +31,7 @@ use Rattle.rules.proofs.11-Asks.{set-counts-list, whole-list}
 use Rattle.rules.proofs.12-Contracts.{Same, listed-once, answered-once}
 use Rattle.rules.proofs.Joins.{visible-joined, scans, order-alters-no-scan, Used-once, halves, or-where-6, find-joined, depth-joined}
 use Rattle.rules.proofs.Joins.{union, scan-unseen, scan-done, scan-of-one, descendants-of-both, set-unseen, set-done, set-of-both, set-of-one}
+use Rattle.rules.proofs.Joins.{modes-joined, modes-unseen, modes-done, modes-of-one, longer-list}
 use Rattle.rules.proofs.Questions.{Question, under, unseen, empty-shows-nothing}
 use Rattle.type_set.proofs.Members.{ones-members}
 
@@ -80,6 +81,16 @@ module _ (b w : List ℕ) (t : ℕ) (s : Schema) (good : Good s) (shown : b ≡ 
       let e = answers .kept s good shown in
       let (passed, is) = done-passed _ (object-refusals w t s) refl (sym (ap (λ (x : Answer). x .no) e) ∙ done′) in
       (not-false (visible s w t) (passed .fails 6), passed .fails 7, e ∙ ap answer-of is)
+
+  -- ---- modes
+
+  modes-answer-is : {c : Answer} → Answered b (modes-of w t) c → c .no ≡ 0 → (visible s w t ≡ true)
+      × (c ≡ success (modes-under (λ p. p .usage) w t s) (modes-under (λ p. p .definition) w t s) 0)
+  unfolding modes-of all not-visible
+  modes-answer-is answers done′ =
+      let e = answers .kept s good shown in
+      let (passed, is) = done-passed _ (modes-refusals w t s) refl (sym (ap (λ (x : Answer). x .no) e) ∙ done′) in
+      (not-false (visible s w t) (passed .fails 6), e ∙ ap answer-of is)
 
   -- ---- the list of descendants: scan code 1
 
@@ -189,6 +200,14 @@ module _ (b : List ℕ) {v w : List ℕ} (turned : Perm v w) (q : Question) (sca
   order-alters-no-answer {a} keeps keeps′ = answered-once (subst (λ (rule : Schema → Outcome (List ℕ)). Answered b rule a) rules-same keeps) keeps′
 
 module _ (b : List ℕ) (s : Schema) (good : Good s) (shown : b ≡ picture s) (v w : List ℕ) (joined : Used-once s (v ++ w)) where
+  -- where the rule gives one outcome under the join, whichever list comes first, and under v
+  answers-of-one : (rule : List ℕ → Schema → Outcome (List ℕ)) → (rule (v ++ w) s ≡ rule v s) × (rule (w ++ v) s ≡ rule v s) → {a first : Answer}
+      → Answered b (rule v) first → (Answered b (rule (v ++ w)) a → a ≡ first) × (Answered b (rule (w ++ v)) a → a ≡ first)
+  answers-of-one rule e keeps₁ = (
+    λ keeps. keeps .kept s good shown ∙ ap answer-of (e .0) ∙ sym (keeps₁ .kept s good shown),
+    λ keeps. keeps .kept s good shown ∙ ap answer-of (e .1) ∙ sym (keeps₁ .kept s good shown),
+  )
+
   module _ {a first second : Answer} where
     answers-joined : (rule : List ℕ → Schema → Outcome (List ℕ)) → rule (v ++ w) s ≡ or-where-6 (rule v s) (rule w s)
         → Answered b (rule (v ++ w)) a → Answered b (rule v) first → Answered b (rule w) second → a ≡ cond (eqb (first .no) 6) second first
@@ -260,7 +279,35 @@ module _ (b : List ℕ) (s : Schema) (good : Good s) (shown : b ≡ picture s) (
         → (Answered b (descendant-set (v ++ w) t) a → a ≡ first) × (Answered b (descendant-set (w ++ v) t) a → a ≡ first)
     set-answers-of-one keeps₂ six keeps₁ =
         let unseen = set-unseen s (halves s v w joined .1) t (sym (ap (λ (x : Answer). x .no) (keeps₂ .kept s good shown)) ∙ six) in
-        let (front, behind) = set-of-one good v w t unseen joined in (
-          λ keeps. keeps .kept s good shown ∙ ap answer-of front ∙ sym (keeps₁ .kept s good shown),
-          λ keeps. keeps .kept s good shown ∙ ap answer-of behind ∙ sym (keeps₁ .kept s good shown),
-        )
+        answers-of-one (λ u. descendant-set u t) (set-of-one good v w t unseen joined) keeps₁
+
+    -- ---- modes (02, Q-2)
+
+    -- "the union over the listed SDSs" of both
+    pub modes-answers-of-both : {a first second : Answer} → Answered b (modes-of (v ++ w) t) a → Answered b (modes-of v t) first
+        → Answered b (modes-of w t) second → first .no ≡ 0 → second .no ≡ 0
+        → a ≡ success (bitOr (first .one) (second .one)) (bitOr (first .two) (second .two)) 0
+    modes-answers-of-both keeps keeps₁ keeps₂ done₁ done₂ =
+        let (seen, is₁) = modes-answer-is b v t s good shown keeps₁ done₁ in
+        let is₂ = modes-answer-is b w t s good shown keeps₂ done₂ .1 in
+        let usage = modes-joined s (λ p. p .usage) t v w ∙ (λ i. bitOr (sym is₁ i .one) (sym is₂ i .one)) in
+        let definition = modes-joined s (λ p. p .definition) t v w ∙ (λ i. bitOr (sym is₁ i .two) (sym is₂ i .two)) in
+        keeps .kept s good shown ∙ ap answer-of (modes-done s joined t (visible-joined s v w t ∙ rw seen)) ∙ (λ i. success (usage i) (definition i) 0)
+
+    pub modes-answers-of-one : {a first second : Answer} → Answered b (modes-of w t) second → second .no ≡ 6 → Answered b (modes-of v t) first
+        → (Answered b (modes-of (v ++ w) t) a → a ≡ first) × (Answered b (modes-of (w ++ v) t) a → a ≡ first)
+    modes-answers-of-one keeps₂ six keeps₁ =
+        let unseen = modes-unseen s (halves s v w joined .1) t (sym (ap (λ (x : Answer). x .no) (keeps₂ .kept s good shown)) ∙ six) in
+        answers-of-one (λ u. modes-of u t) (modes-of-one s v w t unseen joined) keeps₁
+
+-- "where both are done a longer list never takes a mode away": of any two lists of which the one has every SDS of the other
+module _ (b : List ℕ) (s : Schema) (good : Good s) (shown : b ≡ picture s) (t : ℕ) (v w : List ℕ) (more : (d : ℕ) → among v d ≡ true → among w d ≡ true) where
+  pub longer-list-answers : {first second : Answer} → Answered b (modes-of v t) first → Answered b (modes-of w t) second → first .no ≡ 0 → second .no ≡ 0
+      → (m : ℕ) → (has-mode (first .one) m ≡ true → has-mode (second .one) m ≡ true) × (has-mode (first .two) m ≡ true → has-mode (second .two) m ≡ true)
+  longer-list-answers keeps₁ keeps₂ done₁ done₂ m =
+      let is₁ = modes-answer-is b v t s good shown keeps₁ done₁ .1 in
+      let is₂ = modes-answer-is b w t s good shown keeps₂ done₂ .1 in (
+        λ e. ap (λ (x : Answer). has-mode (x .one) m) is₂ ∙ longer-list s (λ p. p .usage) t v w more m (ap (λ (x : Answer). has-mode (x .one) m) (sym is₁) ∙ e),
+        λ e. ap (λ (x : Answer). has-mode (x .two) m) is₂
+            ∙ longer-list s (λ p. p .definition) t v w more m (ap (λ (x : Answer). has-mode (x .two) m) (sym is₁) ∙ e),
+      )

@@ -2,7 +2,7 @@
 use base::Base;
 use rules::Answer;
 use rules::Limits;
-ghost use Rattle.rules.specs.11-Asks.{scan-object, scan-link, profile, find, depth-of, name, descendant-set};
+ghost use Rattle.rules.specs.11-Asks.{scan-object, scan-link, profile, find, depth-of, name, descendant-set, modes-of};
 ghost use Rattle.rules.specs.12-Contracts.{room, Listed, Answered, Handed};
 
 // The types that stand in one relation to an object type, by the code of the relation.
@@ -85,6 +85,27 @@ pub fn descendant_set(base: &[u8], schema: &[u8], t: usize) -> Answer
     }
     let set = ask_scans::scan::of_object(base, view.listed, t, 1);
     Answer::done(set.low as usize, set.high as usize, set.count())
+}
+
+// The modes of a type, usage and definition, joined over the listed SDSs that hold it.
+pub fn modes(base: &[u8], schema: &[u8], t: usize) -> Answer
+    ensures { λ r. ⌜ Answered (now (base .entry)) (modes-of (now (schema .entry)) t) r ⌝ }
+{
+    if !sound::is_sound(base) {
+        return Answer::refused(1);
+    }
+    if working::listed::has_unknown(base, schema) {
+        return Answer::refused(2);
+    }
+    let listed = working::listed::listed(schema);
+    if !visible::is_visible(base, listed, t) {
+        return Answer::refused(6);
+    }
+    if working::listed::has_repeated(schema) {
+        return Answer::refused(8);
+    }
+    let modes = visible::modes_in(base, listed, t);
+    Answer::done(modes.usage, modes.definition, 0)
 }
 
 // Where the local name of a type in an SDS starts in the base, and how long it is.

@@ -11,7 +11,7 @@ use Rattle.rules.specs.01-Lists.{_∈_}
 use Rattle.rules.specs.02-Limits.{limits}
 use Rattle.rules.specs.04-Schema.{Presence, Application, End, sds-name, kind-of}
 use Rattle.rules.specs.04-Schema.Kind.{unused, object, attribute, designation, paired}
-use Rattle.rules.specs.Read.{value-offset, reverse-offset, name-offset, type-offset, to-offset, attribute-offset, link-offset}
+use Rattle.rules.specs.Read.{value-offset, reverse-offset, name-offset, type-offset, usage-offset, definition-offset, to-offset, attribute-offset, link-offset}
 use Rattle.rules.specs.Read.{side-offset, object-offset, strip, read-kind, read-presence, read-application, read-side, read-end}
 use Rattle.rows.specs.Rows.{part}
 use Rattle.rows.proofs.Rows.{part-byte, part-part, length-rows, rows-at, rows-there, rows-in}
@@ -116,6 +116,8 @@ module _ (b : List ℕ) where
     sds = row-first presences b i (omega arith) j;
     name = strip (part-part b (presence-at i) (presences .width) name-offset (limits .name) (omega arith) j);
     type = row-byte presences b i type-offset (omega arith) j;
+    usage = row-byte presences b i usage-offset (omega arith) j;
+    definition = row-byte presences b i definition-offset (omega arith) j;
   }
 
   pub application-read : (i : ℕ) → shown applications b i ≡ application-shown b i

@@ -16,7 +16,7 @@ use Rattle.rules.specs.06-Good.{presence-before, application-before, end-before
 use Rattle.rules.specs.07-Picture.{pad, presence-row, application-row, end-row, type-table, presence-table, application-table, end-table, picture}
 use Rattle.rules.specs.02-Limits.{limits}
 use Rattle.rules.proofs.03-Names.{spelled-before, pad-before}
-use Rattle.rules.proofs.07-Picture.{length-pad, length-table, wide-sds, wide-type, wide-presence, wide-application, wide-end, presence-back}
+use Rattle.rules.proofs.07-Picture.{length-pad, length-table, wide-sds, wide-type, wide-presence, wide-application, wide-end, behind-name, presence-back}
 use Rattle.rules.proofs.07-Picture.{application-back, end-back}
 use Rattle.rows.specs.Order.{ranked, row-before}
 use Rattle.rows.specs.Table.{written}
@@ -99,11 +99,11 @@ last-byte x y = rw (and-false (eqb x y)) (or-false (ltb x y))
 
 -- what a presence is compared by
 presence-ranked : (p : Presence) → ranked (limits .name) (presence-row p)
-    ≡ p .sds ∷ (lowered (pad (limits .name) (p .name)) ++ (pad (limits .name) (p .name) ++ (p .type ∷ [])))
+    ≡ p .sds ∷ (lowered (pad (limits .name) (p .name)) ++ (pad (limits .name) (p .name) ++ behind-name p))
 unfolding presence-row
 presence-ranked p =
     let field = pad (limits .name) (p .name) in
-    let rest = p .type ∷ [] in
+    let rest = behind-name p in
     ap (λ (n : Name). p .sds ∷ (lowered n ++ (field ++ rest))) (take-at field rest (limits .name) (length-pad (limits .name) (p .name)))
 
 presence-order : (p q : Presence) → by-name .Fit p → by-name .Fit q
@@ -113,8 +113,8 @@ presence-order p q f g =
     let w = limits .name in
     ap₂ bytes-before (presence-ranked p) (presence-ranked q)
     ∙ ap (λ (t : Bool). ltb (p .sds) (q .sds) || (eqb (p .sds) (q .sds) && t))
-    (spelled-before (pad w (p .name)) (pad w (q .name)) (p .type ∷ []) (q .type ∷ []) (length-pad w (p .name) ∙ sym (length-pad w (q .name)))
-    ∙ rw (pad-before (p .name) (q .name) f g, pad-before (q .name) (p .name) g f, last-byte (p .type) (q .type)))
+    (spelled-before (pad w (p .name)) (pad w (q .name)) (behind-name p) (behind-name q) (length-pad w (p .name) ∙ sym (length-pad w (q .name)))
+    ∙ rw (pad-before (p .name) (q .name) f g, pad-before (q .name) (p .name) g f, last-byte (p .definition) (q .definition)))
 
 pub presences-sort : Sorts by-name
 unfolding presence-row

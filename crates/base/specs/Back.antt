@@ -7,7 +7,8 @@ use Rattle.rules.specs.02-Limits.{limits}
 use Rattle.rules.specs.03-Names.{Name}
 use Rattle.rules.specs.04-Schema.{Schema, Kind, Presence, Application, End}
 use Rattle.rules.specs.07-Picture.{base-length}
-use Rattle.rules.specs.Read.{name-offset, type-offset, to-offset, attribute-offset, link-offset, side-offset, object-offset, strip, read-side}
+use Rattle.rules.specs.Read.{name-offset, type-offset, usage-offset, definition-offset, to-offset, attribute-offset, link-offset, side-offset}
+use Rattle.rules.specs.Read.{object-offset, strip, read-side}
 use Rattle.rows.specs.Rows.{part}
 use Rattle.base.specs.Tables.{shown, used-rows, first-things, things, Written, Blank-from, sdss, types, presences, applications, ends}
 use Rattle.base.specs.Rows.{presence-at, application-at, end-at}
@@ -42,6 +43,8 @@ presence-shown b i = record {
   sds = getD b (presence-at i) 0;
   name = strip (part b (presence-at i + name-offset) (limits .name));
   type = getD b (presence-at i + type-offset) 0;
+  usage = getD b (presence-at i + usage-offset) 0;
+  definition = getD b (presence-at i + definition-offset) 0;
 }
 
 abbrev pub application-shown : List ℕ → ℕ → Application

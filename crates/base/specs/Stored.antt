@@ -3,9 +3,9 @@ use Prim.Native.Nat.{ℕ, suc, _-_, _≤_}
 use mathlib.Core.Path.{_≡_}
 use mathlib.Core.List.{List, _∷_, _++_}
 use mathlib.Core.Bool.{true}
-use lib.ListN.{length, take, drop, set}
+use lib.ListN.{length, getD, take, drop, set}
 use Rattle.rules.specs.01-Lists.{_∈_, rising}
-use Rattle.rules.specs.04-Schema.{Schema, Kind, with-types}
+use Rattle.rules.specs.04-Schema.{Schema, Kind, Modes, Presence, nowhere, with-modes, with-types}
 use Rattle.rules.specs.07-Picture.{pad, type-width, type-row, picture}
 use Rattle.rules.specs.Read.{parents-offset, read-kind}
 use Rattle.base.specs.Tables.{Table, Sorted, Used, sdss, types, by-name, by-application, by-end}
@@ -26,6 +26,10 @@ pub record Ordered {A : Type 0} {t : Table A} (o : Sorted t) (rs : List A) : Typ
 -- the rows less row k
 abbrev pub less-row : {A : Type 0} → ℕ → List A → List A
 less-row k rs = take k rs ++ drop (suc k) rs
+
+-- the presences, row k with these modes
+abbrev pub modes-row : ℕ → Modes → Modes → List Presence → List Presence
+modes-row k usage definition ps = set ps k (with-modes usage definition (getD ps k nowhere))
 
 -- what a schema needs to be stored: its picture shows it, and a row can be put in and taken out
 pub record Storable (s : Schema) : Type 0 where

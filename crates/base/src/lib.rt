@@ -11,7 +11,7 @@ ghost use Rattle.rules.specs.02-Limits.{limits};
 ghost use Rattle.rules.specs.04-Schema.{fresh};
 ghost use Rattle.rules.specs.07-Picture.{picture, base-length, type-width};
 ghost use Rattle.rules.specs.Read.{value-offset, reverse-offset, count-offset, parents-offset, name-offset, type-offset, to-offset, attribute-offset};
-ghost use Rattle.rules.specs.Read.{link-offset, side-offset, object-offset};
+ghost use Rattle.rules.specs.Read.{usage-offset, definition-offset, link-offset, side-offset, object-offset};
 ghost use Rattle.rows.specs.Rows.{part, Reads};
 ghost use Rattle.rows.specs.Decides.{Decides};
 ghost use Rattle.base.specs.Rows.{sds-at, type-at, presence-at, application-at, end-at};
@@ -23,7 +23,7 @@ impl Base {
 
     pub const TYPE_WIDTH: usize = 8;
 
-    pub const PRESENCE_WIDTH: usize = Limits::NAME + 2;
+    pub const PRESENCE_WIDTH: usize = Limits::NAME + 4;
 
     pub const APPLICATION_WIDTH: usize = 3;
 
@@ -57,6 +57,10 @@ impl Base {
 
     pub const TYPE_OFFSET: usize = Base::NAME_OFFSET + Limits::NAME;
 
+    pub const USAGE_OFFSET: usize = Base::TYPE_OFFSET + 1;
+
+    pub const DEFINITION_OFFSET: usize = Base::USAGE_OFFSET + 1;
+
     pub const TO_OFFSET: usize = 1;
 
     pub const ATTRIBUTE_OFFSET: usize = 2;
@@ -66,6 +70,10 @@ impl Base {
     pub const SIDE_OFFSET: usize = 2;
 
     pub const OBJECT_OFFSET: usize = 3;
+
+    // The set of all five modes: 1 create, 2 delete, 4 read, 8 write, 16 navigate.
+
+    pub const ALL_MODES: usize = 31;
 
     // What the first byte of a type says it is, and two categories of links.
 
@@ -93,7 +101,7 @@ impl Base {
 
 // ---- all of it
 
-// All zero, but for the names of SDS 0 and type 0 and the kind of type 0.
+// All zero, but for the names of SDS 0 and type 0, the kind of type 0 and its modes.
 pub fn write_fresh(base: &mut [u8])
     requires { ⌜ length (now base) ≡ base-length ⌝ }
     ensures { λ _. ⌜ now (base .exit) ≡ picture fresh ⌝ }
@@ -101,6 +109,8 @@ pub fn write_fresh(base: &mut [u8])
     rows::table::clear(base);
     rows::table::write(base, Base::SDSS_AT, b"system");
     base[Base::TYPES_AT] = 1;
+    base[Base::PRESENCES_AT + Base::USAGE_OFFSET] = Base::ALL_MODES as u8;
+    base[Base::PRESENCES_AT + Base::DEFINITION_OFFSET] = Base::ALL_MODES as u8;
     rows::table::write(base, Base::PRESENCES_AT + Base::NAME_OFFSET, b"object");
 }
 
@@ -210,6 +220,26 @@ pub fn presence_type(base: &[u8], i: usize) -> usize
     rows::byte(
         base,
         Base::PRESENCES_AT + i * Base::PRESENCE_WIDTH + Base::TYPE_OFFSET,
+    )
+}
+
+pub fn presence_usage(base: &[u8], i: usize) -> usize
+    requires { ⌜ (length (now base) ≡ base-length) × (i < limits .presences) ⌝ }
+    ensures { λ r. ⌜ Reads (now (base .entry)) (presence-at i + usage-offset) r ⌝ }
+{
+    rows::byte(
+        base,
+        Base::PRESENCES_AT + i * Base::PRESENCE_WIDTH + Base::USAGE_OFFSET,
+    )
+}
+
+pub fn presence_definition(base: &[u8], i: usize) -> usize
+    requires { ⌜ (length (now base) ≡ base-length) × (i < limits .presences) ⌝ }
+    ensures { λ r. ⌜ Reads (now (base .entry)) (presence-at i + definition-offset) r ⌝ }
+{
+    rows::byte(
+        base,
+        Base::PRESENCES_AT + i * Base::PRESENCE_WIDTH + Base::DEFINITION_OFFSET,
     )
 }
 

@@ -16,6 +16,9 @@ fn of_type(base: &[u8], call: &[u8], list: &[u8], t: usize, code: usize, out: &m
     if names::is_equal(call, b"descendant_set") {
         return ask::descendant_set(base, list, t);
     }
+    if names::is_equal(call, b"modes") {
+        return ask::modes(base, list, t);
+    }
     read::no_call()
 }
 

@@ -48,7 +48,7 @@ pub fn other(base: &mut [u8], line: &[u8]) -> Answer {
     read::no_call()
 }
 
-// What stands behind an SDS and a name: a value kind, or the parents.
+// What stands behind an SDS and a name: a value kind, the parents, or two sets of modes.
 fn one_name(base: &mut [u8], call: &[u8], sds: usize, name: &[u8], rest: &[u8]) -> Answer {
     if names::is_equal(call, b"new_object") {
         return change_objects::new_object(base, sds, name, rest);
@@ -61,6 +61,15 @@ fn one_name(base: &mut [u8], call: &[u8], sds: usize, name: &[u8], rest: &[u8]) 
     }
     if names::is_equal(call, b"remove_type") {
         return change_presences::remove::remove_type(base, sds, name);
+    }
+    if names::is_equal(call, b"set_modes") {
+        return change_presences::modes::set_modes(
+            base,
+            sds,
+            name,
+            read::number_at(rest, 0),
+            read::number_at(rest, 1),
+        );
     }
     read::no_call()
 }

@@ -11,7 +11,8 @@ use Rattle.rules.specs.02-Limits.{limits}
 use Rattle.rules.specs.declared.Answer.{Answer}
 use Rattle.rules.specs.01-Lists.{all, first, put, put-all}
 use Rattle.rules.specs.03-Names.{Name, well-formed, blank, same-name}
-use Rattle.rules.specs.04-Schema.{Schema, Presence, used-sds, reverse, holds-type, holds-name, present, bears, type-named, local-name, with-presences}
+use Rattle.rules.specs.04-Schema.{Schema, Presence, new-presence, nowhere, used-sds, reverse, holds-type, holds-name, present, bears}
+use Rattle.rules.specs.04-Schema.{type-named, local-name, with-presences}
 use Rattle.rules.specs.06-Good.{presence-before, Good}
 use Rattle.rules.specs.07-Picture.{Sound, pad, picture, base-length}
 use Rattle.rules.specs.09-Refusals.{_when_, Outcome, verdict, unknown-sds, malformed, malformed-new, idle-reverse-name, names-taken, presences-full}
@@ -45,7 +46,7 @@ use Rattle.conditions.proofs.ReverseLaws.{one-is, none-is}
 use Rattle.base.proofs.TestedLaws.{tested-sound, tested-passes}
 use Rattle.conditions.proofs.AimedLaws.{system-not, name-borne, all-passed}
 use Rattle.rules.proofs.08-Working.{named-present}
-use Rattle.change_imports.specs.Import.{first-refusals, presence-of, enter-refusals, enter}
+use Rattle.change_imports.specs.Import.{first-refusals, enter-refusals, enter}
 
 -- ---- the tests of the SDSs, of the names and of the reverse
 
@@ -114,8 +115,8 @@ given-long n e h = formed-long n (given-formed n e h) .1
 local-formed : {s : Schema} → Good s → (d t : ℕ) → present s d t ≡ true → well-formed (local-name s d t) ≡ true
 unfolding present local-name
 local-formed {s} good d t e =
-    let (i, h) = first-in (holds-type d t) (record { sds = 0; name = []; type = 0 }) (s .presences) e in
-    good .presence-named (first (holds-type d t) (record { sds = 0; name = []; type = 0 }) (s .presences)) i
+    let (i, h) = first-in (holds-type d t) nowhere (s .presences) e in
+    good .presence-named (first (holds-type d t) nowhere (s .presences)) i
 
 pub filled-formed : {s : Schema} → Good s → (d t : ℕ) (new : Name) → present s d t ≡ true → malformed-new new ≡ false
     → well-formed (filled s d t new) ≡ true
@@ -165,8 +166,8 @@ unfolding enter
 enter-left d ps t r s = record { is = refl }
 
 module _ (b : List ℕ) (d : ℕ) (n : Name) (t : ℕ) {b₁ : List ℕ}
-    (out : Shows b₁ (with-presences (schema-of b) (put presence-before (presence-of d n t) ((schema-of b) .presences)))) where
-  pub entered-one : b₁ ≡ picture (with-presences (schema-of b) (put-all presence-before (presence-of d n t ∷ []) ((schema-of b) .presences)))
+    (out : Shows b₁ (with-presences (schema-of b) (put presence-before (new-presence d n t) ((schema-of b) .presences)))) where
+  pub entered-one : b₁ ≡ picture (with-presences (schema-of b) (put-all presence-before (new-presence d n t ∷ []) ((schema-of b) .presences)))
   unfolding put-all
   entered-one = out .shown
 
@@ -176,7 +177,7 @@ module _ (b : List ℕ) (d : ℕ) (n : Name) (t : ℕ) {b₁ : List ℕ}
       omega (
         arith,
         ap (λ (s : Schema). length (s .presences)) (shows-schema out),
-        put-long presence-before (presence-of d n t) ((schema-of b) .presences),
+        put-long presence-before (new-presence d n t) ((schema-of b) .presences),
         presences-long b,
       )
 
@@ -184,20 +185,20 @@ module _ (b : List ℕ) (d : ℕ) (n : Name) (t : ℕ) {b₁ : List ℕ}
   unfolding bears
   free-second m e f =
       ap (λ (s : Schema). bears s d m) (shows-schema out)
-      ∙ put-none presence-before (holds-name d m) (presence-of d n t) ((schema-of b) .presences) (rw (eq-eqb d d refl) e) f
+      ∙ put-none presence-before (holds-name d m) (new-presence d n t) ((schema-of b) .presences) (rw (eq-eqb d d refl) e) f
 
   pub entered-both : (m : Name) (r : ℕ) {b₂ : List ℕ}
-      → Shows b₂ (with-presences (schema-of b₁) (put presence-before (presence-of d m r) ((schema-of b₁) .presences)))
-      → b₂ ≡ picture (with-presences (schema-of b) (put-all presence-before (presence-of d n t ∷ presence-of d m r ∷ []) ((schema-of b) .presences)))
+      → Shows b₂ (with-presences (schema-of b₁) (put presence-before (new-presence d m r) ((schema-of b₁) .presences)))
+      → b₂ ≡ picture (with-presences (schema-of b) (put-all presence-before (new-presence d n t ∷ new-presence d m r ∷ []) ((schema-of b) .presences)))
   unfolding put-all
-  entered-both m r out₂ = shows-next (λ s. with-presences s (put presence-before (presence-of d m r) (s .presences))) out out₂ .shown
+  entered-both m r out₂ = shows-next (λ s. with-presences s (put presence-before (new-presence d m r) (s .presences))) out out₂ .shown
 
 -- ---- the rule
 
 -- what follows the first refusals; rs is the reverse of t, if it has one
 abbrev rest-of : ℕ → ℕ → Name → Name → Schema → ℕ → List ℕ → Outcome Schema
 rest-of target source new new-reverse s t rs =
-    let ps : List Presence = presence-of target (filled s source t new) t ∷ map (λ r. presence-of target (filled s source r new-reverse) r) rs in
+    let ps : List Presence = new-presence target (filled s source t new) t ∷ map (λ r. new-presence target (filled s source r new-reverse) r) rs in
     verdict ((11 when names-taken s target (map (λ p. p .name) ps)) ∷ (14 when presences-full s (length (t ∷ rs))) ∷ [])
     (done t (getD rs 0 0) 0 (with-presences s (put-all presence-before ps (s .presences))))
 
@@ -247,12 +248,12 @@ importable {b} {target} {source} {n} {new} {new-reverse} {t = t} told z =
 module _ {b : List ℕ} {target source : ℕ} {n new new-reverse : Name} {t u : ℕ} (i : Importable b target source n new new-reverse t u) where
   -- it has no reverse
   pub import-one : u ≡ 128 → {name after : List ℕ} {a : Answer} → name ≡ filled (schema-of b) source t new
-      → Kept b (enter target (presence-of target name t ∷ []) t 0) a after → Kept b (import target source n new new-reverse) a after
+      → Kept b (enter target (new-presence target name t ∷ []) t 0) a after → Kept b (import target source n new new-reverse) a after
   unfolding enter
   import-one e {name} q k =
       let s = schema-of b in
       kept-like (i .rule ∙ ap (rest-of target source new new-reverse s t) (none-is {r = u} (omega arith))
-      ∙ ap (λ (x : Name). enter target (presence-of target x t ∷ []) t 0 s) (sym q)) k
+      ∙ ap (λ (x : Name). enter target (new-presence target x t ∷ []) t 0 s) (sym q)) k
 
   module _ (e : u ≡ 128 → ⊥) where
     pub reverse-below : u < 128
@@ -266,13 +267,13 @@ module _ {b : List ℕ} {target source : ℕ} {n new new-reverse : Name} {t u : 
     -- its reverse comes with it
     pub import-both : {name other after : List ℕ} {a : Answer} → name ≡ filled (schema-of b) source t new
         → other ≡ filled (schema-of b) source u new-reverse
-        → Kept b (enter target (presence-of target name t ∷ presence-of target other u ∷ []) t u) a after
+        → Kept b (enter target (new-presence target name t ∷ new-presence target other u ∷ []) t u) a after
         → Kept b (import target source n new new-reverse) a after
     unfolding enter
     import-both {name} {other} q w k =
         let s = schema-of b in
         kept-like (i .rule ∙ ap (rest-of target source new new-reverse s t) (one-is reverse-below)
-        ∙ (λ j. enter target (presence-of target (sym q j) t ∷ presence-of target (sym w j) u ∷ []) t u s)) k
+        ∙ (λ j. enter target (new-presence target (sym q j) t ∷ new-presence target (sym w j) u ∷ []) t u s)) k
 
 -- the part of a field before its first zero
 pub cut-is : {field : List ℕ} {k : ℕ} → Stripped field k → take (k - 0) field ≡ strip field

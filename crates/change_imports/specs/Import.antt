@@ -25,9 +25,6 @@ pub record Enters (d : ℕ) (n : Name) (t : ℕ) : Type 0 where
   pub below : t < limits .types
   pub formed : well-formed n ≡ true
 
-abbrev pub presence-of : ℕ → Name → ℕ → Presence
-presence-of d n t = record { sds = d; name = n; type = t }
-
 -- presences come into SDS d where their names are free and there is room; t and r are the values of the answer
 abbrev pub enter-refusals : ℕ → List Presence → Schema → Refusals
 enter-refusals d ps s =

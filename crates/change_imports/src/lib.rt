@@ -8,7 +8,7 @@ ghost use mathlib.Core.Bool.{true, false, not, _&&_, _||_};
 ghost use lib.Dec.{eqb};
 ghost use lib.ListN.{length};
 ghost use Rattle.rules.specs.03-Names.{blank};
-ghost use Rattle.rules.specs.04-Schema.{present};
+ghost use Rattle.rules.specs.04-Schema.{new-presence, present};
 ghost use Rattle.rules.specs.07-Picture.{Sound, base-length};
 ghost use Rattle.rules.specs.09-Refusals.{unknown-sds, malformed, malformed-new};
 ghost use Rattle.rules.specs.10-Changes.{filled, import};
@@ -17,7 +17,7 @@ ghost use Rattle.rules.specs.Read.{strip};
 ghost use Rattle.base.specs.Back.{schema-of};
 ghost use Rattle.conditions.specs.Reverse.{one-or-none};
 ghost use Rattle.conditions.specs.Aimed.{With-reverse, Refused-or};
-ghost use Rattle.change_imports.specs.Import.{first-refusals, Enters, presence-of, enter};
+ghost use Rattle.change_imports.specs.Import.{first-refusals, Enters, enter};
 
 // ---- what is tested before the names are filled in
 
@@ -134,7 +134,7 @@ fn filled(base: &[u8], source: usize, t: usize, new: &[u8]) -> [u8; Limits::NAME
 fn enter_one(base: &mut [u8], d: usize, name: &[u8], t: usize) -> Answer
     requires { ⌜ Sound (now base) ⌝ }
     requires { ⌜ Enters d (now name) t ⌝ }
-    ensures { λ a. ⌜ Kept (now (base .entry)) (enter d (presence-of d (now (name .entry)) t ∷ []) t 0) a (now (base .exit)) ⌝ }
+    ensures { λ a. ⌜ Kept (now (base .entry)) (enter d (new-presence d (now (name .entry)) t ∷ []) t 0) a (now (base .exit)) ⌝ }
 {
     if lookup::named::type_in(base, d, name) != Limits::TYPES {
         return Answer::refused(11);
@@ -152,7 +152,7 @@ fn enter_both(base: &mut [u8], d: usize, name: &[u8], t: usize, other: &[u8], r:
     requires { ⌜ Enters d (now name) t ⌝ }
     requires { ⌜ Enters d (now other) r ⌝ }
     ensures { λ a. ⌜ Kept (now (base .entry))
-        (enter d (presence-of d (now (name .entry)) t ∷ presence-of d (now (other .entry)) r ∷ []) t r) a (now (base .exit)) ⌝ }
+        (enter d (new-presence d (now (name .entry)) t ∷ new-presence d (now (other .entry)) r ∷ []) t r) a (now (base .exit)) ⌝ }
 {
     if conditions::aimed::are_taken(base, d, name, other) {
         return Answer::refused(11);

@@ -11,7 +11,7 @@ use Rattle.rules.specs.02-Limits.{limits}
 use Rattle.rules.specs.declared.Answer.{Answer}
 use Rattle.rules.specs.01-Lists.{all, put}
 use Rattle.rules.specs.03-Names.{Name, well-formed}
-use Rattle.rules.specs.04-Schema.{Schema, bears, holds-name, with-presences}
+use Rattle.rules.specs.04-Schema.{Schema, new-presence, bears, holds-name, with-presences}
 use Rattle.rules.specs.06-Good.{presence-before}
 use Rattle.rules.specs.04-Schema.Kind.{paired}
 use Rattle.rules.specs.07-Picture.{picture}
@@ -103,7 +103,7 @@ module _ {b : List ℕ} {d : ℕ} {n m : Name} {c c′ t r : ℕ} (x : Pair-read
   }
 
   module _ {b₁ b₂ : List ℕ} (w : Becomes b t (paired c r) b₁)
-      (p : Shows b₂ (with-presences (schema-of b₁) (put presence-before (record { sds = d; name = n; type = t }) ((schema-of b₁) .presences)))) where
+      (p : Shows b₂ (with-presences (schema-of b₁) (put presence-before (new-presence d n t) ((schema-of b₁) .presences)))) where
     forward : Shows b₂ (with-type t (paired c r) d n (schema-of b))
     forward = type-put b t (paired c r) w d n p
 
@@ -116,13 +116,13 @@ module _ {b : List ℕ} {d : ℕ} {n m : Name} {c c′ t r : ℕ} (x : Pair-read
     room-left : length ((schema-of b₂) .presences) < limits .presences
     room-left =
         shows-has (λ s. length (s .presences) < limits .presences) forward
-        (omega (arith, f .room, put-long presence-before (record { sds = d; name = n; type = t }) ((schema-of b) .presences)))
+        (omega (arith, f .room, put-long presence-before (new-presence d n t) ((schema-of b) .presences)))
 
     reverse-free : bears (schema-of b₂) d m ≡ false
     unfolding bears
     reverse-free =
         shows-has (λ s. bears s d m ≡ false) forward
-        (put-none presence-before (holds-name d m) (record { sds = d; name = n; type = t }) ((schema-of b) .presences)
+        (put-none presence-before (holds-name d m) (new-presence d n t) ((schema-of b) .presences)
         (rw (eq-eqb d d refl) (x .names .apart)) (x .names .other-free))
 
     module _ {b₃ : List ℕ} (v : Becomes b₂ r (paired c′ t) b₃) where
@@ -143,7 +143,7 @@ module _ {b : List ℕ} {d : ℕ} {n m : Name} {c c′ t r : ℕ} (x : Pair-read
 
       pub pair-kept : {rule : Schema → Outcome Schema} {a : Answer} {b₄ : List ℕ} → rule (schema-of b) ≡ pair-made d n m c c′ (schema-of b)
           → a ≡ success t r 0
-          → Shows b₄ (with-presences (schema-of b₃) (put presence-before (record { sds = d; name = m; type = r }) ((schema-of b₃) .presences)))
+          → Shows b₄ (with-presences (schema-of b₃) (put presence-before (new-presence d m r) ((schema-of b₃) .presences)))
           → Kept b rule a b₄
       pair-kept {b₄ = b₄} o e q =
           let made : Shows b₄ (with-pair t r d n m c c′ (schema-of b)) =

@@ -1,3 +1,4 @@
 pub mod HeldLaws
 pub mod RenameLaws
 pub mod RemoveLaws
+pub mod ModesLaws

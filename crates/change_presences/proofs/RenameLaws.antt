@@ -10,22 +10,22 @@ use borrow.Author.Tests.{eqb-true, eq-eqb}
 use Rattle.rules.specs.01-Lists.{_∈_, any, all, without, put}
 use Rattle.rules.specs.02-Limits.{limits}
 use Rattle.rules.specs.03-Names.{Name, well-formed, same-name}
-use Rattle.rules.specs.04-Schema.{Schema, Presence, holds-type, holds-name, bears, type-named, with-presences}
+use Rattle.rules.specs.04-Schema.{Schema, Presence, new-presence, with-modes, holds-type, holds-name, bears, type-named, type-presence, with-presences}
 use Rattle.rules.specs.06-Good.{presence-before, Good}
 use Rattle.rules.specs.07-Picture.{Sound, picture}
 use Rattle.rules.specs.09-Refusals.{Outcome, borne-by-another}
 use Rattle.rules.specs.09-Refusals.Outcome.{done}
-use Rattle.rules.specs.10-Changes.{rename, rename-refusals}
+use Rattle.rules.specs.10-Changes.{renamed, rename, rename-refusals}
 use Rattle.rules.proofs.Bools.{and-both, and-of}
 use Rattle.rules.proofs.01-Lists.{any-at, any-none}
 use Rattle.rules.proofs.Edits.{without-in}
 use Rattle.rules.proofs.03-Names.{same-asked}
 use Rattle.rules.proofs.09-Refusals.{Left}
-use Rattle.base.specs.Back.{schema-of, presence-count}
+use Rattle.base.specs.Back.{schema-of, presence-count, presence-shown}
 use Rattle.lookup.specs.Found.{Presence-row, Named-in}
 use Rattle.base.specs.Stored.{less-row, Shows}
 use Rattle.base.proofs.Back.{sound-good}
-use Rattle.base.proofs.Shown.{presences-long}
+use Rattle.base.proofs.Shown.{presences-long, presence-there}
 use Rattle.base.proofs.StoredLaws.{sound-stored, shows-schema}
 use Rattle.base.proofs.TestedLaws.{tested-passes}
 use Rattle.conditions.specs.Aimed.{Aimed, Type-of, Refused-or}
@@ -33,7 +33,8 @@ use Rattle.lookup.proofs.NamedLaws.{borne, not-borne}
 use Rattle.conditions.proofs.AimedLaws.{all-passed, aimed-well, both-formed, name-borne}
 use Rattle.change_presences.specs.Remove.{less-presence}
 use Rattle.change_presences.proofs.HeldLaws.{held-named, held-row, row-below, row-taken}
-use Rattle.rules.proofs.08-Working.{bearer}
+use Rattle.rules.proofs.08-Working.{bearer, holder}
+use Rattle.lookup.proofs.Walked.{presence-first}
 
 -- ---- a row less
 
@@ -70,11 +71,11 @@ module _ {s : Schema} (good : Good s) (d : ℕ) (n : Name) where
 
 -- ---- the rule
 
-abbrev pub renamed : ℕ → ℕ → Name → Schema → Schema
-renamed d t new s = with-presences s (put presence-before (record { sds = d; name = new; type = t }) (without (holds-type d t) (s .presences)))
+abbrev pub renaming : ℕ → ℕ → Name → Schema → Schema
+renaming d t new s = with-presences s (put presence-before (renamed d new t s) (without (holds-type d t) (s .presences)))
 
 abbrev pub rename-effect : ℕ → Name → Name → Schema → Outcome Schema
-rename-effect d n new s = done 0 0 0 (renamed d (type-named s d n) new s)
+rename-effect d n new s = done 0 0 0 (renaming d (type-named s d n) new s)
 
 pub rename-left : (d : ℕ) (n new : Name) (s : Schema) → Left (rename d n new s) (rename-refusals d n new s) (rename-effect d n new s)
 unfolding rename
@@ -88,7 +89,7 @@ pub record Through (b : List ℕ) (d : ℕ) (n new : Name) (t : ℕ) : Type 0 wh
   pub there : bears (schema-of b) d n ≡ true
   pub named : t ≡ type-named (schema-of b) d n
   pub free : borne-by-another (schema-of b) d t new ≡ false
-  pub rule : rename d n new (schema-of b) ≡ done 0 0 0 (renamed d t new (schema-of b))
+  pub rule : rename d n new (schema-of b) ≡ done 0 0 0 (renaming d t new (schema-of b))
 
 pub goes-through : {b : List ℕ} {d : ℕ} {n : Name} (new : Name) {no t : ℕ}
     → Refused-or b (rename-refusals d n new (schema-of b)) no (Type-of b d n t) → no ≡ 0 → Through b d n new t
@@ -103,7 +104,7 @@ goes-through {b} {d} {n} new told z =
       there = name-borne (schema-of b) d n (p .fails 6);
       named = q;
       free = ap (λ (y : ℕ). borne-by-another (schema-of b) d y new) q ∙ p .fails 11;
-      rule = tested-passes (told .told) z refl (rename-left d n new (schema-of b)) ∙ ap (λ (y : ℕ). done 0 0 0 (renamed d y new (schema-of b))) (sym q);
+      rule = tested-passes (told .told) z refl (rename-left d n new (schema-of b)) ∙ ap (λ (y : ℕ). done 0 0 0 (renaming d y new (schema-of b))) (sym q);
     }
 
 -- the name is another's exactly where a type is found under it, and it is another
@@ -142,8 +143,19 @@ module _ {b b₁ : List ℕ} (s : Sound b) {d t r : ℕ} (found : Presence-row b
   pub name-free : (new : Name) → borne-by-another (schema-of b) d t new ≡ false → bears (schema-of b₁) d new ≡ false
   name-free new e = ap (λ (x : Schema). bears x d new) is-now ∙ free-then (sound-good s) d new t e
 
-  pub put-again : (new : Name) {b₂ : List ℕ} → Shows b₂ (with-presences (schema-of b₁)
-      (put presence-before (record { sds = d; name = new; type = t }) ((schema-of b₁) .presences)))
-      → b₂ ≡ picture (renamed d t new (schema-of b))
-  put-again new in′ =
-      in′ .shown ∙ ap (λ (x : Schema). picture (with-presences x (put presence-before (record { sds = d; name = new; type = t }) (x .presences)))) is-now
+  -- the row that went shows the presence of the type
+  was : type-presence (schema-of b) d t ≡ presence-shown b r
+  was =
+      let once = held-row (sound-good s) found h in
+      let (i, at, of) = holder (schema-of b) d t (once .there) in
+      once .once (type-presence (schema-of b) d t) (presence-shown b r) i (presence-there b r h)
+      (and-of (eqb _ d) (eqb _ t) (eq-eqb _ d at) (eq-eqb _ t of)) (presence-first b d t found .found h)
+
+  pub put-again : (new : Name) {u f : ℕ} → u ≡ (presence-shown b r) .usage → f ≡ (presence-shown b r) .definition → {b₂ : List ℕ}
+      → Shows b₂ (with-presences (schema-of b₁) (put presence-before (with-modes u f (new-presence d new t)) ((schema-of b₁) .presences)))
+      → b₂ ≡ picture (renaming d t new (schema-of b))
+  put-again new {u} {f} is-u is-f in′ =
+      let same : with-modes u f (new-presence d new t) ≡ renamed d new t (schema-of b)
+      = λ i. with-modes ((is-u ∙ ap (λ (p : Presence). p .usage) (sym was)) i) ((is-f ∙ ap (λ (p : Presence). p .definition) (sym was)) i)
+      (new-presence d new t) in
+      in′ .shown ∙ (λ i. picture (with-presences (is-now i) (put presence-before (same i) (is-now i .presences))))

@@ -41,7 +41,7 @@ fn renamable(base: &[u8], sds: usize, name: &[u8], new: &[u8]) -> Told
     told
 }
 
-// A presence gets another name, and moves to its new place.
+// A presence gets another name, and moves to its new place; its modes stay.
 pub fn rename(base: &mut [u8], sds: usize, name: &[u8], new: &[u8]) -> Answer
     ensures { λ r. ⌜ Kept (now (base .entry)) (rename sds (now (name .entry)) (now (new .entry))) r (now (base .exit)) ⌝ }
 {
@@ -50,7 +50,9 @@ pub fn rename(base: &mut [u8], sds: usize, name: &[u8], new: &[u8]) -> Answer
         return Answer::refused(told.no);
     }
     let row = lookup::presences::presence_row(base, sds, told.one);
+    let usage = base::presence_usage(base, row);
+    let definition = base::presence_definition(base, row);
     edit::take_presence(base, row);
-    edit::put_presence(base, sds, new, told.one);
+    edit::put_with_modes(base, sds, new, told.one, usage, definition);
     Answer::done(0, 0, 0)
 }

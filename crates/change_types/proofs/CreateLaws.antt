@@ -11,7 +11,7 @@ use Rattle.rules.specs.02-Limits.{limits}
 use Rattle.rules.specs.declared.Answer.{Answer}
 use Rattle.rules.specs.01-Lists.{put}
 use Rattle.rules.specs.03-Names.{Name, well-formed}
-use Rattle.rules.specs.04-Schema.{Schema, Kind, bears, with-types, with-presences}
+use Rattle.rules.specs.04-Schema.{Schema, Kind, new-presence, bears, with-types, with-presences}
 use Rattle.rules.specs.06-Good.{presence-before}
 use Rattle.rules.specs.04-Schema.Kind.{attribute, designation}
 use Rattle.rules.specs.07-Picture.{picture}
@@ -73,10 +73,10 @@ module _ (b : List ℕ) (t : ℕ) (k : Kind) {b₁ : List ℕ} (w : Becomes b t 
   free-typed e = ap (λ (x : Schema). bears x d n) typed ∙ e
 
   pub type-put : {b₂ : List ℕ}
-      → Shows b₂ (with-presences (schema-of b₁) (put presence-before (record { sds = d; name = n; type = t }) ((schema-of b₁) .presences)))
+      → Shows b₂ (with-presences (schema-of b₁) (put presence-before (new-presence d n t) ((schema-of b₁) .presences)))
       → Shows b₂ (with-type t k d n (schema-of b))
   type-put {b₂} p =
-      subst (λ (x : Schema). Shows b₂ (with-presences x (put presence-before (record { sds = d; name = n; type = t }) (x .presences)))) typed p
+      subst (λ (x : Schema). Shows b₂ (with-presences x (put presence-before (new-presence d n t) (x .presences)))) typed p
 
 -- ---- the rules
 
@@ -104,7 +104,7 @@ module _ {b : List ℕ} {d : ℕ} {n : Name} {t : ℕ} (r : Ready b d n t) (k : 
       (shows-stored w, ((r .aim .outside, small), (r .formed, (room-typed b t k w d n (r .room .room), free-typed b t k w d n (r .room .free)))))
 
   pub made-kept : {rule : Schema → Outcome Schema} {a : Answer} {b₂ : List ℕ} → rule (schema-of b) ≡ made d n k (schema-of b) → a ≡ success t 0 0
-      → Shows b₂ (with-presences (schema-of b₁) (put presence-before (record { sds = d; name = n; type = t }) ((schema-of b₁) .presences)))
+      → Shows b₂ (with-presences (schema-of b₁) (put presence-before (new-presence d n t) ((schema-of b₁) .presences)))
       → Kept b rule a b₂
   made-kept o e p =
       kept-done (r .aim .sound) o (e ∙ ap (λ (x : ℕ). success x 0 0) (r .room .new))

@@ -5,21 +5,22 @@ use native.Mathlib.Omega.{arith}
 use mathlib.Core.Path.{_≡_, refl, sym, ap, _∙_}
 use mathlib.Core.Logic.{⊎-elim}
 use mathlib.Core.List.{List, [], _∷_}
-use mathlib.Core.Bool.{Bool, true, false, not, _&&_, _||_, true≢false, false≢true}
+use mathlib.Core.Bool.{Bool, true, false, not, _&&_, _||_, true≢false}
 use lib.Dec.{ltb, eqb}
 use lib.ListN.{take, drop}
 use lib.Seq.{drop-drop, take-nil, take-at, take-take}
-use borrow.Author.Tests.{ltb-true, ltb-false, le-ltb, eqb-true, eq-eqb}
+use borrow.Author.Tests.{ltb-true, ltb-false}
 use Rattle.rules.specs.01-Lists.{_∈_, bytes-before, rising}
 use Rattle.rules.specs.02-Limits.{limits}
 use Rattle.rules.specs.03-Names.{well-formed, same-name, name-before}
 use Rattle.rules.specs.04-Schema.{Presence, system-presence}
 use Rattle.rules.specs.06-Good.{presence-before}
 use Rattle.rules.specs.07-Picture.{pad, presence-row, presence-width}
-use Rattle.rules.proofs.Bools.{or-cases, and-both, fails}
+use Rattle.rules.proofs.Bools.{or-cases, and-both}
 use Rattle.rules.proofs.01-Lists.{rising-at, at-rising}
-use Rattle.rules.proofs.03-Names.{same-name-refl, same-turned, name-connected, name-irreflexive, apart}
-use Rattle.rules.proofs.07-Picture.{length-pad}
+use Rattle.rules.proofs.03-Names.{same-name-refl, same-turned, apart}
+use Rattle.rules.proofs.07-Picture.{length-pad, behind-name}
+use Rattle.rules.proofs.Modes.{front-before, front-presence, presence-front, presence-irreflexive}
 use Rattle.rules.specs.Read.{name-offset, type-offset}
 use Rattle.rows.specs.Rows.{part}
 use Rattle.rows.specs.Order.{folded, front}
@@ -46,39 +47,9 @@ equal i j f g = go (ltb i j) refl (ltb j i) refl
 abbrev key : Presence → List ℕ
 key p = p .sds ∷ folded (pad (limits .name) (p .name))
 
-abbrev front-before : Presence → Presence → Bool
-front-before p q = ltb (p .sds) (q .sds) || (eqb (p .sds) (q .sds) && apart (p .name) (q .name))
-
 front-is : (p q : Presence) → well-formed (p .name) ≡ true → well-formed (q .name) ≡ true → bytes-before (key p) (key q) ≡ front-before p q
 unfolding bytes-before
 front-is p q f g = ap (λ (t : Bool). ltb (p .sds) (q .sds) || (eqb (p .sds) (q .sds) && t)) (pad-folded (p .name) (q .name) f g)
-
-front-presence : (p q : Presence) → front-before p q ≡ true → presence-before p q ≡ true
-unfolding presence-before
-front-presence p q e = go (ltb (p .sds) (q .sds)) (eqb (p .sds) (q .sds)) (name-before (p .name) (q .name)) (not (same-name (p .name) (q .name))) e
-  where
-    rest : Bool
-    rest = not (name-before (q .name) (p .name)) && ltb (p .type) (q .type)
-
-    go : (x y z o : Bool) → x || (y && (z && o)) ≡ true → x || (y && (z || rest)) ≡ true
-    go true y z o h = refl
-    go false true true o h = refl
-    go false true false o h = absurd (false≢true h)
-    go false false z o h = absurd (false≢true h)
-
-presence-front : (p q : Presence) → presence-before p q ≡ true → (p .sds ≡ q .sds → same-name (p .name) (q .name) ≡ true → ⊥) → front-before p q ≡ true
-unfolding presence-before
-presence-front p q e n =
-    go (ltb (p .sds) (q .sds)) (eqb (p .sds) (q .sds)) refl (name-before (p .name) (q .name)) refl (name-before (q .name) (p .name)) refl e
-  where
-    go : (x y : Bool) → eqb (p .sds) (q .sds) ≡ y → (z : Bool) → name-before (p .name) (q .name) ≡ z → (v : Bool) → name-before (q .name) (p .name) ≡ v
-        → x || (y && (z || (not v && ltb (p .type) (q .type)))) ≡ true → x || (y && (z && not (same-name (p .name) (q .name)))) ≡ true
-    go true y f z g v k h = refl
-    go false true f true g v k h = ap not (fails (same-name (p .name) (q .name)) (n (eqb-true (p .sds) (q .sds) f)))
-    go false true f false g true k h = absurd (false≢true h)
-    go false true f false g false k h =
-        absurd (n (eqb-true (p .sds) (q .sds) f) (rw (name-connected (p .name) (q .name) g k) (same-name-refl (q .name))))
-    go false false f z g v k h = absurd (false≢true h)
 
 front-other : (p q : Presence) → front-before p q ≡ true → p .sds ≡ q .sds → same-name (p .name) (q .name) ≡ true → ⊥
 front-other p q e d s =
@@ -89,16 +60,6 @@ front-other p q e d s =
     (and-both (eqb (p .sds) (q .sds)) (apart (p .name) (q .name)) h .1) in
     true≢false (sym other ∙ ap not s))
     (or-cases (ltb (p .sds) (q .sds)) (eqb (p .sds) (q .sds) && apart (p .name) (q .name)) e)
-
-presence-irreflexive : (p : Presence) → presence-before p p ≡ false
-unfolding presence-before
-presence-irreflexive p = rw (
-  le-ltb (p .sds) (p .sds) (omega arith),
-  eq-eqb (p .sds) (p .sds) refl,
-  name-irreflexive (p .name),
-  le-ltb (p .type) (p .type)
-      (omega arith),
-)
 
 -- the field of a row that is as it would be written
 row-field : (b : List ℕ) (i : ℕ) → presence-row (shown presences b i) ≡ row-of presences b i
@@ -111,7 +72,7 @@ row-field b i e =
     ap (take w) (sym (drop-drop name-offset (presence-at i) b))
     ∙ sym (tail-take w rest)
     ∙ ap (drop 1) (sym (take-take type-offset presence-width rest (omega arith)) ∙ ap (take type-offset) (sym e ∙ ap presence-row (presence-read b i)))
-    ∙ take-at (pad w (p .name)) (p .type ∷ []) w (length-pad w (p .name))
+    ∙ take-at (pad w (p .name)) (behind-name p) w (length-pad w (p .name))
   where
     tail-take : (n : ℕ) (l : List ℕ) → drop 1 (take (suc n) l) ≡ take n (drop 1 l)
     tail-take n [] = sym (take-nil n)

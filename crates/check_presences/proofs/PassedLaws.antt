@@ -41,7 +41,11 @@ pub passed-first : {b : List ℕ} {n : ℕ} {row : Key} (held : List ℕ) → Sy
 passed-first {b} held s u e key = record {
   key = key;
   fine = record {
-    each = below-more _ 0 (below-none _) (record { named = object-named _ (s .name); small = omega (arith, s .type) });
+    each = below-more _ 0 (below-none _) (record {
+      named = object-named _ (s .name);
+      small = omega (arith, s .type);
+      known = record { usage = omega (arith, s .usage); definition = omega (arith, s .definition) };
+    });
     in-used = below-more _ 0 (below-none _) (ap (used-sds (schema-of b)) (s .sds) ∙ u);
     rise = rising-one (λ i. front b (presence-at i));
     once = λ i j l h. absurd (omega arith);

@@ -45,7 +45,7 @@ record Found (b : List ℕ) (n : ℕ) : Type 0 where
 -- row 0 as `System-first` has it
 first-shown : (b : List ℕ) (n : ℕ) → System-first b n → presence-shown b 0 ≡ system-presence
 unfolding pad strip
-first-shown b n s = λ i. record { sds = s .sds i; name = (ap strip (s .name)) i; type = s .type i }
+first-shown b n s = λ i. record { sds = s .sds i; name = (ap strip (s .name)) i; type = s .type i; usage = s .usage i; definition = s .definition i }
 
 level : (b : List ℕ) (n : ℕ) → Names-rise b n → Level b (presences .start) (presences .width) n
 level b n r = rising-level b (presences .start) (presences .width) n (λ i. folded (part b (presence-at i + name-offset) (limits .name))) r
@@ -95,6 +95,7 @@ module _ (b : List ℕ) {n : ℕ} (long : length b ≡ base-length) (count : Cou
         room = omega (arith, presences-long b, count .is, count .fits);
         in-used = λ p m. let (i, h, e) = presence-in b p m in rw e (f .rows .in-used i (counted i h));
         named = λ p m. let (i, h, e) = presence-in b p m in rw e (named i h);
+        known = λ p m. let (i, h, e) = presence-in b p m in rw e (f .rows .each i (counted i h) .known);
         unique = rise-unique b written named rises;
         system = rw (first-shown b n (f .system)) at (presence-there b 0 (omega (arith, count .is, f .system .some)));
         system-alone = λ p m z.
@@ -144,7 +145,11 @@ module _ (b : List ℕ) {n : ℕ} (long : length b ≡ base-length) (count : Cou
         let (some, zero-sds) = first-sds in
         let one = zero-row 0 some zero-sds in record {
           rows = record {
-            each = λ i h. record { named = field i h; small = p .small (presence-shown b i) (there i h) };
+            each = λ i h. record {
+              named = field i h;
+              small = p .small (presence-shown b i) (there i h);
+              known = p .rows .known (presence-shown b i) (there i h);
+            };
             in-used = λ i h. p .rows .in-used (presence-shown b i) (there i h);
             rise = rw (count .is) rising;
             once = λ i j l h s e. twice i j l h (p .once (presence-shown b i) (presence-shown b j) (there i (omega arith)) (there j h) s e);
@@ -156,6 +161,8 @@ module _ (b : List ℕ) {n : ℕ} (long : length b ≡ base-length) (count : Cou
             type = ap (λ (q : Presence). q .type) one;
             name = sym (name-field-padded (part b (presence-at 0 + name-offset) (limits .name)) (field 0 some))
                 ∙ ap (λ (q : Presence). pad (limits .name) (q .name)) one;
+            usage = ap (λ (q : Presence). q .usage) one;
+            definition = ap (λ (q : Presence). q .definition) one;
             next = λ h e. no-second h e one;
           };
         }
@@ -210,7 +217,7 @@ module _ {b : List ℕ} {n : ℕ} (long : length b ≡ base-length) (half : Halv
       (f .rest)
 
   -- if the presences are fine, it is right
-  fine-count : Presences-fine b → Counted (presence-count b) (limits .presences) n
+  pub fine-count : Presences-fine b → Counted (presence-count b) (limits .presences) n
   fine-count p =
       halved-right presences b name-offset n (omega arith) half
       (λ i h. name-first b i (p .rows .named (presence-shown b i) (presence-there b i h)))

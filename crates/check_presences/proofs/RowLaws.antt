@@ -1,8 +1,8 @@
 -- A presence as its row is written. Assumes nothing.
-use Prim.Native.Nat.{ℕ, _+_, _<_}
+use Prim.Native.Nat.{ℕ, suc, _+_, _<_}
 use native.Mathlib.Omega.{arith}
 use mathlib.Core.Path.{_≡_, refl, sym, ap, _∙_}
-use mathlib.Core.List.{List, [], _∷_, _++_, tail-eq-of-cons-eq, append-cancel-right}
+use mathlib.Core.List.{List, _∷_, _++_, tail-eq-of-cons-eq, append-cancel-right}
 use mathlib.Core.Bool.{true}
 use lib.ListN.{length, getD, take, drop, replicate}
 use lib.Seq.{drop-drop, take-add}
@@ -12,7 +12,8 @@ use Rattle.rules.specs.03-Names.{letter, letter-or-digit, well-formed}
 use Rattle.rules.specs.04-Schema.{system-presence}
 use Rattle.rules.specs.07-Picture.{pad, presence-row, base-length, presence-width}
 use Rattle.rules.proofs.01-Lists.{same-bytes-is, same-bytes-refl}
-use Rattle.rules.specs.Read.{strip, name-offset, type-offset}
+use Rattle.rules.proofs.07-Picture.{behind-name}
+use Rattle.rules.specs.Read.{strip, name-offset, type-offset, usage-offset, definition-offset}
 use Rattle.name_fields.specs.Field.{name-field}
 use Rattle.name_fields.proofs.NamedFields.{name-field-of, name-field-padded}
 use Rattle.rows.specs.Rows.{part}
@@ -25,20 +26,28 @@ use Rattle.base.proofs.Shown.{presence-read}
 use Rattle.lookup.proofs.RowBytes.{name-first}
 
 module _ (b : List ℕ) (long : length b ≡ base-length) (i : ℕ) (h : i < limits .presences) where
-  -- a row is its SDS, its field and its type
+  -- a row is its SDS, its field, and its type and modes
   pub row-parts : row-of presences b i
-      ≡ getD b (presence-at i) 0 ∷ (part b (presence-at i + name-offset) (limits .name) ++ (getD b (presence-at i + type-offset) 0 ∷ []))
+      ≡ getD b (presence-at i) 0 ∷ (part b (presence-at i + name-offset) (limits .name) ++ behind-name (presence-shown b i))
   row-parts =
       let at = presence-at i in
       let w = limits .name in
-      part-cons b at presence-width type-offset (omega arith) refl
-      ∙ ap (λ (l : List ℕ). getD b at 0 ∷ l) (take-add w 1 (drop (at + name-offset) b)
-      ∙ ap (λ (l : List ℕ). part b (at + name-offset) w ++ l) (ap (take 1) (drop-drop w (at + name-offset) b) ∙ last))
+      part-cons b at presence-width definition-offset (omega arith) refl
+      ∙ ap (λ (l : List ℕ). getD b at 0 ∷ l) (take-add w 3 (drop (at + name-offset) b)
+      ∙ ap (λ (l : List ℕ). part b (at + name-offset) w ++ l) (ap (take 3) (drop-drop w (at + name-offset) b) ∙ last))
     where
-      last : part b (presence-at i + name-offset + limits .name) 1 ≡ getD b (presence-at i + type-offset) 0 ∷ []
+      -- the rest of the row from byte f on
+      from : (f m : ℕ) → f + m < presence-width → part b (presence-at i + f) (suc m) ≡ getD b (presence-at i + f) 0 ∷ part b (presence-at i + (f + 1)) m
+      from f m l =
+          let next : presence-at i + f + 1 ≡ presence-at i + (f + 1) = omega arith in
+          part-cons b (presence-at i + f) (suc m) m (omega arith) refl ∙ ap (λ (k : ℕ). getD b (presence-at i + f) 0 ∷ part b k m) next
+
+      last : part b (presence-at i + name-offset + limits .name) 3 ≡ behind-name (presence-shown b i)
       last =
           let same : presence-at i + name-offset + limits .name ≡ presence-at i + type-offset = omega arith in
-          rw same (part-cons b (presence-at i + type-offset) 1 0 (omega arith) refl)
+          rw same
+          (from type-offset 2 (omega arith) ∙ ap (λ (l : List ℕ). getD b (presence-at i + type-offset) 0 ∷ l)
+          (from usage-offset 1 (omega arith) ∙ ap (λ (l : List ℕ). getD b (presence-at i + usage-offset) 0 ∷ l) (from definition-offset 0 (omega arith))))
 
   pub named-written : name-field (part b (presence-at i + name-offset) (limits .name)) ≡ true → presence-row (shown presences b i) ≡ row-of presences b i
   unfolding presence-row
@@ -49,7 +58,7 @@ module _ (b : List ℕ) (long : length b ≡ base-length) (i : ℕ) (h : i < lim
   unfolding presence-row
   written-named w e =
       let f = part b (presence-at i + name-offset) (limits .name) in
-      let last = getD b (presence-at i + type-offset) 0 ∷ [] in
+      let last = behind-name (presence-shown b i) in
       let rest : pad (limits .name) (strip f) ++ last ≡ f ++ last = tail-eq-of-cons-eq (sym (ap presence-row (presence-read b i)) ∙ e ∙ row-parts) in
       name-field-of f w (append-cancel-right (pad (limits .name) (strip f)) f last rest)
 

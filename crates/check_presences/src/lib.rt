@@ -1,5 +1,6 @@
 // Whether the presences are as they would be written, in order, each in an SDS and with a name, and none twice: in one pass, in which is
 // gathered which SDSs hold each type.
+use base::Base;
 use rules::Limits;
 ghost use mathlib.Core.Path.{_≡_};
 ghost use mathlib.Core.Bool.{true};
@@ -33,13 +34,19 @@ fn system_first(base: &[u8], n: usize) -> bool
     if !names::is_equal(base::presence_field(base, 0), b"object\0\0\0\0\0\0\0\0\0\0") {
         return false;
     }
+    if base::presence_usage(base, 0) != Base::ALL_MODES {
+        return false;
+    }
+    if base::presence_definition(base, 0) != Base::ALL_MODES {
+        return false;
+    }
     if n == 1 {
         return true;
     }
     base::presence_sds(base, 1) != 0
 }
 
-// Whether row i has a name, and a type that there can be.
+// Whether row i has a name, a type that there can be, and modes that are some of the five.
 fn presence_fine(base: &[u8], i: usize) -> bool
     requires { ⌜ (length (now base) ≡ base-length) × (i < limits .presences) ⌝ }
     ensures { λ r. ⌜ Decides (Row-fine (now (base .entry)) i) r ⌝ }
@@ -47,7 +54,13 @@ fn presence_fine(base: &[u8], i: usize) -> bool
     if !name_fields::is_name_field(base::presence_field(base, i)) {
         return false;
     }
-    base::presence_type(base, i) < Limits::TYPES
+    if base::presence_type(base, i) >= Limits::TYPES {
+        return false;
+    }
+    if base::presence_usage(base, i) > Base::ALL_MODES {
+        return false;
+    }
+    base::presence_definition(base, i) <= Base::ALL_MODES
 }
 
 // Whether d is the number of an SDS: asked once for each SDS, since that of the row before is one.

@@ -1,10 +1,10 @@
-// The functions that the C service calls. Each is one call of document 01 and keeps that call's contract; include/cisternfox.h
+// The functions that the C service calls. Each is one call of document 01 or 02 and keeps that call's contract; include/cisternfox.h
 // says what the host owes.
 use base::Base;
 use rules::Answer;
 ghost use Rattle.rules.specs.10-Changes.{new-sds, remove-sds, new-object, new-attribute, new-designation, new-pair, import, apply, unapply};
-ghost use Rattle.rules.specs.10-Changes.{apply-link, unapply-link, add-destination, remove-destination, remove-type, rename};
-ghost use Rattle.rules.specs.11-Asks.{scan-object, scan-link, profile, find, depth-of, name, descendant-set};
+ghost use Rattle.rules.specs.10-Changes.{apply-link, unapply-link, add-destination, remove-destination, remove-type, rename, set-modes};
+ghost use Rattle.rules.specs.11-Asks.{scan-object, scan-link, profile, find, depth-of, name, descendant-set, modes-of};
 ghost use Rattle.rules.specs.07-Picture.{base-length};
 ghost use Rattle.rules.specs.12-Contracts.{room, Kept, Listed, Answered, Freshened};
 ghost use mathlib.Core.Path.{_≡_};
@@ -153,6 +153,19 @@ pub extern "C" fn cf_rename(base: &mut [u8], sds: usize, name: &[u8], new: &[u8]
 }
 
 #[no_mangle]
+pub extern "C" fn cf_set_modes(
+    base: &mut [u8],
+    sds: usize,
+    name: &[u8],
+    usage: usize,
+    definition: usize,
+) -> Answer
+    ensures { λ r. ⌜ Kept (now (base .entry)) (set-modes sds (now (name .entry)) usage definition) r (now (base .exit)) ⌝ }
+{
+    change_presences::modes::set_modes(base, sds, name, usage, definition)
+}
+
+#[no_mangle]
 pub extern "C" fn cf_scan_object(
     base: &[u8],
     schema: &[u8],
@@ -204,6 +217,13 @@ pub extern "C" fn cf_descendant_set(base: &[u8], schema: &[u8], t: usize) -> Ans
     ensures { λ r. ⌜ Answered (now (base .entry)) (descendant-set (now (schema .entry)) t) r ⌝ }
 {
     ask::descendant_set(base, schema, t)
+}
+
+#[no_mangle]
+pub extern "C" fn cf_modes(base: &[u8], schema: &[u8], t: usize) -> Answer
+    ensures { λ r. ⌜ Answered (now (base .entry)) (modes-of (now (schema .entry)) t) r ⌝ }
+{
+    ask::modes(base, schema, t)
 }
 
 #[no_mangle]

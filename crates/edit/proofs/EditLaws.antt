@@ -10,9 +10,10 @@ use borrow.Author.Tests.{eq-eqb}
 use Rattle.rules.specs.01-Lists.{any, put}
 use Rattle.rules.specs.02-Limits.{limits}
 use Rattle.rules.specs.03-Names.{same-name}
+use Rattle.rules.specs.04-Schema.{new-presence, with-modes}
 use Rattle.rules.specs.04-Schema.{Schema, Presence, Application, End, holds-name, bears, is-application, applied, is-end, has-end, side-code}
 use Rattle.rules.specs.07-Picture.{presence-width, presence-row, application-row, end-row}
-use Rattle.rules.specs.Read.{name-offset, type-offset, read-side}
+use Rattle.rules.specs.Read.{name-offset, type-offset, usage-offset, definition-offset, read-side}
 use Rattle.rules.proofs.Bools.{and-of}
 use Rattle.rules.proofs.01-Lists.{any-at}
 use Rattle.rules.proofs.03-Names.{same-name-refl}
@@ -65,14 +66,16 @@ unlike {t = t} l k q a fit it none y i e =
 
 -- ---- presences
 
-pub presence-built : (d t : ℕ) (n y : List ℕ) → d < 256 → t < 256 → length n ≤ limits .name
-    → y ≡ written (set (set (replicate presence-width 0) 0 (d % 256)) type-offset (t % 256)) name-offset n
-    → y ≡ presence-row (record { sds = d; name = n; type = t })
+pub presence-built : (d t u f : ℕ) (n y : List ℕ) → (d < 256) × ((t < 256) × (length n ≤ limits .name)) → (u < 256) × (f < 256)
+    → y ≡ written (set (set (set (set (replicate presence-width 0) 0 (d % 256)) type-offset (t % 256)) usage-offset (u % 256)) definition-offset (f % 256))
+    name-offset n → y ≡ presence-row (with-modes u f (new-presence d n t))
 unfolding presence-row
-presence-built d t n y h k l e =
+presence-built d t u f n y h m e =
     let d-is : d % 256 ≡ d = omega arith in
     let t-is : t % 256 ≡ t = omega arith in
-    e ∙ rw (d-is, t-is) (field-written (d ∷ []) (t ∷ []) n (limits .name) name-offset refl l)
+    let u-is : u % 256 ≡ u = omega arith in
+    let f-is : f % 256 ≡ f = omega arith in
+    e ∙ rw (d-is, t-is, u-is, f-is) (field-written (d ∷ []) (t ∷ u ∷ f ∷ []) n (limits .name) name-offset refl (h .1 .1))
 
 pub presence-unlike : {s : Schema} → Storable s → (a : Presence) → by-name .Fit a → bears s (a .sds) (a .name) ≡ false → Unlike presences a (s .presences)
 unfolding bears

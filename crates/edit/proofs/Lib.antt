@@ -1,3 +1,4 @@
 pub mod EditLaws
 pub mod TypeWritten
 pub mod TakenLaws
+pub mod ModesWritten

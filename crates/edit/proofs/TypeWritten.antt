@@ -37,7 +37,7 @@ type-built kind value reverse ps y h l e =
 
 -- ---- the schema
 
-set-in : {A : Type 0} (rs : List A) (i : ℕ) (a : A) {y : A} → y ∈ set rs i a → (y ≡ a) ⊎ (y ∈ rs)
+pub set-in : {A : Type 0} (rs : List A) (i : ℕ) (a : A) {y : A} → y ∈ set rs i a → (y ≡ a) ⊎ (y ∈ rs)
 set-in [] i a m = inr m
 set-in (x ∷ rs) zero a m = ⊎-elim (λ h. inl h) (λ h. inr (List·Memᴰ·tail h)) (List·Memᴰ·cases-cons m)
 set-in (x ∷ rs) (suc i) a m =

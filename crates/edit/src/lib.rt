@@ -5,18 +5,18 @@ use rules::Limits;
 ghost use mathlib.Core.Path.{_≡_};
 ghost use mathlib.Core.Bool.{true, false};
 ghost use Prim.Native.Nat.{_≤_, _<_};
-ghost use lib.ListN.{length};
-ghost use Rattle.rules.specs.01-Lists.{put};
+ghost use lib.ListN.{length, getD};
+ghost use Rattle.rules.specs.01-Lists.{put, rising};
 ghost use Rattle.rules.specs.02-Limits.{limits};
 ghost use Rattle.rules.specs.03-Names.{well-formed};
-ghost use Rattle.rules.specs.04-Schema.{bears, applied, has-end, with-presences, with-applications, with-ends};
+ghost use Rattle.rules.specs.04-Schema.{new-presence, with-modes, bears, applied, has-end, with-presences, with-applications, with-ends};
 ghost use Rattle.rules.specs.06-Good.{presence-before, application-before, end-before};
 ghost use Rattle.rules.specs.07-Picture.{presence-row, sds-row, base-length};
 ghost use Rattle.rules.specs.Read.{read-side};
 ghost use Rattle.base.specs.Back.{schema-of, presence-count, application-count, end-count};
-ghost use Rattle.base.specs.Stored.{Stored, Shows, less-row, Type-written, type-fields};
+ghost use Rattle.base.specs.Stored.{Stored, Shows, less-row, modes-row, Type-written, type-fields};
 ghost use Rattle.rows.specs.Table.{written};
-ghost use Rattle.base.specs.Rows.{sds-at};
+ghost use Rattle.base.specs.Rows.{sds-at, presence-at};
 
 // ---- SDSs
 
@@ -33,19 +33,51 @@ pub fn write_sds(base: &mut [u8], d: usize, name: &[u8])
 
 // ---- presences
 
-// The bytes of the row that says that type t is in SDS d under that name.
-fn presence_bytes(d: usize, name: &[u8], t: usize) -> [u8; Base::PRESENCE_WIDTH]
+// The bytes of the row that says that type t is in SDS d under that name, with these modes.
+fn presence_bytes(
+    d: usize,
+    name: &[u8],
+    t: usize,
+    usage: usize,
+    definition: usize,
+) -> [u8; Base::PRESENCE_WIDTH]
     requires { ⌜ (d < 256) × ((t < 256) × (length (now name) ≤ limits .name)) ⌝ }
-    ensures { λ r. ⌜ r ≡ presence-row (record { sds = d; name = now (name .entry); type = t }) ⌝ }
+    requires { ⌜ (usage < 256) × (definition < 256) ⌝ }
+    ensures { λ r. ⌜ r ≡ presence-row (with-modes usage definition (new-presence d (now (name .entry)) t)) ⌝ }
 {
     let mut row: [u8; Base::PRESENCE_WIDTH] = [0; Base::PRESENCE_WIDTH];
     row[0] = (d % 256) as u8;
     row[Base::TYPE_OFFSET] = (t % 256) as u8;
+    row[Base::USAGE_OFFSET] = (usage % 256) as u8;
+    row[Base::DEFINITION_OFFSET] = (definition % 256) as u8;
     rows::table::write(&mut row, Base::NAME_OFFSET, name);
     row
 }
 
-// Type t gets a presence in SDS d, under a name that is free there.
+// Type t gets a presence in SDS d, under a name that is free there, with these modes.
+pub fn put_with_modes(
+    base: &mut [u8],
+    d: usize,
+    name: &[u8],
+    t: usize,
+    usage: usize,
+    definition: usize,
+)
+    requires { ⌜ Stored (now base) ⌝ }
+    requires { ⌜ (d ≡ 0 → ⊥) × ((d < 256) × (t < 256)) ⌝ }
+    requires { ⌜ well-formed (now name) ≡ true ⌝ }
+    requires { ⌜ length ((schema-of (now base)) .presences) < limits .presences ⌝ }
+    requires { ⌜ bears (schema-of (now base)) d (now name) ≡ false ⌝ }
+    requires { ⌜ (usage < 256) × (definition < 256) ⌝ }
+    ensures { λ _. ⌜ (let s = schema-of (now (base .entry)) in let p = with-modes usage definition (new-presence d (now (name .entry)) t) in
+        Shows (now (base .exit)) (with-presences s (put presence-before p (s .presences)))) ⌝ }
+{
+    let row = presence_bytes(d, name, t, usage, definition);
+    let n = base::used::presence_count(base);
+    rows::table::put_in(base, Base::PRESENCES_AT, n, &row, Limits::NAME);
+}
+
+// With all five, as every new presence.
 pub fn put_presence(base: &mut [u8], d: usize, name: &[u8], t: usize)
     requires { ⌜ Stored (now base) ⌝ }
     requires { ⌜ (d ≡ 0 → ⊥) × ((d < 256) × (t < 256)) ⌝ }
@@ -53,11 +85,23 @@ pub fn put_presence(base: &mut [u8], d: usize, name: &[u8], t: usize)
     requires { ⌜ length ((schema-of (now base)) .presences) < limits .presences ⌝ }
     requires { ⌜ bears (schema-of (now base)) d (now name) ≡ false ⌝ }
     ensures { λ _. ⌜ (let s = schema-of (now (base .entry)) in
-        Shows (now (base .exit)) (with-presences s (put presence-before (record { sds = d; name = now (name .entry); type = t }) (s .presences)))) ⌝ }
+        Shows (now (base .exit)) (with-presences s (put presence-before (new-presence d (now (name .entry)) t) (s .presences)))) ⌝ }
 {
-    let row = presence_bytes(d, name, t);
-    let n = base::used::presence_count(base);
-    rows::table::put_in(base, Base::PRESENCES_AT, n, &row, Limits::NAME);
+    put_with_modes(base, d, name, t, Base::ALL_MODES, Base::ALL_MODES);
+}
+
+// Row i, of another SDS than SDS 0, gets these modes, with which the rows still rise.
+pub fn write_modes(base: &mut [u8], i: usize, usage: usize, definition: usize)
+    requires { ⌜ Stored (now base) ⌝ }
+    requires { ⌜ (i < presence-count (now base)) × (getD (now base) (presence-at i) 0 ≡ 0 → ⊥) ⌝ }
+    requires { ⌜ (usage < 256) × (definition < 256) ⌝ }
+    requires { ⌜ rising presence-before (modes-row i usage definition ((schema-of (now base)) .presences)) ≡ true ⌝ }
+    ensures { λ _. ⌜ (let s = schema-of (now (base .entry)) in
+        Shows (now (base .exit)) (with-presences s (modes-row i usage definition (s .presences)))) ⌝ }
+{
+    let modes = [(usage % 256) as u8, (definition % 256) as u8];
+    let at = Base::PRESENCES_AT + i * Base::PRESENCE_WIDTH + Base::USAGE_OFFSET;
+    rows::table::write(base, at, &modes);
 }
 
 // Row i goes.

@@ -2,7 +2,7 @@
 -- its reverse. What was there stays, so it is good. Assumes nothing.
 use Prim.Native.Nat.{ℕ, _≤_}
 use mathlib.Core.Path.{_≡_, refl, sym, ap, _∙_, subst}
-use mathlib.Core.Logic.{_⊎_, ⊎-elim}
+use mathlib.Core.Logic.{_⊎_, inl, inr, ⊎-elim}
 use mathlib.Core.List.{List, [], List·Memᴰ·not-nil}
 use mathlib.Core.Bool.{true, false, true≢false}
 use lib.Dec.{ltb}
@@ -16,9 +16,10 @@ use Rattle.rules.specs.05-Descent.{Parent, Descends}
 use Rattle.rules.specs.05-Descent.Descends.{by-parent, by-step}
 use Rattle.rules.specs.06-Good.{Good}
 use Rattle.rules.specs.Parts.{of-types, of-presences, Types, Presences}
+use Rattle.rules.proofs.Bools.{fails}
 use Rattle.rules.proofs.05-Descent.{object-used}
 use Rattle.rules.proofs.Parts.{presence-there, parts-of, whole}
-use Rattle.history.proofs.Parts.{Rows, Placed, placed-at, presences-of, applications-over, ends-over}
+use Rattle.history.proofs.Parts.{Rows, Placed, Full, placed-at, presences-of, stayed, alike-still, applications-over, ends-over}
 use Rattle.history.proofs.Rows.{present-over}
 
 -- "An object type has 1 to 4 different parents, all object types", present in that SDS
@@ -55,8 +56,8 @@ pub record Grown (ks ks′ : List Kind) (ps ps′ : List Presence) (d : ℕ) : T
   pub room : length ks′ ≡ limits .types
   pub each : (t : ℕ) → (kind-of (of-types ks′) t ≡ kind-of (of-types ks) t) ⊎ New ks ks′ ps ps′ d t
   pub old-rows : (p : Presence) → p ∈ ps → p ∈ ps′
-  -- a row that was not there is in that SDS, and of a type that was not there
-  pub rows : (p : Presence) → p ∈ ps′ → (p ∈ ps) ⊎ ((p .sds ≡ d) × New ks ks′ ps ps′ d (p .type))
+  -- a row that was not there is in that SDS, of a type that was not there, and has all modes
+  pub rows : (p : Presence) → p ∈ ps′ → (p ∈ ps) ⊎ ((p .sds ≡ d) × New ks ks′ ps ps′ d (p .type) × Full p)
 
 module _ (ks ks′ : List Kind) (ps ps′ : List Presence) (d : ℕ) where
   abbrev Kind-fits : ℕ → Kind → Type 0
@@ -176,14 +177,21 @@ module _ (ks ks′ : List Kind) (ps ps′ : List Presence) (d : ℕ) where
       };
     }
 
-    pub presences-grown : {ns : List Name} → Presences ns ks ps → Rows ns ps′ → Presences ns ks′ ps′
-    presences-grown old rs =
+    pub presences-grown : {ns : List Name} → Types ks → Presences ns ks ps → Rows ns ps′ → Presences ns ks′ ps′
+    presences-grown types old rs =
         presences-of rs
         (λ p i. ⊎-elim
         (λ j. placed-old (placed-at old (p .sds) (p .type) (presence-there j)))
         (λ n. subst (λ (x : ℕ). Placed ks′ ps′ x (p .type)) (sym (n .0)) (placed-new (n .1)))
         (g .rows p i))
+        (alike-still old (types-grown types .reverses) (λ p i. ⊎-elim
+        (λ j. inl (stayed j (kept (p .type) (old .typed p j))))
+        (λ n. inr (record { lacked = lacked (p .sds) (p .type) (n .1 .was); modes = n .2 }))
+        (g .rows p i)))
         (λ t u. ⊎-elim (λ h. let (e, q) = old .somewhere t (ap is-used (sym h) ∙ u) in (e, still e t q)) (λ n. (d, n .there)) (g .each t))
+      where
+        lacked : (e t : ℕ) → is-used (kind-of (of-types ks) t) ≡ false → present (of-presences ps) e t ≡ false
+        lacked e t u = fails (present (of-presences ps) e t) (λ h. true≢false (sym (placed-at old e t h .used) ∙ u))
 
 -- nothing else speaks of types or presences but applications and ends, and theirs stay
 pub grown-good : {s : Schema} → Good s → (ks′ : List Kind) (ps′ : List Presence) (d : ℕ) → Grown (s .types) ks′ (s .presences) ps′ d → Rows (s .sdss) ps′
@@ -195,7 +203,7 @@ grown-good {s} good ks′ ps′ d g rs =
     whole (record {
       sdss = p .sdss;
       types = types-grown (s .types) ks′ (s .presences) ps′ d g (p .types);
-      presences = presences-grown (s .types) ks′ (s .presences) ps′ d g (p .presences) rs;
+      presences = presences-grown (s .types) ks′ (s .presences) ps′ d g (p .types) (p .presences) rs;
       applications = applications-over (s .types) ks′ (s .presences) ps′ same there (p .applications);
       ends = ends-over (s .types) ks′ (s .presences) ps′ same there (p .ends);
     })

@@ -11,7 +11,7 @@ use Rattle.rules.specs.01-Lists.{first, put, put-all}
 use Rattle.rules.specs.02-Limits.{limits}
 use Rattle.rules.specs.03-Names.{Name, well-formed, blank, same-name}
 use Rattle.rules.specs.04-Schema.{Schema, Kind, Presence, kind-of, is-used, reverse-in, reverse, with-reverse, parents, holds-type, present, bears}
-use Rattle.rules.specs.04-Schema.{type-named, local-name, with-presences}
+use Rattle.rules.specs.04-Schema.{new-presence, nowhere, type-named, local-name, with-presences}
 use Rattle.rules.specs.06-Good.{presence-before, Good}
 use Rattle.rules.specs.04-Schema.Kind.{paired}
 use Rattle.rules.specs.05-Descent.{Parent}
@@ -24,11 +24,11 @@ use Rattle.rules.proofs.Bools.{or-neither, fails}
 use Rattle.rules.proofs.01-Lists.{none-at}
 use Rattle.rules.proofs.Edits.{put-long, put-each, first-in}
 use Rattle.rules.proofs.09-Refusals.{verdict-keeps}
-use Rattle.rules.proofs.Parts.{presence-there, parts-of}
+use Rattle.rules.proofs.Parts.{parts-of}
 use Rattle.history.proofs.KindLaws.{alone-or-pair, no-pair, one-reverse}
-use Rattle.history.proofs.Parts.{Rows, Placed, rows-of, placed-at}
+use Rattle.history.proofs.Parts.{Rows, Placed, Stayed, Came, rows-of, placed-at, full, stayed}
 use Rattle.history.proofs.Passed.{formed, named-present, one-free, both-free, presences-room}
-use Rattle.history.proofs.Rows.{present-still, present-new, row-fits, fits-still, rows-more, with-presences-good}
+use Rattle.history.proofs.Rows.{present-still, present-new, row-fits, fits-still, rows-more, with-more-good}
 
 -- a link type has no parents
 pair-no-parent : (ks : List Kind) (t c r a : ℕ) → kind-of (of-types ks) t ≡ paired c r → Parent (of-types ks) t a → ⊥
@@ -43,15 +43,28 @@ module _ (s : Schema) (g : Good s) where
     where
       go : (b : Bool) → not b && malformed new ≡ false → well-formed (cond b (local-name s source u) new) ≡ true
       go true e =
-          let p = first (holds-type source u) (record { sds = 0; name = []; type = 0 }) (s .presences) in
-          g .presence-named p (first-in (holds-type source u) (record { sds = 0; name = []; type = 0 }) (s .presences) there .0)
+          let p = first (holds-type source u) nowhere (s .presences) in
+          g .presence-named p (first-in (holds-type source u) nowhere (s .presences) there .0)
       go false e = formed new e
+
+  abbrev Old-or-new : List Presence → Presence → Type 0
+  Old-or-new ps q = Stayed (s .types) (s .types) (s .presences) q ⊎ (Came (s .presences) q × Placed (s .types) ps (q .sds) (q .type))
+
+  -- an SDS that lacks a type lacks its reverse
+  pub pair-lacks : (d t c r : ℕ) → kind-of s t ≡ paired c r → present s d t ≡ false → present s d r ≡ false
+  pair-lacks d t c r k lacks =
+      let (c′, back) = g .reverse-in-turn t c r k in
+      fails (present s d r) (λ e. true≢false (sym (g .reverse-present d r c′ t e back) ∙ lacks))
+
+  came : (d t : ℕ) (n : Name) → present s d t ≡ false → Came (s .presences) (new-presence d n t)
+  unfolding present
+  came d t n lacks = record { lacked = lacks; modes = full }
 
   module _ (target source : ℕ) (known : unknown-sds s target ≡ false) (outside : system-sds target ≡ false)
       (t : ℕ) (n : Name) (there : present s source t ≡ true) (lacks : present s target t ≡ false) (lineage : missing-parent s target t ≡ false)
       (well : well-formed n ≡ true) where
     abbrev x : Presence
-    x = record { sds = target; name = n; type = t }
+    x = new-presence target n t
 
     type-used : is-used (kind-of s t) ≡ true
     unfolding present
@@ -66,25 +79,26 @@ module _ (s : Schema) (g : Good s) where
         → Good (with-presences s (put presence-before x (s .presences)))
     unfolding present
     alone-comes none free room =
-        with-presences-good g
+        with-more-good g
         (rows-more (rows-of (parts-of g .presences)) x room (row-fits s target t n known outside well free lacks))
         (present-still x (s .presences))
-        (λ p i. put-each presence-before i
-        (λ q. (present (of-presences (s .presences)) (q .sds) (q .type) ≡ true)
-        ⊎ Placed (s .types) (put presence-before x (s .presences)) (q .sds) (q .type))
-        (inr (record {
-          used = type-used;
-          closed = record {
-            parents = λ a by. present-still x (s .presences) target a (parent-there a by);
-            reverse = λ c r k. absurd (no-pair (kind-of s t) none c r k);
-          };
-        }))
-        (λ j. inl (presence-there j)))
+        (λ p i. put-each presence-before i (Old-or-new (put presence-before x (s .presences)))
+        (inr (
+          came target t n lacks,
+          record {
+            used = type-used;
+            closed = record {
+              parents = λ a by. present-still x (s .presences) target a (parent-there a by);
+              reverse = λ c r k. absurd (no-pair (kind-of s t) none c r k);
+            };
+          },
+        ))
+        (λ j. inl (stayed j refl)))
 
     -- two, each the other's reverse
     module _ (c r : ℕ) (pair : kind-of s t ≡ paired c r) (m : Name) where
       abbrev y : Presence
-      y = record { sds = target; name = m; type = r }
+      y = new-presence target m r
 
       abbrev with-x : List Presence
       with-x = put presence-before x (s .presences)
@@ -96,9 +110,7 @@ module _ (s : Schema) (g : Good s) where
       still d u e = present-still y with-x d u (present-still x (s .presences) d u e)
 
       reverse-lacks : present s target r ≡ false
-      reverse-lacks =
-          let (c′, back) = g .reverse-in-turn t c r pair in
-          fails (present s target r) (λ e. true≢false (sym (g .reverse-present target r c′ t e back) ∙ lacks))
+      reverse-lacks = pair-lacks target t c r pair lacks
 
       placed-x : Placed (s .types) with-both target t
       unfolding present
@@ -134,24 +146,20 @@ module _ (s : Schema) (g : Good s) where
       pair-comes : well-formed m ≡ true → bears s target n ≡ false → bears s target m ≡ false → same-name n m ≡ false
           → length (s .presences) + 2 ≤ limits .presences → Good (with-presences s with-both)
       pair-comes well′ free free′ differ room =
-          with-presences-good g (rows well′ free free′ differ room) still
-          (λ p i. put-each presence-before i
-          (λ q. (present (of-presences (s .presences)) (q .sds) (q .type) ≡ true) ⊎ Placed (s .types) with-both (q .sds) (q .type))
-          (inr placed-y)
-          (λ j. put-each presence-before j
-          (λ q. (present (of-presences (s .presences)) (q .sds) (q .type) ≡ true) ⊎ Placed (s .types) with-both (q .sds) (q .type))
-          (inr placed-x)
-          (λ k. inl (presence-there k))))
+          with-more-good g (rows well′ free free′ differ room) still
+          (λ p i. put-each presence-before i (Old-or-new with-both) (inr (came target r m reverse-lacks, placed-y))
+          (λ j. put-each presence-before j (Old-or-new with-both) (inr (came target t n lacks, placed-x))
+          (λ k. inl (stayed k refl))))
 
 -- the presences that come in, in the two cases
 imported-alone : (target source t : ℕ) (new new-reverse : Name) (s : Schema) → reverse-in (kind-of s t) ≡ []
-    → imported target source t new new-reverse s ≡ record { sds = target; name = filled s source t new; type = t } ∷ []
+    → imported target source t new new-reverse s ≡ new-presence target (filled s source t new) t ∷ []
 unfolding imported reverse
 imported-alone target source t new new-reverse s e = rw e
 
 imported-pair : (target source t : ℕ) (new new-reverse : Name) (s : Schema) (c r : ℕ) → kind-of s t ≡ paired c r
     → imported target source t new new-reverse s
-    ≡ record { sds = target; name = filled s source t new; type = t } ∷ record { sds = target; name = filled s source r new-reverse; type = r } ∷ []
+    ≡ new-presence target (filled s source t new) t ∷ new-presence target (filled s source r new-reverse) r ∷ []
 unfolding imported reverse
 imported-pair target source t new new-reverse s c r e = rw e
 

@@ -1,18 +1,18 @@
 -- A new pair keeps a schema good: two types at once, since neither is good without the other. Assumes nothing.
 use Prim.Native.Nat.{ℕ, _+_, _≤_, _<_}
 use native.Mathlib.Omega.{arith}
-use mathlib.Core.Path.{_≡_, refl, sym, ap, _∙_, subst}
-use mathlib.Core.Logic.{inl, inr, ⊎-elim}
+use mathlib.Core.Path.{_≡_, refl, sym, _∙_, subst}
+use mathlib.Core.Logic.{_⊎_, inl, inr, ⊎-elim}
 use mathlib.Core.List.{List}
 use mathlib.Core.Bool.{true, false, _&&_, _||_, true≢false}
 use lib.Dec.{ltb, eqb}
 use lib.ListN.{length, set, length-set}
 use lib.Seq.{getD-set-same, getD-set-other}
 use borrow.Author.Tests.{ltb-false, eq-eqb, ne-eqb}
-use Rattle.rules.specs.01-Lists.{put}
+use Rattle.rules.specs.01-Lists.{_∈_, put}
 use Rattle.rules.specs.02-Limits.{limits}
 use Rattle.rules.specs.03-Names.{Name, same-name}
-use Rattle.rules.specs.04-Schema.{Schema, Kind, Presence, kind-of, is-used, present}
+use Rattle.rules.specs.04-Schema.{Schema, Kind, Presence, new-presence, kind-of, is-used, present}
 use Rattle.rules.specs.06-Good.{presence-before, Good}
 use Rattle.rules.specs.04-Schema.Kind.{unused, paired}
 use Rattle.rules.specs.09-Refusals.{malformed, no-pair, free-types}
@@ -21,11 +21,11 @@ use Rattle.rules.specs.10-Changes.{new-type, second-new-type, with-pair, new-pa
 use Rattle.rules.specs.13-History.{next}
 use Rattle.rules.specs.Parts.{of-types, of-presences}
 use Rattle.rules.proofs.Bools.{or-neither}
-use Rattle.rules.proofs.Edits.{put-long, put-in, put-old, set-either}
+use Rattle.rules.proofs.Edits.{put-long, put-each, put-old, set-either}
 use Rattle.rules.proofs.05-Descent.{members-once}
 use Rattle.rules.proofs.09-Refusals.{verdict-keeps}
 use Rattle.rules.proofs.Parts.{parts-of}
-use Rattle.history.proofs.Parts.{rows-of}
+use Rattle.history.proofs.Parts.{Full, full, rows-of}
 use Rattle.history.proofs.Passed.{formed, both-free, types-room}
 use Rattle.history.proofs.Rows.{present-still, present-new, Row-fits, row-fits, fits-still, rows-more}
 use Rattle.history.proofs.Grown.{Reverse-fits, Fits, New, Grown, grown-good}
@@ -50,10 +50,10 @@ categories c c′ e =
 
 module _ {s : Schema} (good : Good s) (t r d : ℕ) (n m : Name) (c c′ : ℕ) where
   abbrev row : Presence
-  row = record { sds = d; name = n; type = t }
+  row = new-presence d n t
 
   abbrev reverse-row : Presence
-  reverse-row = record { sds = d; name = m; type = r }
+  reverse-row = new-presence d m r
 
   abbrev ks : List Kind
   ks = set (set (s .types) t (paired c r)) r (paired c′ t)
@@ -115,16 +115,12 @@ module _ {s : Schema} (good : Good s) (t r d : ℕ) (n m : Name) (c c′ : ℕ) 
           (set-either (set (s .types) t (paired c r)) r (paired c′ t) unused
           (omega (arith, length-set (s .types) t (paired c r), good .type-room)) u);
       old-rows = λ p i. put-old presence-before reverse-row half (put-old presence-before row (s .presences) i);
-      rows = λ p i. ⊎-elim
-          (λ e. inr (comes p reverse-row e refl reverse-new))
-          (λ j. ⊎-elim (λ e. inr (comes p row e refl new)) inl (put-in presence-before row (s .presences) j))
-          (put-in presence-before reverse-row half i);
+      rows = λ p i. put-each presence-before i Old-or-new (inr (refl, reverse-new, full))
+          (λ j. put-each presence-before j Old-or-new (inr (refl, new, full)) inl);
     }
       where
-        comes : (p x : Presence) → p ≡ x → x .sds ≡ d → New (s .types) ks (s .presences) ps d (x .type)
-            → (p .sds ≡ d) × New (s .types) ks (s .presences) ps d (p .type)
-        comes p x e at w =
-            (ap (λ (q : Presence). q .sds) e ∙ at, subst (New (s .types) ks (s .presences) ps d) (sym (ap (λ (q : Presence). q .type) e)) w)
+        Old-or-new : Presence → Type 0
+        Old-or-new q = (q ∈ s .presences) ⊎ ((q .sds ≡ d) × New (s .types) ks (s .presences) ps d (q .type) × Full q)
 
     one-pair : length (s .presences) + 2 ≤ limits .presences → Row-fits (s .sdss) (s .presences) row → Row-fits (s .sdss) (s .presences) reverse-row
         → same-name n m ≡ false → Good (with-pair t r d n m c c′ s)

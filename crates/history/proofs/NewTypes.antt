@@ -2,7 +2,7 @@
 use Prim.Native.Nat.{ℕ, _+_, _≤_, _<_}
 use native.Mathlib.Omega.{arith}
 use mathlib.Core.Path.{_≡_, refl, sym, ap, _∙_, subst}
-use mathlib.Core.Logic.{inl, inr, ⊎-elim}
+use mathlib.Core.Logic.{_⊎_, inl, inr, ⊎-elim}
 use mathlib.Core.List.{List, [], _∷_, List·Memᴰ·not-nil}
 use mathlib.Core.Bool.{true, false, not, true≢false}
 use lib.Dec.{ltb}
@@ -12,7 +12,7 @@ use borrow.Author.Tests.{not-true, not-false, ltb-false}
 use Rattle.rules.specs.01-Lists.{_∈_, any, repeated, rising, put, put-all}
 use Rattle.rules.specs.02-Limits.{limits}
 use Rattle.rules.specs.03-Names.{Name, names-in}
-use Rattle.rules.specs.04-Schema.{Schema, Kind, Presence, kind-of, is-used, is-object, present, type-named}
+use Rattle.rules.specs.04-Schema.{Schema, Kind, Presence, new-presence, kind-of, is-used, is-object, present, type-named}
 use Rattle.rules.specs.06-Good.{presence-before, Good}
 use Rattle.rules.specs.04-Schema.Kind.{unused, object, attribute, designation}
 use Rattle.rules.specs.09-Refusals.{unknown-sds, system-sds, malformed, unknown-value-kind, not-1-to-4, no-such-name, no-object, names-taken}
@@ -23,12 +23,12 @@ use Rattle.rules.specs.10-Changes.{parents-named, new-object, new-object-refusa
 use Rattle.rules.specs.13-History.{next}
 use Rattle.rules.proofs.Bools.{or-neither, fails}
 use Rattle.rules.proofs.01-Lists.{none-at, place-in, map-in, unrepeated}
-use Rattle.rules.proofs.Edits.{put-in, put-old, put-all-long, put-all-in, set-either}
+use Rattle.rules.proofs.Edits.{put-each, put-old, put-all-long, put-all-in, set-either}
 use Rattle.rules.proofs.05-Descent.{members-in}
 use Rattle.rules.proofs.09-Refusals.{verdict-keeps}
 use Rattle.history.proofs.Orders.{number-order, put-all-rises}
 use Rattle.rules.proofs.Parts.{parts-of}
-use Rattle.history.proofs.Parts.{rows-of, placed-at}
+use Rattle.history.proofs.Parts.{Full, full, rows-of, placed-at}
 use Rattle.history.proofs.Passed.{formed, named-present, one-free, types-room}
 use Rattle.history.proofs.Rows.{present-new, Row-fits, row-fits, rows-more}
 use Rattle.history.proofs.Grown.{Parents-fit, Fits, New, Grown, grown-good}
@@ -52,7 +52,7 @@ unused-nowhere {s} good d t u = fails (present s d t) (λ e. true≢false (sym (
 
 module _ {s : Schema} (good : Good s) (t : ℕ) (k : Kind) (d : ℕ) (n : Name) where
   abbrev row : Presence
-  row = record { sds = d; name = n; type = t }
+  row = new-presence d n t
 
   abbrev more-types : List Kind
   more-types = set (s .types) t k
@@ -77,13 +77,10 @@ module _ {s : Schema} (good : Good s) (t : ℕ) (k : Kind) (d : ℕ) (n : Name) 
           (λ p. inl (p .1))
           (set-either (s .types) t k unused (omega (arith, good .type-room)) u);
       old-rows = λ p i. put-old presence-before row (s .presences) i;
-      rows = λ p i. ⊎-elim
-          (λ e. inr (
-            ap (λ (q : Presence). q .sds) e,
-            subst (New (s .types) more-types (s .presences) more-presences d) (sym (ap (λ (q : Presence). q .type) e)) new,
-          ))
-          inl
-          (put-in presence-before row (s .presences) i);
+      rows = λ p i. put-each presence-before i
+          (λ q. (q ∈ s .presences) ⊎ ((q .sds ≡ d) × New (s .types) more-types (s .presences) more-presences d (q .type) × Full q))
+          (inr (refl, new, full))
+          inl;
     }
 
     one-type : length (s .presences) + 1 ≤ limits .presences → Row-fits (s .sdss) (s .presences) row → Good (with-type t k d n s)
@@ -94,7 +91,7 @@ module _ {s : Schema} (good : Good s) (t : ℕ) (k : Kind) (d : ℕ) (n : Name) 
 -- the lowest unused number, for a kind that fits whatever the number is
 lowest : {s : Schema} → Good s → (k : Kind) (d : ℕ) (n : Name)
     → Fits (s .types) (set (s .types) (new-type s) k) (s .presences)
-    (put presence-before (record { sds = d; name = n; type = new-type s }) (s .presences)) d (new-type s) k
+    (put presence-before (new-presence d n (new-type s)) (s .presences)) d (new-type s) k
     → unknown-sds s d ≡ false → system-sds d ≡ false → malformed n ≡ false → names-taken s d (n ∷ []) ≡ false → types-full s 1 ≡ false
     → Good (with-type (new-type s) k d n s)
 lowest {s} good k d n fits c2 c3 c4 c11 c14 =

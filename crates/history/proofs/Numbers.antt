@@ -20,8 +20,8 @@ use Rattle.rules.specs.10-Changes as Changes
 use Rattle.rules.specs.11-Asks as Asks
 use Rattle.rules.specs.13-History.{Change, Ask, Call, change-rule, ask-rule, Allowed}
 use Rattle.rules.specs.13-History.Change.{new-sds, remove-sds, new-object, new-attribute, new-designation, new-pair, import, apply}
-use Rattle.rules.specs.13-History.Change.{unapply, apply-link, unapply-link, add-destination, remove-destination, remove-type, rename}
-use Rattle.rules.specs.13-History.Ask.{scan-object, scan-link, profile, find, depth-of, name, descendant-set}
+use Rattle.rules.specs.13-History.Change.{unapply, apply-link, unapply-link, add-destination, remove-destination, remove-type, rename, set-modes}
+use Rattle.rules.specs.13-History.Ask.{scan-object, scan-link, profile, find, depth-of, name, descendant-set, modes-of}
 use Rattle.rules.specs.13-History.Call.{begin-fresh, change, ask}
 use Rattle.rules.proofs.Bools.{and-both, or-cases}
 use Rattle.rules.proofs.01-Lists.{all-at}
@@ -56,7 +56,7 @@ not-1 (done one two three made) h e = omega arith
 pub change-refuses : (c : Change) (s : Schema) → Refusing Fair (change-rule c s)
 unfolding
     any all Changes.new-sds Changes.remove-sds Changes.new-object Changes.new-attribute Changes.new-designation Changes.new-pair Changes.import
-    Changes.apply Changes.unapply Changes.add-end Changes.remove-end Changes.remove-type Changes.rename
+    Changes.apply Changes.unapply Changes.add-end Changes.remove-end Changes.remove-type Changes.rename Changes.set-modes
 change-refuses (new-sds n) s = verdict-fair (Changes.new-sds-refusals n s) _ refl tt
 change-refuses (remove-sds d) s = verdict-fair (Changes.remove-sds-refusals d s) _ refl tt
 change-refuses (new-object d n run) s = verdict-fair (Changes.new-object-refusals d n run s) _ refl tt
@@ -72,9 +72,10 @@ change-refuses (add-destination d n m) s = verdict-fair (Changes.add-end-refusal
 change-refuses (remove-destination d n m) s = verdict-fair (Changes.remove-end-refusals destination d n m s) _ refl tt
 change-refuses (remove-type d n) s = verdict-fair (Changes.remove-type-refusals d n s) _ refl tt
 change-refuses (rename d n new) s = verdict-fair (Changes.rename-refusals d n new s) _ refl tt
+change-refuses (set-modes d n usage definition) s = verdict-fair (Changes.set-modes-refusals d n usage definition s) _ refl tt
 
 pub ask-refuses : (q : Ask) (s : Schema) → Refusing Fair (ask-rule q s)
-unfolding any all Asks.scan-object Asks.scan-link Asks.profile Asks.find Asks.depth-of Asks.name Asks.descendant-set
+unfolding any all Asks.scan-object Asks.scan-link Asks.profile Asks.find Asks.depth-of Asks.name Asks.descendant-set Asks.modes-of
 ask-refuses (scan-object w t code room) s = verdict-fair (Asks.scan-object-refusals w t code room s) _ refl tt
 ask-refuses (scan-link w t code room) s = verdict-fair (Asks.scan-link-refusals w t code room s) _ refl tt
 ask-refuses (profile w t room) s = verdict-fair (Asks.profile-refusals w t room s) _ refl tt
@@ -82,6 +83,7 @@ ask-refuses (find w n) s = verdict-fair (Asks.find-refusals w n s) _ refl tt
 ask-refuses (depth-of w t) s = verdict-fair (Asks.object-refusals w t s) _ refl tt
 ask-refuses (name d t) s = verdict-fair (Asks.name-refusals d t s) _ refl tt
 ask-refuses (descendant-set w t) s = verdict-fair (Asks.object-refusals w t s) _ refl tt
+ask-refuses (modes-of w t) s = verdict-fair (Asks.modes-refusals w t s) _ refl tt
 
 pub allowed-not-1 : (s : Schema) → Good s → (c : Call) (a : Answer) (b : List ℕ) → Allowed c (picture s) a b → a .no ≡ 1 → ⊥
 allowed-not-1 s g begin-fresh a b k e = let z : _≡_ {A = ℕ} 0 1 = sym (no-of (k .written (picture-length s) .0)) ∙ e in omega arith

@@ -104,51 +104,54 @@ flip : (x : Bool) → not x ≡ true → x ≡ false
 flip true h = absurd (false≢true h)
 flip false h = refl
 
--- by a name first, and then by a number
-abbrev named : Name → Name → ℕ → ℕ → Bool
-named n m t u = name-before n m || (not (name-before m n) && ltb t u)
+-- by a name first, and then by the rest
+abbrev named : Name → Name → Bool → Bool
+named n m rest = name-before n m || (not (name-before m n) && rest)
 
-named-connected : (n m : Name) (t u : ℕ) → named n m t u ≡ false → named m n u t ≡ false → (n ≡ m) × (t ≡ u)
-named-connected n m t u e f =
-    let (a, b) = or-neither (name-before n m) (not (name-before m n) && ltb t u) e in
-    let (c, d) = or-neither (name-before m n) (not (name-before n m) && ltb u t) f in
-    let b′ : ltb t u ≡ false = rw c at b in
-    let d′ : ltb u t ≡ false = rw a at d in
-    (name-connected n m a c, omega (arith, ltb-false t u b′, ltb-false u t d′))
+named-connected : (n m : Name) (r q : Bool) → named n m r ≡ false → named m n q ≡ false → (n ≡ m) × (r ≡ false) × (q ≡ false)
+named-connected n m r q e f =
+    let (a, b) = or-neither (name-before n m) (not (name-before m n) && r) e in
+    let (c, d) = or-neither (name-before m n) (not (name-before n m) && q) f in
+    (name-connected n m a c, rw c at b, rw a at d)
 
-named-transitive : (n m o : Name) (t u v : ℕ) → named n m t u ≡ true → named m o u v ≡ true → named n o t v ≡ true
-named-transitive n m o t u v e f = go (name-before n m) refl (name-before m o) refl e f
+named-transitive : (n m o : Name) (r q p : Bool) → named n m r ≡ true → named m o q ≡ true → (r ≡ true → q ≡ true → p ≡ true) → named n o p ≡ true
+named-transitive n m o r q p e f g = go (name-before n m) refl (name-before m o) refl e f
   where
+    first : name-before n o ≡ true → named n o p ≡ true
+    first = or-left (name-before n o) (not (name-before o n) && p)
+
     -- where neither is before the other the names are one
-    go : (a : Bool) → name-before n m ≡ a → (b : Bool) → name-before m o ≡ b → a || (not (name-before m n) && ltb t u) ≡ true
-        → b || (not (name-before o m) && ltb u v) ≡ true → named n o t v ≡ true
-    go true p true q e f = or-left (name-before n o) (not (name-before o n) && ltb t v) (name-transitive n m o p q)
-    go true p false q e f =
-        let (x, y) = and-both (not (name-before o m)) (ltb u v) f in
-        let same : m ≡ o = name-connected m o q (flip (name-before o m) x) in
-        or-left (name-before n o) (not (name-before o n) && ltb t v) (ap (name-before n) (sym same) ∙ p)
-    go false p true q e f =
-        let (x, y) = and-both (not (name-before m n)) (ltb t u) e in
-        let same : n ≡ m = name-connected n m p (flip (name-before m n) x) in
-        or-left (name-before n o) (not (name-before o n) && ltb t v) (ap (λ (k : Name). name-before k o) same ∙ q)
-    go false p false q e f =
-        let (x, y) = and-both (not (name-before m n)) (ltb t u) e in
-        let (z, w) = and-both (not (name-before o m)) (ltb u v) f in
-        let same : n ≡ m = name-connected n m p (flip (name-before m n) x) in
-        or-right (name-before n o) (not (name-before o n) && ltb t v)
-        (and-of (not (name-before o n)) (ltb t v) (ap (λ (k : Name). not (name-before o k)) same ∙ z)
-        (number-order .transitive t u v y w))
+    go : (a : Bool) → name-before n m ≡ a → (b : Bool) → name-before m o ≡ b → a || (not (name-before m n) && r) ≡ true
+        → b || (not (name-before o m) && q) ≡ true → named n o p ≡ true
+    go true h true k e f = first (name-transitive n m o h k)
+    go true h false k e f =
+        let (x, y) = and-both (not (name-before o m)) q f in
+        first (ap (name-before n) (sym (name-connected m o k (flip (name-before o m) x))) ∙ h)
+    go false h true k e f =
+        let (x, y) = and-both (not (name-before m n)) r e in
+        first (ap (λ (l : Name). name-before l o) (name-connected n m h (flip (name-before m n) x)) ∙ k)
+    go false h false k e f =
+        let (x, y) = and-both (not (name-before m n)) r e in
+        let (z, w) = and-both (not (name-before o m)) q f in
+        let same : n ≡ m = name-connected n m h (flip (name-before m n) x) in
+        or-right (name-before n o) (not (name-before o n) && p)
+        (and-of (not (name-before o n)) p (ap (λ (l : Name). not (name-before o l)) same ∙ z) (g y w))
 
 pub presence-order : Order presence-before
 unfolding presence-before
 presence-order = record {
   connected = λ x y p q.
       let (a, p1, q1) = by-connected (x .sds) (y .sds) _ _ p q in
-      let (b, c) = named-connected (x .name) (y .name) (x .type) (y .type) p1 q1 in
-      λ i. record { sds = a i; name = b i; type = c i };
+      let (b, p2, q2) = named-connected (x .name) (y .name) _ _ p1 q1 in
+      let (c, p3, q3) = by-connected (x .type) (y .type) _ _ p2 q2 in
+      let (d, p4, q4) = by-connected (x .usage) (y .usage) _ _ p3 q3 in
+      λ i. record { sds = a i; name = b i; type = c i; usage = d i; definition = number-order .connected (x .definition) (y .definition) p4 q4 i };
   transitive = λ x y z p q.
       by-transitive (x .sds) (y .sds) (z .sds) _ _ _ p q (λ p1 q1.
-      named-transitive (x .name) (y .name) (z .name) (x .type) (y .type) (z .type) p1 q1);
+      named-transitive (x .name) (y .name) (z .name) _ _ _ p1 q1 (λ p2 q2.
+      by-transitive (x .type) (y .type) (z .type) _ _ _ p2 q2 (λ p3 q3.
+      by-transitive (x .usage) (y .usage) (z .usage) _ _ _ p3 q3 (λ p4 q4.
+      number-order .transitive (x .definition) (y .definition) (z .definition) p4 q4))));
 }
 
 -- ---- rising lists

@@ -1,21 +1,25 @@
 -- A good schema with some of its parts changed: what each table needs when another changes. Assumes nothing.
 use Prim.Native.Nat.{ℕ, _+_, _≤_}
 use native.Mathlib.Omega.{arith}
-use mathlib.Core.Path.{_≡_, sym, _∙_}
-use mathlib.Core.List.{List}
-use mathlib.Core.Bool.{Bool, true}
+use mathlib.Core.Path.{_≡_, refl, sym, ap, _∙_, subst}
+use mathlib.Core.Logic.{_⊎_, ⊎-elim}
+use mathlib.Core.List.{List, List·Memᴰ·cases-cons}
+use mathlib.Core.List.List·Memᴰ.{List·Memᴰ·head, List·Memᴰ·tail}
+use mathlib.Core.Bool.{Bool, true, false, true≢false}
 use lib.ListN.{length}
 use Rattle.rules.specs.01-Lists.{_∈_, without, put-all}
 use Rattle.rules.specs.03-Names.{Name}
 use Rattle.rules.specs.04-Schema.{Schema, Kind, Presence, Application, End, used-sds, kind-of, is-used, present, with-sdss, with-applications}
-use Rattle.rules.specs.04-Schema.{with-ends}
-use Rattle.rules.specs.06-Good.{Good}
-use Rattle.rules.specs.Parts.{of-sdss, of-types, of-presences, Sdss, Presence-rows, Once, Closed-under, Presences, Ordered, Applications, Ends}
+use Rattle.rules.specs.04-Schema.{with-ends, new-presence, reverse, reverse-in, with-reverse}
+use Rattle.rules.specs.04-Schema.Kind.{paired}
+use Rattle.rules.specs.06-Good.{Same-modes, Good}
+use Rattle.rules.specs.Parts.{of-sdss, of-types, of-presences, Sdss, Reverses, Presence-rows, Once, Closed-under, Somewhere, Alike, Presences}
+use Rattle.rules.specs.Parts.{Ordered, Applications, Ends}
 use Rattle.rules.proofs.01-Lists.{Different}
 use Rattle.rules.proofs.05-Descent.{object-used}
 use Rattle.rules.proofs.Edits.{put-all-long, without-long}
 use Rattle.rules.proofs.Parts.{present-each, parts-of, whole, applied-over, ended-over, applied-held, ended-held}
-use Rattle.history.proofs.KindLaws.{attribute-used, link-used, either-used}
+use Rattle.history.proofs.KindLaws.{attribute-used, link-used, either-used, has-reverse}
 use Rattle.history.proofs.Orders.{Order, put-all-rises, without-rises}
 
 -- the presences by themselves, before any type is asked about
@@ -35,15 +39,99 @@ module _ {ns : List Name} {ks : List Kind} {ps : List Presence} where
   pub placed-at : Presences ns ks ps → (d t : ℕ) → present (of-presences ps) d t ≡ true → Placed ks ps d t
   placed-at g = present-each ps (Placed ks ps) (λ p i. record { used = g .typed p i; closed = g .closed p i })
 
-  pub presences-of : Rows ns ps → ((p : Presence) → p ∈ ps → Placed ks ps (p .sds) (p .type))
-      → ((t : ℕ) → is-used (kind-of (of-types ks) t) ≡ true → (d : ℕ) × (present (of-presences ps) d t ≡ true)) → Presences ns ks ps
-  presences-of r each somewhere = record {
+  pub presences-of : Rows ns ps → ((p : Presence) → p ∈ ps → Placed ks ps (p .sds) (p .type)) → Alike ks ps → Somewhere ks ps → Presences ns ks ps
+  presences-of r each alike somewhere = record {
     rows = r .rows;
     once = r .once;
     typed = λ p i. each p i .used;
     closed = λ p i. each p i .closed;
+    alike = alike;
     somewhere = somewhere;
   }
+
+-- ---- a link type and its reverse have the same modes still
+
+-- a presence that was there, perhaps under another name: its type is what it was, and so are its modes
+pub record Stayed (ks ks′ : List Kind) (ps : List Presence) (p : Presence) : Type 0 where
+  pub row : Presence
+  pub there : row ∈ ps
+  pub sds : row .sds ≡ p .sds
+  pub type : row .type ≡ p .type
+  pub modes : Same-modes row p
+  pub kind : kind-of (of-types ks′) (p .type) ≡ kind-of (of-types ks) (p .type)
+
+-- both sets are all five
+abbrev pub Full : Presence → Type 0
+Full p = Same-modes p (new-presence (p .sds) (p .name) (p .type))
+
+pub full : {d t : ℕ} {n : Name} → Full (new-presence d n t)
+full = record { usage = refl; definition = refl }
+
+-- one of a type that was not there, with all modes
+pub record Came (ps : List Presence) (p : Presence) : Type 0 where
+  pub lacked : present (of-presences ps) (p .sds) (p .type) ≡ false
+  pub modes : Full p
+
+pub stayed : {ks ks′ : List Kind} {ps : List Presence} {p : Presence} → p ∈ ps → kind-of (of-types ks′) (p .type) ≡ kind-of (of-types ks) (p .type)
+    → Stayed ks ks′ ps p
+stayed {p = p} i same = record { row = p; there = i; sds = refl; type = refl; modes = record { usage = refl; definition = refl }; kind = same }
+
+module _ {ns : List Name} {ks ks′ : List Kind} {ps ps′ : List Presence} (g : Presences ns ks ps) (turned : Reverses ks′)
+    (each : (p : Presence) → p ∈ ps′ → Stayed ks ks′ ps p ⊎ Came ps p) where
+  was-paired : {p : Presence} (f : Stayed ks ks′ ps p) {c r : ℕ} → kind-of (of-types ks′) (p .type) ≡ paired c r
+      → kind-of (of-types ks) (f .row .type) ≡ paired c r
+  was-paired f k = ap (kind-of (of-types ks)) (f .type) ∙ sym (f .kind) ∙ k
+
+  -- the reverse of what was there was there
+  never-came : {p q : Presence} → Stayed ks ks′ ps p → Came ps q → p .sds ≡ q .sds → (c : ℕ) → kind-of (of-types ks′) (p .type) ≡ paired c (q .type) → ⊥
+  never-came {p} {q} f a d c k =
+      true≢false
+      (sym (g .closed (f .row) (f .there) .reverse c (q .type) (was-paired f k))
+      ∙ ap (λ (e : ℕ). present (of-presences ps) e (q .type)) (f .sds ∙ d) ∙ a .lacked)
+
+  pub alike-still : Alike ks′ ps′
+  alike-still p q i j d c k =
+      ⊎-elim
+      (λ f. ⊎-elim
+      (λ h. let m = g .alike (f .row) (h .row) (f .there) (h .there) (f .sds ∙ d ∙ sym (h .sds)) c (was-paired f k ∙ ap (paired c) (sym (h .type))) in
+      record {
+        usage = sym (f .modes .usage) ∙ m .usage ∙ h .modes .usage;
+        definition = sym (f .modes .definition) ∙ m .definition ∙ h .modes .definition;
+      })
+      (λ b. absurd (never-came f b d c k))
+      (each q j))
+      (λ a. ⊎-elim
+      (λ h. let (c′, back) = turned .in-turn (p .type) c (q .type) k in absurd (never-came h a (sym d) c′ back))
+      (λ b. record { usage = a .modes .usage ∙ sym (b .modes .usage); definition = a .modes .definition ∙ sym (b .modes .definition) })
+      (each q j))
+      (each p i)
+
+-- what holds of a type, and of its reverse where it has one, holds of both
+pub reverse-each : (s : Schema) (t : ℕ) (P : ℕ → Type 0) → P t → ((c r : ℕ) → kind-of s t ≡ paired c r → P r) → (u : ℕ) → u ∈ with-reverse s t → P u
+unfolding reverse
+reverse-each s t P one other u i =
+    ⊎-elim (λ e. subst P (sym e) one) (λ j. let (c, k) = has-reverse (kind-of s t) u j in other c u k) (List·Memᴰ·cases-cons i)
+
+-- of a pair both are a type or its reverse, or neither
+pub pair-closed : {s : Schema} → Good s → (t u c r : ℕ) → kind-of s u ≡ paired c r → r ∈ with-reverse s t → u ∈ with-reverse s t
+unfolding reverse
+pair-closed {s} g t u c r k i = ⊎-elim first second (List·Memᴰ·cases-cons i)
+  where
+    first : r ≡ t → u ∈ with-reverse s t
+    first same =
+        let (c′, h) = g .reverse-in-turn u c r k in
+        let own : kind-of s t ≡ paired c′ u = ap (kind-of s) (sym same) ∙ h in
+        let there : u ∈ reverse-in (kind-of s t) = rw own (List·Memᴰ·head refl) in
+        List·Memᴰ·tail there
+
+    second : r ∈ reverse-in (kind-of s t) → u ∈ with-reverse s t
+    second j =
+        let (c′, h) = has-reverse (kind-of s t) r j in
+        let (b, mine) = g .reverse-in-turn u c r k in
+        let (b′, its) = g .reverse-in-turn t c′ r h in
+        let same : paired b u ≡ paired b′ t = sym mine ∙ its in
+        let itself : u ≡ t = cc in
+        List·Memᴰ·head itself
 
 -- ---- with one table changed that no other speaks of, or only in part
 
@@ -66,7 +154,7 @@ with-sdss-good {s} g {ns} sdss used =
     whole (record {
       sdss = sdss;
       types = p .types;
-      presences = record { rows = over (q .rows); once = q .once; typed = q .typed; closed = q .closed; somewhere = q .somewhere };
+      presences = record { rows = over (q .rows); once = q .once; typed = q .typed; closed = q .closed; alike = q .alike; somewhere = q .somewhere };
       applications = p .applications;
       ends = p .ends;
     })
@@ -76,6 +164,7 @@ with-sdss-good {s} g {ns} sdss used =
       room = r .room;
       in-used = used;
       named = r .named;
+      known = r .known;
       unique = r .unique;
       system = r .system;
       system-alone = r .system-alone;

@@ -9,7 +9,7 @@ use borrow.Author.Tests.{not-false, ltb-false, eq-eqb}
 use Rattle.rules.specs.01-Lists.{any, first}
 use Rattle.rules.specs.02-Limits.{limits}
 use Rattle.rules.specs.03-Names.{Name, well-formed, same-name}
-use Rattle.rules.specs.04-Schema.{Schema, used-sds, holds-type, holds-name, present, bears, type-named}
+use Rattle.rules.specs.04-Schema.{Schema, nowhere, used-sds, holds-type, holds-name, present, bears, type-named}
 use Rattle.rules.specs.09-Refusals.{unknown-sds, system-sds, malformed, no-such-name, names-taken, free-types, presences-full, types-full}
 use Rattle.rules.proofs.Bools.{or-neither, and-both, and-of}
 use Rattle.rules.proofs.01-Lists.{any-at}
@@ -34,8 +34,8 @@ formed n e = not-false (well-formed n) e
 pub named-present : (s : Schema) (d : ℕ) (n : Name) → no-such-name s d n ≡ false → present s d (type-named s d n) ≡ true
 unfolding no-such-name bears present type-named
 named-present s d n e =
-    let (i, h) = first-in (holds-name d n) (record { sds = 0; name = []; type = 0 }) (s .presences) (not-false (bears s d n) e) in
-    let p = first (holds-name d n) (record { sds = 0; name = []; type = 0 }) (s .presences) in
+    let (i, h) = first-in (holds-name d n) nowhere (s .presences) (not-false (bears s d n) e) in
+    let p = first (holds-name d n) nowhere (s .presences) in
     any-at (holds-type d (p .type)) i
     (and-of (eqb (p .sds) d) (eqb (p .type) (p .type)) (and-both (eqb (p .sds) d) (same-name (p .name) n) h .0) (eq-eqb (p .type) (p .type) refl))
 

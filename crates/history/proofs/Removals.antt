@@ -1,9 +1,8 @@
 -- Remove type keeps a schema good. Assumes nothing.
 use Prim.Native.Nat.{ℕ}
 use mathlib.Core.Path.{_≡_, refl, sym, subst, ap, _∙_}
-use mathlib.Core.Logic.{⊎-elim}
+use mathlib.Core.Logic.{inl, ⊎-elim}
 use mathlib.Core.List.{List, [], _∷_, List·Memᴰ·not-nil, List·Memᴰ·cases-cons}
-use mathlib.Core.List.List·Memᴰ.{List·Memᴰ·head, List·Memᴰ·tail}
 use mathlib.Core.Bool.{Bool, true, false, cond, _&&_, true≢false, false≢true}
 use lib.Dec.{leb, eqb}
 use lib.ListN.{length, length-set, getD, set, List·getD-eq-default}
@@ -12,7 +11,7 @@ use borrow.Author.Tests.{eqb-true, eqb-false, eq-eqb, leb-true, leb-false}
 use Rattle.rules.specs.01-Lists.{_∈_, any, among, without}
 use Rattle.rules.specs.03-Names.{Name}
 use Rattle.rules.specs.04-Schema.{Schema, Kind, Presence, Application, End, system-presence, kind-of, is-used, is-object, parents, parents-in}
-use Rattle.rules.specs.04-Schema.{is-parent, reverse, reverse-in, with-reverse, present, type-named, applied, is-application, has-end, with-types}
+use Rattle.rules.specs.04-Schema.{is-parent, reverse, with-reverse, present, type-named, applied, is-application, has-end, with-types}
 use Rattle.rules.specs.04-Schema.{with-presences}
 use Rattle.rules.specs.04-Schema.Kind.{unused, object, attribute, paired}
 use Rattle.rules.specs.05-Descent.{Parent}
@@ -30,8 +29,8 @@ use Rattle.rules.proofs.08-Working.{present-used}
 use Rattle.rules.proofs.09-Refusals.{verdict-keeps, none-passes, on-side}
 use Rattle.rules.proofs.Parts.{presence-there, presence-of, parts-of, whole, applied-over, ended-over, applied-held, ended-held}
 use Rattle.history.proofs.EndChanges.{in-has}
-use Rattle.history.proofs.KindLaws.{kind-unused, has-reverse}
-use Rattle.history.proofs.Parts.{Placed, rows-of, placed-at, presences-of}
+use Rattle.history.proofs.KindLaws.{kind-unused}
+use Rattle.history.proofs.Parts.{Placed, rows-of, placed-at, presences-of, stayed, alike-still, pair-closed}
 use Rattle.history.proofs.Passed.{aimed}
 use Rattle.history.proofs.Rows.{rows-less}
 
@@ -115,8 +114,8 @@ module _ {ks ks′ : List Kind} {ps : List Presence} (placed : All-placed ks ps)
   }
 
 presences-left : {ns : List Name} {ks ks′ : List Kind} (q : Presence → Bool) {ps : List Presence} → All-placed ks (without q ps)
-    → Left ks ks′ (without q ps) → q system-presence ≡ false → Presences ns ks ps → Presences ns ks′ (without q ps)
-presences-left q placed left stays g =
+    → Left ks ks′ (without q ps) → q system-presence ≡ false → Types ks′ → Presences ns ks ps → Presences ns ks′ (without q ps)
+presences-left q {ps} placed left stays types g =
     presences-of (rows-less (rows-of g) q stays)
     (λ p i.
     let c = placed (p .sds) (p .type) (presence-there i) in
@@ -127,6 +126,7 @@ presences-left q placed left stays g =
         reverse = λ b r k. c .closed .reverse b r (was placed left (p .type) (paired b r) refl k);
       };
     })
+    (alike-still g (types .reverses) (λ p i. inl (stayed (without-in q ps i .0) (left .stays (p .sds) (p .type) (presence-there i)))))
     (left .found)
 
 -- ---- the types that are gone
@@ -239,27 +239,6 @@ module _ (d : ℕ) (ts : List ℕ) (ps : List Presence) where
 module _ {s : Schema} (g : Good s) (d t : ℕ) (outside : d ≡ 0 → ⊥) (no-child : (16 held-by in-the-way (child-there s d) (with-reverse s t)) .holds ≡ false)
     (no-application : (17 held-by in-the-way (applied-there s d) (with-reverse s t)) .holds ≡ false)
     (no-end : (18 held-by in-the-way (end-there s d) (with-reverse s t)) .holds ≡ false) where
-  -- of a pair both are taken or neither
-  pair-closed : (u c r : ℕ) → kind-of s u ≡ paired c r → r ∈ with-reverse s t → u ∈ with-reverse s t
-  unfolding reverse
-  pair-closed u c r k i = ⊎-elim first second (List·Memᴰ·cases-cons i)
-    where
-      first : r ≡ t → u ∈ with-reverse s t
-      first same =
-          let (c′, h) = g .reverse-in-turn u c r k in
-          let own : kind-of s t ≡ paired c′ u = ap (kind-of s) (sym same) ∙ h in
-          let there : u ∈ reverse-in (kind-of s t) = rw own (List·Memᴰ·head refl) in
-          List·Memᴰ·tail there
-
-      second : r ∈ reverse-in (kind-of s t) → u ∈ with-reverse s t
-      second j =
-          let (c′, h) = has-reverse (kind-of s t) r j in
-          let (b, mine) = g .reverse-in-turn u c r k in
-          let (b′, its) = g .reverse-in-turn t c′ r h in
-          let same : paired b u ≡ paired b′ t = sym mine ∙ its in
-          let itself : u ≡ t = cc in
-          List·Memᴰ·head itself
-
   -- no type in SDS d stands in one of these ways
   free-of : (n : ℕ) (holds : ℕ → ℕ → Bool) → (n held-by in-the-way holds (with-reverse s t)) .holds ≡ false → {u v : ℕ} → u ∈ with-reverse s t
       → present s d v ≡ true → holds u v ≡ true → ⊥
@@ -329,7 +308,7 @@ module _ {s : Schema} (g : Good s) (d t : ℕ) (outside : d ≡ 0 → ⊥) (no-c
         closed = record {
           parents = λ a by. stays-present e a (c .closed .parents a by)
               (λ same i. childless a v i (subst (λ (x : ℕ). present s x v ≡ true) same w) by);
-          reverse = λ b r k. stays-present e r (c .closed .reverse b r k) (λ same i. n same (pair-closed v b r k i));
+          reverse = λ b r k. stays-present e r (c .closed .reverse b r k) (λ same i. n same (pair-closed g t v b r k i));
         };
       }
 
@@ -361,8 +340,8 @@ module _ {s : Schema} (g : Good s) (d t : ℕ) (outside : d ≡ 0 → ⊥) (no-c
       subst Good (sym (gone-is (with-reverse s t) (with-presences s rest)))
       (whole (record {
         sdss = p .sdss;
-        types = types-left rest-placed types-rest (without-keeps (goes d (with-reverse s t)) (s .presences) (p .presences .rows .system) system) (p .types);
-        presences = presences-left (goes d (with-reverse s t)) rest-placed types-rest system (p .presences);
+        types = types;
+        presences = presences-left (goes d (with-reverse s t)) rest-placed types-rest system types (p .presences);
         applications = applications-left rest-placed types-rest applied (p .applications);
         ends = ends-left rest-placed types-rest ended (p .ends);
       }))
@@ -372,6 +351,9 @@ module _ {s : Schema} (g : Good s) (d t : ℕ) (outside : d ≡ 0 → ⊥) (no-c
 
       system : goes d (with-reverse s t) system-presence ≡ false
       system = never-both (eqb 0 d) (among (with-reverse s t) 0) (λ e _. outside (sym (eqb-true 0 d e)))
+
+      types : Types (left .types)
+      types = types-left rest-placed types-rest (without-keeps (goes d (with-reverse s t)) (s .presences) (p .presences .rows .system) system) (p .types)
 
       applied : (x : Application) → x ∈ s .applications
           → (present (of-presences rest) (x .sds) (x .to) ≡ true) × (present (of-presences rest) (x .sds) (x .attribute) ≡ true)

@@ -3,7 +3,7 @@ use Prim.Native.Nat.{ℕ, _+_, _≤_}
 use native.Mathlib.Omega.{arith}
 use mathlib.Core.Path.{_≡_, refl, sym, ap, _∙_}
 use mathlib.Core.Logic.{inl}
-use mathlib.Core.List.{List, []}
+use mathlib.Core.List.{List}
 use mathlib.Core.Bool.{Bool, true, false, not, true≢false}
 use lib.Dec.{eqb}
 use lib.ListN.{length}
@@ -11,26 +11,32 @@ use borrow.Author.Tests.{not-false, eqb-true, eq-eqb, ne-eqb}
 use Rattle.rules.specs.01-Lists.{_∈_, first, without, put}
 use Rattle.rules.specs.02-Limits.{limits}
 use Rattle.rules.specs.03-Names.{Name, same-name}
-use Rattle.rules.specs.04-Schema.{Schema, Presence, system-presence, used-sds, holds-type, holds-name, present, bears, type-named, with-presences}
+use Rattle.rules.specs.04-Schema.{Schema, Presence, system-presence, nowhere, used-sds, holds-type, holds-name, present, bears, type-named}
+use Rattle.rules.specs.04-Schema.{type-presence, with-presences}
 use Rattle.rules.specs.06-Good.{presence-before, Good}
 use Rattle.rules.specs.09-Refusals.{unknown-sds, system-sds, malformed, borne-by-another}
 use Rattle.rules.specs.09-Refusals.Outcome.{done}
-use Rattle.rules.specs.10-Changes.{rename, rename-refusals}
+use Rattle.rules.specs.10-Changes.{renamed, rename, rename-refusals}
 use Rattle.rules.specs.13-History.{next}
 use Rattle.rules.specs.Parts.{of-presences}
 use Rattle.rules.proofs.Bools.{or-neither, and-both, and-of, and-rest, fails}
 use Rattle.rules.proofs.01-Lists.{any-at, any-none}
 use Rattle.rules.proofs.03-Names.{same-asked}
 use Rattle.rules.proofs.Edits.{put-each, put-old, first-in, without-in, without-keeps, without-fewer}
+use Rattle.rules.proofs.08-Working.{holder}
 use Rattle.rules.proofs.09-Refusals.{verdict-keeps}
 use Rattle.rules.proofs.Parts.{presence-there, parts-of}
-use Rattle.history.proofs.Parts.{rows-of}
+use Rattle.history.proofs.Parts.{Stayed, rows-of, stayed}
 use Rattle.history.proofs.Passed.{known, aimed, formed, named-present}
-use Rattle.history.proofs.Rows.{present-over, present-new, Row-fits, rows-less, rows-more, with-presences-good}
+use Rattle.history.proofs.Rows.{present-over, present-new, Row-fits, rows-less, rows-more, with-more-good}
 
 module _ (s : Schema) (g : Good s) (d : ℕ) (new : Name) (t : ℕ) where
   abbrev x : Presence
-  x = record { sds = d; name = new; type = t }
+  x = renamed d new t s
+
+  -- the presence that goes, whose modes stay
+  abbrev old : Presence
+  old = type-presence s d t
 
   -- the other presences, and these with it
   abbrev left : List Presence
@@ -44,8 +50,8 @@ module _ (s : Schema) (g : Good s) (d : ℕ) (new : Name) (t : ℕ) where
   unfolding borne-by-another bears type-named
   bearer e q i h =
       let borne = any-at (holds-name d new) i h in
-      let p = first (holds-name d new) (record { sds = 0; name = []; type = 0 }) (s .presences) in
-      let (j, k) = first-in (holds-name d new) (record { sds = 0; name = []; type = 0 }) (s .presences) borne in
+      let p = first (holds-name d new) nowhere (s .presences) in
+      let (j, k) = first-in (holds-name d new) nowhere (s .presences) borne in
       let (a, b) = and-both (eqb (q .sds) d) (same-name (q .name) new) h in
       let (a′, b′) = and-both (eqb (p .sds) d) (same-name (p .name) new) k in
       let one : q ≡ p = g .local-names-unique q p i j (eqb-true (q .sds) d a ∙ sym (eqb-true (p .sds) d a′))
@@ -53,13 +59,14 @@ module _ (s : Schema) (g : Good s) (d : ℕ) (new : Name) (t : ℕ) where
       ap (λ r. r .type) one ∙ eqb-true (p .type) t (not-false (eqb (p .type) t) (and-rest (bears s d new) (not (eqb (p .type) t)) borne e))
 
   -- without it none of type t is left, nor one of the new name
-  fits : unknown-sds s d ≡ false → system-sds d ≡ false → malformed new ≡ false → borne-by-another s d t new ≡ false
+  fits : unknown-sds s d ≡ false → system-sds d ≡ false → malformed new ≡ false → present s d t ≡ true → borne-by-another s d t new ≡ false
       → Row-fits (s .sdss) left x
   unfolding used-sds
-  fits is-known outside well another = record {
+  fits is-known outside well there another = record {
     in-used = known s d is-known;
     outside = aimed d outside;
     named = formed new well;
+    known = let m = g .modes-known old (holder s d t there .0) in record { usage = m .usage; definition = m .definition };
     free = any-none (holds-name d new) left (λ q i. fails (holds-name d new q) (other q i));
     new = any-none (holds-type d t) left (λ q i. without-in (holds-type d t) (s .presences) i .1);
   }
@@ -84,17 +91,18 @@ module _ (s : Schema) (g : Good s) (d : ℕ) (new : Name) (t : ℕ) where
           rw (eqb-true (p .sds) d a, eqb-true (p .type) t b) (present-new x left)
       go p i false h = presence-there (put-old presence-before x left (without-keeps (holds-type d t) (s .presences) i h))
 
-  was : present s d t ≡ true → (p : Presence) → p ∈ after → present (of-presences (s .presences)) (p .sds) (p .type) ≡ true
-  unfolding present
+  was : present s d t ≡ true → (p : Presence) → p ∈ after → Stayed (s .types) (s .types) (s .presences) p
   was there p i =
-      put-each presence-before i (λ q. present (of-presences (s .presences)) (q .sds) (q .type) ≡ true) there
-      (λ j. presence-there (without-in (holds-type d t) (s .presences) j .0))
+      let (j, at, of) = holder s d t there in
+      put-each presence-before i (Stayed (s .types) (s .types) (s .presences))
+      (record { row = old; there = j; sds = at; type = of; modes = record { usage = refl; definition = refl }; kind = refl })
+      (λ k. stayed (without-in (holds-type d t) (s .presences) k .0) refl)
 
-  renamed : unknown-sds s d ≡ false → system-sds d ≡ false → malformed new ≡ false → present s d t ≡ true → borne-by-another s d t new ≡ false
+  good-after : unknown-sds s d ≡ false → system-sds d ≡ false → malformed new ≡ false → present s d t ≡ true → borne-by-another s d t new ≡ false
       → Good (with-presences s after)
-  renamed is-known outside well there another =
-      with-presences-good g
-      (rows-more (rows-less (rows-of (parts-of g .presences)) (holds-type d t) stays) x (room there) (fits is-known outside well another))
+  good-after is-known outside well there another =
+      with-more-good g
+      (rows-more (rows-less (rows-of (parts-of g .presences)) (holds-type d t) stays) x (room there) (fits is-known outside well there another))
       still
       (λ p i. inl (was there p i))
     where
@@ -106,9 +114,9 @@ unfolding rename
 rename-keeps d n new s g =
     verdict-keeps (λ o. Good (next s o)) (rename-refusals d n new s)
     (done 0 0 0
-    (with-presences s (put presence-before (record { sds = d; name = new; type = type-named s d n })
+    (with-presences s (put presence-before (renamed d new (type-named s d n) s)
     (without (holds-type d (type-named s d n)) (s .presences)))))
     (λ _ _. g)
     (λ passed.
-    renamed s g d new (type-named s d n) (passed .fails 2) (passed .fails 3) (or-neither (malformed n) (malformed new) (passed .fails 4) .1)
+    good-after s g d new (type-named s d n) (passed .fails 2) (passed .fails 3) (or-neither (malformed n) (malformed new) (passed .fails 4) .1)
     (named-present s d n (passed .fails 6)) (passed .fails 11))

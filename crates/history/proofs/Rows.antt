@@ -2,27 +2,28 @@
 -- parents and its reverse is each call's own. Assumes nothing.
 use Prim.Native.Nat.{ℕ, _+_, _≤_}
 use native.Mathlib.Omega.{arith}
-use mathlib.Core.Path.{_≡_, refl, sym, ap, _∙_}
-use mathlib.Core.Logic.{_⊎_, ⊎-elim}
+use mathlib.Core.Path.{_≡_, refl, sym, ap, _∙_, subst₂}
+use mathlib.Core.Logic.{_⊎_, inl, inr, ⊎-elim}
 use mathlib.Core.List.{List}
 use mathlib.Core.Bool.{Bool, true, false, true≢false}
-use lib.Dec.{eqb}
+use lib.Dec.{eqb, lit≤}
 use lib.ListN.{length}
 use borrow.Author.Tests.{eq-eqb}
 use Rattle.rules.specs.01-Lists.{_∈_, any, without, put}
 use Rattle.rules.specs.02-Limits.{limits}
 use Rattle.rules.specs.03-Names.{Name, well-formed, same-name}
-use Rattle.rules.specs.04-Schema.{Schema, Presence, system-presence, used-sds, holds-type, holds-name, present, bears, with-presences}
-use Rattle.rules.specs.06-Good.{presence-before, Good}
+use Rattle.rules.specs.04-Schema.{Schema, Presence, system-presence, new-presence, used-sds, holds-type, holds-name, present, bears}
+use Rattle.rules.specs.04-Schema.{with-presences}
+use Rattle.rules.specs.06-Good.{presence-before, Known-modes, Good}
 use Rattle.rules.specs.09-Refusals.{unknown-sds, system-sds}
-use Rattle.rules.specs.Parts.{of-sdss, of-presences, Presence-rows}
+use Rattle.rules.specs.Parts.{of-sdss, of-presences, Presence-rows, Alike}
 use Rattle.rules.proofs.Bools.{and-of}
 use Rattle.rules.proofs.01-Lists.{any-at}
 use Rattle.rules.proofs.03-Names.{same-turned}
 use Rattle.rules.proofs.Edits.{put-long, put-each, put-none, put-in, put-new, put-old, without-in, without-keeps, without-long}
 use Rattle.rules.proofs.Parts.{presence-there, present-each, parts-of, whole, closed-over}
 use Rattle.history.proofs.Orders.{presence-order, put-rises, without-rises}
-use Rattle.history.proofs.Parts.{Rows, Placed, placed-at, presences-of, applications-over, ends-over}
+use Rattle.history.proofs.Parts.{Rows, Placed, Stayed, Came, placed-at, presences-of, alike-still, applications-over, ends-over}
 use Rattle.history.proofs.Passed.{known, aimed}
 
 -- ---- which types are present
@@ -47,13 +48,21 @@ pub record Row-fits (ns : List Name) (ps : List Presence) (x : Presence) : Type 
   pub in-used : used-sds (of-sdss ns) (x .sds) ≡ true
   pub outside : x .sds ≡ 0 → ⊥
   pub named : well-formed (x .name) ≡ true
+  pub known : Known-modes x
   pub free : any (holds-name (x .sds) (x .name)) ps ≡ false
   pub new : any (holds-type (x .sds) (x .type)) ps ≡ false
 
 pub row-fits : (s : Schema) (d t : ℕ) (n : Name) → unknown-sds s d ≡ false → system-sds d ≡ false → well-formed n ≡ true → bears s d n ≡ false
-    → present s d t ≡ false → Row-fits (s .sdss) (s .presences) (record { sds = d; name = n; type = t })
+    → present s d t ≡ false → Row-fits (s .sdss) (s .presences) (new-presence d n t)
 unfolding used-sds bears present
-row-fits s d t n is-known outside named free new = record { in-used = known s d is-known; outside = aimed d outside; named = named; free = free; new = new }
+row-fits s d t n is-known outside named free new = record {
+  in-used = known s d is-known;
+  outside = aimed d outside;
+  named = named;
+  known = record { usage = lit≤ tt; definition = lit≤ tt };
+  free = free;
+  new = new;
+}
 
 module _ {ns : List Name} {ps : List Presence} where
   -- it fits still when another, of another name and type, is put in
@@ -63,6 +72,7 @@ module _ {ns : List Name} {ps : List Presence} where
     in-used = f .in-used;
     outside = f .outside;
     named = f .named;
+    known = f .known;
     free = put-none presence-before (holds-name (y .sds) (y .name)) x ps name (f .free);
     new = put-none presence-before (holds-type (y .sds) (y .type)) x ps type (f .new);
   }
@@ -77,6 +87,7 @@ module _ {ns : List Name} {ps : List Presence} where
         room = omega (arith, without-long out ps, r .room);
         in-used = λ p i. r .in-used p (was i);
         named = λ p i. r .named p (was i);
+        known = λ p i. r .known p (was i);
         unique = λ p q i j. r .unique p q (was i) (was j);
         system = without-keeps out ps (r .system) stays;
         system-alone = λ p i. r .system-alone p (was i);
@@ -94,6 +105,7 @@ module _ {ns : List Name} {ps : List Presence} where
         room = omega (arith, put-long presence-before x ps);
         in-used = λ p i. put-each presence-before i (λ q. used-sds (of-sdss ns) (q .sds) ≡ true) (f .in-used) (r .in-used p);
         named = λ p i. put-each presence-before i (λ q. well-formed (q .name) ≡ true) (f .named) (r .named p);
+        known = λ p i. put-each presence-before i Known-modes (f .known) (r .known p);
         unique = λ p q i j d e. both p q i j
             (λ k l. r .unique p q k l d e)
             (λ h l. free q l (ap (λ r. r .sds) (sym h) ∙ d) (ap (λ r. same-name (q .name) (r .name)) (sym h) ∙ same-turned (q .name) (p .name) ∙ e))
@@ -127,17 +139,18 @@ module _ {ns : List Name} {ps : List Presence} where
             (put-in presence-before x ps i)
 
 -- a good schema with its presences changed: all that was present still is, and what was not is there with its parents and its reverse
-pub with-presences-good : {s : Schema} → Good s → {ps : List Presence} → Rows (s .sdss) ps
+pub with-presences-good : {s : Schema} → Good s → {ps : List Presence} → Rows (s .sdss) ps → Alike (s .types) ps
     → ((d t : ℕ) → present (of-presences (s .presences)) d t ≡ true → present (of-presences ps) d t ≡ true)
     → ((p : Presence) → p ∈ ps → (present (of-presences (s .presences)) (p .sds) (p .type) ≡ true) ⊎ Placed (s .types) ps (p .sds) (p .type))
     → Good (with-presences s ps)
-with-presences-good {s} g {ps} rows still each =
+with-presences-good {s} g {ps} rows alike still each =
     let p = parts-of g in
     whole (record {
       sdss = p .sdss;
       types = p .types;
       presences = presences-of rows
           (λ q i. ⊎-elim (λ h. over (placed-at (p .presences) (q .sds) (q .type) h)) (λ c. c) (each q i))
+          alike
           (λ t u. let (d, e) = p .presences .somewhere t u in (d, still d t e));
       applications = applications-over (s .types) (s .types) (s .presences) ps (λ t u. refl) still (p .applications);
       ends = ends-over (s .types) (s .types) (s .presences) ps (λ t u. refl) still (p .ends);
@@ -145,3 +158,18 @@ with-presences-good {s} g {ps} rows still each =
   where
     over : {d t : ℕ} → Placed (s .types) (s .presences) d t → Placed (s .types) ps d t
     over {d} c = record { used = c .used; closed = closed-over (still d) (c .closed) }
+
+-- what was not there has all modes
+pub with-more-good : {s : Schema} → Good s → {ps : List Presence} → Rows (s .sdss) ps
+    → ((d t : ℕ) → present (of-presences (s .presences)) d t ≡ true → present (of-presences ps) d t ≡ true)
+    → ((p : Presence) → p ∈ ps → Stayed (s .types) (s .types) (s .presences) p ⊎ (Came (s .presences) p × Placed (s .types) ps (p .sds) (p .type)))
+    → Good (with-presences s ps)
+with-more-good {s} g {ps} rows still each =
+    let p = parts-of g in
+    with-presences-good g rows
+    (alike-still (p .presences) (p .types .reverses) (λ q i. ⊎-elim inl (λ (c, _). inr c) (each q i)))
+    still
+    (λ q i. ⊎-elim
+    (λ f. inl (subst₂ (λ d t. present (of-presences (s .presences)) d t ≡ true) (f .sds) (f .type) (presence-there (f .there))))
+    (λ (_, c). inr c)
+    (each q i))

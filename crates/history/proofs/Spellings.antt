@@ -1,23 +1,22 @@
 -- "the spelling given is kept and shown. A rename that alters only the spelling is still done. Uniqueness, find, .. read so from then on"
 -- (02, Q-5). That uniqueness does is said by `Good`. Assumes nothing.
 use Prim.Native.Nat.{ℕ}
-use mathlib.Core.Path.{_≡_, refl, sym, _∙_}
-use mathlib.Core.List.{List, [], _∷_}
-use mathlib.Core.Bool.{true, false, not, true≢false, and-false}
-use lib.Dec.{eqb}
+use mathlib.Core.Path.{_≡_, refl, sym, ap, _∙_}
+use mathlib.Core.List.{List, [], _∷_, List·Memᴰ·eq-of-singleton}
+use mathlib.Core.Bool.{true, false, not, and-false}
 use borrow.Author.Tests.{eq-eqb}
-use Rattle.rules.specs.01-Lists.{any, first, without, put, repeated}
+use Rattle.rules.specs.01-Lists.{any, first, without, put, put-all, repeated}
 use Rattle.rules.specs.03-Names.{Name, same-name}
-use Rattle.rules.specs.04-Schema.{Schema, Presence, holds-type, bears, type-named, local-name, with-presences}
+use Rattle.rules.specs.04-Schema.{Schema, Presence, nowhere, holds-type, bears, type-named, type-presence, local-name, with-presences}
 use Rattle.rules.specs.06-Good.{presence-before}
 use Rattle.rules.specs.09-Refusals.{_when_, verdict, unknown-sds, system-sds, malformed, no-such-name, no-name-listed, borne-by-another}
 use Rattle.rules.specs.09-Refusals.Outcome.{done}
+use Rattle.rules.specs.10-Changes as Changes
 use Rattle.rules.specs.10-Changes.{rename}
 use Rattle.rules.specs.11-Asks.{find}
-use Rattle.rules.proofs.Bools.{and-of}
-use Rattle.rules.proofs.01-Lists.{any-at}
+use Rattle.rules.proofs.01-Lists.{any-none}
 use Rattle.rules.proofs.03-Names.{same-bears, same-type, same-borne}
-use Rattle.rules.proofs.Edits.{put-new, put-each, first-in, without-in}
+use Rattle.rules.proofs.Edits.{first-put, without-in}
 
 -- two spellings find the same
 pub find-any-spelling : (w : List ℕ) (n m : Name) (s : Schema) → malformed n ≡ malformed m → same-name n m ≡ true → find w n s ≡ find w m s
@@ -37,7 +36,7 @@ module _ (s : Schema) (d : ℕ) (n new : Name) where
   abbrev renamed : Schema
   renamed =
       let t = type-named s d n in
-      with-presences s (put presence-before (record { sds = d; name = new; type = t }) (without (holds-type d t) (s .presences)))
+      with-presences s (put presence-before (Changes.renamed d new t s) (without (holds-type d t) (s .presences)))
 
   -- no number refuses another spelling, unless it would refuse any new name
   pub rename-respells : unknown-sds s d ≡ false → system-sds d ≡ false → malformed n ≡ false → malformed new ≡ false → no-such-name s d n ≡ false
@@ -48,15 +47,17 @@ module _ (s : Schema) (d : ℕ) (n new : Name) where
       another : borne-by-another s d (type-named s d n) new ≡ false
       another = sym (same-borne n new e s d (type-named s d n)) ∙ not-another
 
+  -- its presence is the one that was put in
+  pub renamed-there : type-presence renamed d (type-named s d n) ≡ Changes.renamed d new (type-named s d n) s
+  unfolding put-all any
+  renamed-there =
+      let t = type-named s d n in
+      List·Memᴰ·eq-of-singleton
+      (first-put presence-before (holds-type d t) nowhere (Changes.renamed d new t s ∷ []) (without (holds-type d t) (s .presences))
+      (rw (eq-eqb d d refl, eq-eqb t t refl))
+      (any-none (holds-type d t) (without (holds-type d t) (s .presences)) (λ q i. without-in (holds-type d t) (s .presences) i .1)))
+
   -- the new name stands there as it was spelled
   pub rename-spells : local-name renamed d (type-named s d n) ≡ new
   unfolding local-name
-  rename-spells =
-      let t = type-named s d n in
-      let x : Presence = record { sds = d; name = new; type = t } in
-      let left = without (holds-type d t) (s .presences) in
-      let it = and-of (eqb d d) (eqb t t) (eq-eqb d d refl) (eq-eqb t t refl) in
-      let (i, h) = first-in (holds-type d t) (record { sds = 0; name = []; type = 0 }) (put presence-before x left)
-      (any-at (holds-type d t) (put-new presence-before x left) it) in
-      put-each presence-before i (λ q. holds-type d t q ≡ true → q .name ≡ new) (λ k. refl)
-      (λ j k. absurd (true≢false (sym k ∙ without-in (holds-type d t) (s .presences) j .1))) h
+  rename-spells = ap (λ (p : Presence). p .name) renamed-there

@@ -4,10 +4,11 @@ use native.Mathlib.Nat.{le-of-suc-le-suc, not-suc-le-zero}
 use native.Mathlib.Omega.{arith}
 use mathlib.Core.Path.{_≡_, refl, sym, ap, _∙_}
 use mathlib.Core.List.{List, [], _∷_, _++_, append-assoc}
-use lib.ListN.{length, take, drop, set, replicate}
-use lib.Seq.{drop-at, take-append-le, drop-append-le, take-append-add, drop-append-add}
+use lib.ListN.{length, take, drop, set, replicate, length-append}
+use lib.Seq.{drop-at, take-add, take-append-le, drop-append-le, take-append-add, drop-append-add}
 use Rattle.rules.specs.07-Picture.{pad, table}
 use Rattle.rules.proofs.07-Picture.{zeros-long}
+use Rattle.rows.specs.Rows.{part}
 use Rattle.rows.specs.Table.{written}
 
 -- ---- bytes over others
@@ -40,6 +41,15 @@ unfolding written
 written-before p q r m h =
     rw (take-append-le m p q (omega arith), drop-append-le (m + length r) p q h)
     (sym (append-assoc (take m p) (r ++ drop (m + length r) p) q ∙ ap (λ (x : List ℕ). take m p ++ x) (append-assoc r (drop (m + length r) p) q)))
+
+-- behind bytes that stand there already
+pub written-behind : (b p r : List ℕ) (at : ℕ) → part b at (length p) ≡ p → written b at (p ++ r) ≡ written b (at + length p) r
+unfolding written
+written-behind b p r at e =
+    let far : at + length (p ++ r) ≡ at + length p + length r = omega (arith, length-append p r) in
+    rw (far, take-add at (length p) b, e)
+    (ap (λ (x : List ℕ). take at b ++ x) (append-assoc p r (drop (at + length p + length r) b))
+    ∙ sym (append-assoc (take at b) p (r ++ drop (at + length p + length r) b)))
 
 -- bytes over a field of zeros
 pub field-written : (p q n : List ℕ) (w at : ℕ) → at ≡ length p → length n ≤ w → written (p ++ (replicate w 0 ++ q)) at n ≡ p ++ (pad w n ++ q)

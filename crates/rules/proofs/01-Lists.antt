@@ -46,6 +46,18 @@ module _ {A : Type 0} where
   place-in d (x ∷ l) zero h = List·Memᴰ·head refl
   place-in d (x ∷ l) (suc i) h = List·Memᴰ·tail (place-in d l i (omega arith))
 
+  -- some element passes one test or the other
+  pub any-either : (p q : A → Bool) (l : List A) → any (λ x. p x || q x) l ≡ any p l || any q l
+  unfolding any
+  any-either p q [] = refl
+  any-either p q (x ∷ l) = rw (any-either p q l) (go (p x) (q x) (any p l))
+    where
+      go : (a b c : Bool) → (a || b) || (c || any q l) ≡ (a || c) || (b || any q l)
+      go true b c = refl
+      go false true true = refl
+      go false true false = refl
+      go false false c = refl
+
   pub any-none : (p : A → Bool) (l : List A) → ((x : A) → x ∈ l → p x ≡ false) → any p l ≡ false
   any-none p l none = fails (any p l) (λ e. let (x, i, h) = any-where p l e in true≢false (sym h ∙ none x i))
 
@@ -279,7 +291,7 @@ numbers-most p a (suc m) = go (p a) (numbers-most p (suc a) m)
 
 -- ---- lists end to end, and a list in another order
 
-pub any-joined : (p : ℕ → Bool) (v w : List ℕ) → any p (v ++ w) ≡ any p v || any p w
+pub any-joined : {A : Type 0} (p : A → Bool) (v w : List A) → any p (v ++ w) ≡ any p v || any p w
 unfolding any
 any-joined p [] w = refl
 any-joined p (d ∷ v) w = rw (any-joined p v w) (sym (or-assoc (p d) (any p v) (any p w)))

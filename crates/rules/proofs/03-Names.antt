@@ -12,7 +12,7 @@ use lib.ListN.{length, getD, take, replicate, length-map, List·getD-map}
 use borrow.Author.Tests.{leb-true, lt-ltb, le-ltb, ne-eqb}
 use Rattle.rules.specs.01-Lists.{_∈_, same-bytes, bytes-before, any, all, first}
 use Rattle.rules.specs.03-Names.{Name, letter, letter-or-digit, well-formed, blank, lower, lowered, same-name, name-before}
-use Rattle.rules.specs.04-Schema.{Schema, bears, type-named}
+use Rattle.rules.specs.04-Schema.{Schema, nowhere, bears, type-named}
 use Rattle.rules.specs.07-Picture.{pad}
 use Rattle.rules.specs.09-Refusals.{sds-name-taken, borne-by-another}
 use Rattle.rules.proofs.Bools.{or-cases, or-left, or-right, or-neither, and-both, and-of, and-rest, fails, same-test}
@@ -106,7 +106,7 @@ module _ (n m : Name) (e : same-name n m ≡ true) where
 
   pub same-type : (s : Schema) (d : ℕ) → type-named s d n ≡ type-named s d m
   unfolding type-named
-  same-type s d = λ i. (first (λ p. eqb (p .sds) d && same-asked (p .name) i) (record { sds = 0; name = []; type = 0 }) (s .presences)) .type
+  same-type s d = λ i. (first (λ p. eqb (p .sds) d && same-asked (p .name) i) nowhere (s .presences)) .type
 
   pub same-taken : (s : Schema) → sds-name-taken s n ≡ sds-name-taken s m
   unfolding sds-name-taken

@@ -10,7 +10,8 @@ use mathlib.Core.Bool.{Bool, true, false, _||_, true≢false, false≢true}
 use lib.Dec.{ltb, eqb}
 use lib.ListN.{length, getD, List·getD-eq-default}
 use borrow.Author.Tests.{ltb-false, ltb-true, eqb-true, eq-eqb}
-use Rattle.rules.specs.01-Lists.{_∈_, among, rising, greatest}
+use Rattle.rules.specs.01-Lists.{_∈_, any, among, rising, greatest}
+use Rattle.rules.specs.02-Limits.{limits}
 use Rattle.rules.specs.04-Schema.{Schema, Kind, kind-of, is-used, is-object, parents, parents-in}
 use Rattle.rules.specs.04-Schema.Kind.{unused, object, attribute, designation, paired}
 use Rattle.rules.specs.05-Descent.{Parent, Descends, Chain, climbs, descends, height, depth, members}
@@ -25,6 +26,26 @@ use Rattle.rules.proofs.01-Lists.{numbers-in, numbers-of, numbers-risin
 pub descends-over : {s s′ : Schema} → ((t a : ℕ) → Parent s t a → Parent s′ t a) → {t a : ℕ} → Descends s t a → Descends s′ t a
 descends-over f (by-parent {t = t} {a = a} p) = by-parent (f t a p)
 descends-over f (by-step {t = t} {p = q} p d) = by-step (f t q p) (descends-over f d)
+
+-- descent and depth are the types' alone
+module _ (s s′ : Schema) (same : s .types ≡ s′ .types) where
+  climbs-same : (n t a : ℕ) → climbs s n t a ≡ climbs s′ n t a
+  unfolding climbs parents
+  climbs-same zero t a = refl
+  climbs-same (suc n) t a = λ i. any (λ p. eqb p a || climbs-same n p a i) (parents-in (getD (same i) t unused))
+
+  height-same : (n t : ℕ) → height s n t ≡ height s′ n t
+  unfolding height parents
+  height-same zero t = refl
+  height-same (suc n) t = λ i. greatest (λ p. suc (height-same n p i)) (parents-in (getD (same i) t unused))
+
+  pub descends-same : descends s ≡ descends s′
+  unfolding descends
+  descends-same = λ i t a. climbs-same (limits .types) t a i
+
+  pub depth-same : depth s ≡ depth s′
+  unfolding depth
+  depth-same = λ i t. height-same (limits .types) t i
 
 -- ---- members: rising, each once, and exactly the types that pass
 

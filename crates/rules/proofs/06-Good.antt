@@ -81,6 +81,7 @@ fresh-good = record {
   presence-type = λ p i. rw (the-presence p i) refl;
   presence-sds = λ p i. rw (the-presence p i) refl;
   presence-named = λ p i. rw (the-presence p i) refl;
+  modes-known = λ p i. rw (the-presence p i) (record { usage = lit≤ tt; definition = lit≤ tt });
   local-names-unique = λ p q i j d h. the-presence p i ∙ sym (the-presence q j);
   one-presence = λ p q i j d h. the-presence p i ∙ sym (the-presence q j);
   parents-few = λ t ps e. few t ps e;
@@ -111,6 +112,7 @@ fresh-good = record {
   somewhere = λ t u. (0, rw (only-type t u) refl);
   parents-present = λ d t a e by. absurd (no-parent t a by);
   reverse-present = λ d t c r e h. absurd (no-paired t c r h);
+  reverse-modes = λ p q i j d c h. absurd (no-paired (p .type) c (q .type) h);
   mirrored = λ e i. absurd (List·Memᴰ·not-nil i);
 }
   where

@@ -9,7 +9,7 @@ use mathlib.Core.List.List·Memᴰ.{List·Memᴰ·head, List·Memᴰ·tail}
 use mathlib.Core.Bool.{true, not}
 use lib.Dec.{eqb·suc-zero}
 use lib.ListN.{length, getD, take, drop, replicate, length-append, length-take, length-replicate}
-use lib.Seq.{take-at, drop-at, take-append-le, drop-append-add, drop-drop}
+use lib.Seq.{take-at, drop-at, getD-drop, take-append-le, drop-append-add, drop-drop}
 use borrow.Author.Tests.{ne-eqb}
 use Rattle.rules.specs.01-Lists.{_∈_}
 use Rattle.rules.specs.03-Names.{Name, well-formed}
@@ -74,9 +74,13 @@ wide-type (attribute v) = length-pad 8 (2 ∷ v ∷ [])
 wide-type designation = length-pad 8 (3 ∷ 4 ∷ [])
 wide-type (paired c r) = length-pad 8 (3 ∷ c ∷ r ∷ [])
 
+-- what stands behind the name in a presence's row
+abbrev pub behind-name : Presence → List ℕ
+behind-name p = p .type ∷ p .usage ∷ p .definition ∷ []
+
 pub wide-presence : (p : Presence) → length (presence-row p) ≡ presence-width
 unfolding presence-row
-wide-presence p = omega (arith, length-append (pad 16 (p .name)) (p .type ∷ []), length-pad 16 (p .name))
+wide-presence p = omega (arith, length-append (pad 16 (p .name)) (behind-name p), length-pad 16 (p .name))
 
 pub wide-application : (x : Application) → length (application-row x) ≡ application-width
 unfolding application-row
@@ -105,9 +109,17 @@ kind-back (fits-paired {c = c} {r = r} h) = rw (ne-eqb c 4 (λ e. omega arith))
 pub presence-back : (p : Presence) → well-formed (p .name) ≡ true → read-presence (presence-row p) ≡ p
 unfolding read-presence presence-row
 presence-back p e =
-    let field : take 16 (pad 16 (p .name) ++ (p .type ∷ [])) ≡ pad 16 (p .name) = take-at (pad 16 (p .name)) (p .type ∷ []) 16 (length-pad 16 (p .name)) in
-    let last : getD (pad 16 (p .name) ++ (p .type ∷ [])) 16 0 ≡ p .type = lib.Seq.getD-at (pad 16 (p .name)) (p .type) [] 0 16 (length-pad 16 (p .name)) in
-    λ i. record { sds = p .sds; name = (ap strip field ∙ strip-pad (p .name) e) i; type = last i }
+    let field : take 16 (pad 16 (p .name) ++ (behind-name p)) ≡ pad 16 (p .name) = take-at (pad 16 (p .name)) (behind-name p) 16 (length-pad 16 (p .name)) in
+    let rest : drop 16 (pad 16 (p .name) ++ behind-name p) ≡ behind-name p = drop-at (pad 16 (p .name)) (behind-name p) 16 (length-pad 16 (p .name)) in
+    let byte : (k : ℕ) → getD (pad 16 (p .name) ++ behind-name p) (16 + k) 0 ≡ getD (behind-name p) k 0
+    = λ k. sym (getD-drop 16 (pad 16 (p .name) ++ behind-name p) k 0) ∙ ap (λ (l : List ℕ). getD l k 0) rest in
+    λ i. record {
+      sds = p .sds;
+      name = (ap strip field ∙ strip-pad (p .name) e) i;
+      type = byte 0 i;
+      usage = byte 1 i;
+      definition = byte 2 i;
+    }
 
 pub application-back : (x : Application) → read-application (application-row x) ≡ x
 unfolding read-application application-row
@@ -297,15 +309,15 @@ module _ {s : Schema} (good : Good s) where
       let row : drop (k * presence-width) (presence-table s ++ rest) ≡ (presence-row p ++ T) ++ rest
       = lib.Seq.drop-append-le (k * presence-width) (presence-table s) rest along
       ∙ ap (λ (l : List ℕ). l ++ rest) (table-row presence-width presence-row wide-presence 512 (s .presences) k system-presence h (good .presence-room)) in
-      let front : drop (k * presence-width + 1) (presence-table s ++ rest) ≡ ((pad 16 (p .name) ++ (p .type ∷ [])) ++ T) ++ rest
+      let front : drop (k * presence-width + 1) (presence-table s ++ rest) ≡ ((pad 16 (p .name) ++ (behind-name p)) ++ T) ++ rest
       = sym (drop-drop 1 (k * presence-width) (presence-table s ++ rest)) ∙ ap (drop 1) row in
       let back = drop-append-add (sds-table s) (type-table s ++ (presence-table s ++ rest)) (length (type-table s) + (k * presence-width + 1))
       ∙ drop-append-add (type-table s) (presence-table s ++ rest) (k * presence-width + 1) ∙ front in
       let short : length (p .name) ≤ length (pad 16 (p .name)) = omega (arith, length-pad 16 (p .name)) in
       let m = length (p .name) in
       ap (take m) back
-      ∙ take-append-le m ((pad 16 (p .name) ++ (p .type ∷ [])) ++ T) rest
-      (omega (arith, length-append (pad 16 (p .name) ++ (p .type ∷ [])) T, length-append (pad 16 (p .name)) (p .type ∷ [])))
-      ∙ take-append-le m (pad 16 (p .name) ++ (p .type ∷ [])) T (omega (arith, length-append (pad 16 (p .name)) (p .type ∷ [])))
-      ∙ take-append-le m (pad 16 (p .name)) (p .type ∷ []) short
+      ∙ take-append-le m ((pad 16 (p .name) ++ (behind-name p)) ++ T) rest
+      (omega (arith, length-append (pad 16 (p .name) ++ (behind-name p)) T, length-append (pad 16 (p .name)) (behind-name p)))
+      ∙ take-append-le m (pad 16 (p .name) ++ (behind-name p)) T (omega (arith, length-append (pad 16 (p .name)) (behind-name p)))
+      ∙ take-append-le m (pad 16 (p .name)) (behind-name p) short
       ∙ take-pad 16 (p .name) fits

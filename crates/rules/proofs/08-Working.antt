@@ -1,13 +1,14 @@
 -- Under a working schema of a good schema a list has no hole: with a type all its ancestors are visible. Assumes nothing.
 use Prim.Native.Nat.{ℕ}
 use mathlib.Core.Path.{_≡_, refl, sym, _∙_}
-use mathlib.Core.List.{List, []}
+use mathlib.Core.List.{List}
 use mathlib.Core.Bool.{Bool, true, _&&_}
 use lib.Dec.{eqb}
 use borrow.Author.Tests.{eqb-true, eq-eqb}
 use Rattle.rules.specs.01-Lists.{_∈_, first}
 use Rattle.rules.specs.03-Names.{Name, same-name}
-use Rattle.rules.specs.04-Schema.{Schema, Presence, kind-of, is-used, holds-type, holds-name, present, bears, type-named}
+use Rattle.rules.specs.04-Schema.{Schema, Presence, kind-of, is-used, nowhere, holds-type, holds-name, present, bears, type-named}
+use Rattle.rules.specs.04-Schema.{type-presence}
 use Rattle.rules.specs.05-Descent.{Descends}
 use Rattle.rules.specs.05-Descent.Descends.{by-parent, by-step}
 use Rattle.rules.specs.06-Good.{Good}
@@ -17,13 +18,23 @@ use Rattle.rules.proofs.01-Lists.{any-at, any-where}
 use Rattle.rules.proofs.05-Descent.{used-below, members-in, members-of}
 use Rattle.rules.proofs.Edits.{first-in}
 
+-- the presence of a type that is present
+pub holder : (s : Schema) (d t : ℕ) → present s d t ≡ true
+    → (type-presence s d t ∈ s .presences) × ((type-presence s d t) .sds ≡ d) × ((type-presence s d t) .type ≡ t)
+unfolding present
+holder s d t e =
+    let p = type-presence s d t in
+    let (i, h) = first-in (holds-type d t) nowhere (s .presences) e in
+    let (x, y) = and-both (eqb (p .sds) d) (eqb (p .type) t) h in
+    (i, eqb-true (p .sds) d x, eqb-true (p .type) t y)
+
 -- the type that bears a name is there under it
 pub bearer : (s : Schema) (d : ℕ) (n : Name) → bears s d n ≡ true
     → (p : Presence) × (p ∈ s .presences) × (p .sds ≡ d) × (same-name (p .name) n ≡ true) × (p .type ≡ type-named s d n)
 unfolding bears type-named
 bearer s d n e =
-    let p = first (holds-name d n) (record { sds = 0; name = []; type = 0 }) (s .presences) in
-    let (i, h) = first-in (holds-name d n) (record { sds = 0; name = []; type = 0 }) (s .presences) e in
+    let p = first (holds-name d n) nowhere (s .presences) in
+    let (i, h) = first-in (holds-name d n) nowhere (s .presences) e in
     let (x, y) = and-both (eqb (p .sds) d) (same-name (p .name) n) h in
     (p, i, eqb-true (p .sds) d x, y, refl)
 

@@ -2,7 +2,7 @@
 -- Assumes nothing.
 use Prim.Native.Nat.{ℕ, _≤_, _<_}
 use native.Mathlib.Omega.{arith}
-use mathlib.Core.Path.{_≡_, refl, _∙_}
+use mathlib.Core.Path.{_≡_, refl, _∙_, subst}
 use mathlib.Core.Logic.{⊎-elim}
 use mathlib.Core.List.{List, [], _∷_}
 use mathlib.Core.List.List·Memᴰ.{List·Memᴰ·head, List·Memᴰ·tail}
@@ -74,6 +74,15 @@ module _ {Made : Type 0} where
       go : (t : Bool) → r .holds ≡ t → ((Passed rs → P effect) → P (verdict rs effect)) → P (cond t (refused (r .no) (r .value)) (verdict rs effect))
       go true q k = f r (List·Memᴰ·head refl)
       go false q k = k (λ w. g (passed-more q w))
+
+  -- where a call is done no condition held, and it made what its effect makes
+  pub verdict-done : (P : Made → Type 0) (rs : Refusals) (a b c : ℕ) (made : Made) {a′ b′ c′ : ℕ} {made′ : Made}
+      → verdict rs (done a b c made) ≡ done a′ b′ c′ made′ → (Passed rs → P made) → P made′
+  verdict-done P rs a b c made {a′} {b′} {c′} {made′} e f =
+      verdict-keeps (λ o. o ≡ done a′ b′ c′ made′ → P made′) rs (done a b c made)
+      (λ r _ e. absurd (let z : _≡_ {A = ℕ} 0 1 = cc in omega arith))
+      (λ passed e. let same : made ≡ made′ = cc in subst P same (f passed))
+      e
 
 -- ---- what refusals tell
 

@@ -1,7 +1,7 @@
 -- The stretch of a local name. The words of the set of descendants: bit n mod 64 of word n div 64 is the mark of type n. And the list of descendants is whole.
 -- Assumes nothing.
 use Prim.Native.Nat.{ℕ, zero, suc, _+_, _*_, _/_, _%_, _^_, _≤_, _<_, max}
-use native.Mathlib.Nat.{div-one, add-zero, pow-suc}
+use native.Mathlib.Nat.{div-one, add-zero, zero-add, div-eq-of-lt, pow-suc}
 use native.Mathlib.Numerals.{one-add}
 use native.Mathlib.Omega.{arith}
 use mathlib.Core.Path.{_≡_, refl, sym, ap, _∙_, subst}
@@ -9,13 +9,15 @@ use mathlib.Core.List.{List, [], _∷_}
 use mathlib.Core.Bool.{Bool, true, false, not, cond, _&&_, _||_, true≢false, false≢true}
 use lib.Arith.{digits-mod, digits-div}
 use lib.Bits.{bitOr, or-step}
+use lib.Dec.{ltb, eqb}
 use lib.ListN.{length, getD, take, drop}
-use lib.Pow.{shr-shr}
+use lib.Pow.{pow-mono, shr-shr}
+use borrow.Author.Tests.{ltb-true, ltb-false, eqb-true}
 use Rattle.rules.specs.Read.{name-offset}
 use Rattle.rules.specs.02-Limits.{limits}
-use Rattle.rules.specs.01-Lists.{any, all, first, place}
+use Rattle.rules.specs.01-Lists.{any, all, first, place, numbers}
 use Rattle.rules.specs.03-Names.{Name}
-use Rattle.rules.specs.04-Schema.{Schema, Presence, system-presence, holds-type, present, local-name}
+use Rattle.rules.specs.04-Schema.{Schema, Modes, Presence, all-modes, has-mode, system-presence, nowhere, holds-type, present, local-name}
 use Rattle.rules.specs.05-Descent.{descends, members}
 use Rattle.rules.specs.06-Good.{Good}
 use Rattle.rules.specs.07-Picture.{sds-row, type-row, picture, name-start, sds-width, type-width, presence-width, base-length}
@@ -24,7 +26,7 @@ use Rattle.rules.specs.09-Refusals.{Outcome, answer-of, not-present}
 use Rattle.rules.specs.11-Asks.{name, name-refusals, one-if, marks, visible-descendant, object-scan-list}
 use Rattle.rules.specs.13-History.{Whole-list}
 use Rattle.rules.proofs.05-Descent.{members-rising, descends-sound, descends-full}
-use Rattle.rules.proofs.01-Lists.{place-in}
+use Rattle.rules.proofs.01-Lists.{all-at, place-in, numbers-of}
 use Rattle.rules.proofs.03-Names.{formed-long}
 use Rattle.rules.proofs.07-Picture.{length-table, wide-sds, wide-type, name-stretch}
 use Rattle.rules.proofs.08-Working.{shown-in, shown-of}
@@ -53,7 +55,7 @@ pub name-shown : {s : Schema} → Good s → (d t : ℕ) → present s d t ≡ t
     → take (length (local-name s d t)) (drop (name-start s (place (holds-type d t) (s .presences))) (picture s)) ≡ local-name s d t
 unfolding present local-name
 name-shown {s} good d t e =
-    let (u, f) = first-at (holds-type d t) (record { sds = 0; name = []; type = 0 }) system-presence (s .presences) e in
+    let (u, f) = first-at (holds-type d t) nowhere system-presence (s .presences) e in
     let k = place (holds-type d t) (s .presences) in
     subst (λ (n : Name). take (length n) (drop (name-start s k) (picture s)) ≡ n) (sym (ap (λ (p : Presence). p .name) f)) (name-stretch good k u)
 
@@ -63,7 +65,7 @@ pub local-at : (s : Schema) (d t : ℕ) → present s d t ≡ true
     × (local-name s d t ≡ (getD (s .presences) (place (holds-type d t) (s .presences)) system-presence) .name)
 unfolding present local-name
 local-at s d t e =
-    let (u, f) = first-at (holds-type d t) (record { sds = 0; name = []; type = 0 }) system-presence (s .presences) e in
+    let (u, f) = first-at (holds-type d t) nowhere system-presence (s .presences) e in
     (u, ap (λ (p : Presence). p .name) f)
 
 pub name-start-is : (s : Schema) (k : ℕ) → name-start s k ≡ limits .sdss * sds-width + limits .types * type-width + k * presence-width + name-offset
@@ -141,6 +143,29 @@ marks-or p q start (suc many) =
     one-if-or true false = refl
     one-if-or false true = refl
     one-if-or false false = refl
+
+-- a mode of a word of five
+pub marks-mode : (p : ℕ → Bool) (m : ℕ) → has-mode (marks 0 5 p) m ≡ ltb m 5 && p m
+unfolding has-mode
+marks-mode p m = go (ltb m 5) refl
+  where
+    one : (b : Bool) → eqb (one-if b) 1 ≡ b
+    one true = refl
+    one false = refl
+
+    go : (b : Bool) → ltb m 5 ≡ b → eqb (marks 0 5 p / 2 ^ m % 2) 1 ≡ b && p m
+    go true e = ap (λ (x : ℕ). eqb x 1) (marks-bit p 0 5 m (ltb-true m 5 e)) ∙ one (p (0 + m)) ∙ ap p (zero-add m)
+    go false e =
+        let far : 2 ^ 5 ≤ 2 ^ m = pow-mono (ltb-false m 5 e) in
+        let low : marks 0 5 p < 2 ^ m = omega (arith, marks-fit p 0 5) in
+        ap (λ (x : ℕ). eqb (x % 2) 1) (div-eq-of-lt low)
+
+-- a set of modes is the word of its modes
+pub modes-marked : (u : Modes) → u ≤ all-modes → marks 0 5 (has-mode u) ≡ u
+unfolding marks has-mode all numbers
+modes-marked u h =
+    eqb-true _ u
+    (all-at (λ u. eqb (marks 0 5 (has-mode u)) u) {l = numbers 0 32 (λ _. true)} refl (numbers-of (λ _. true) 0 32 u (omega arith) (omega arith) refl))
 
 -- ---- the list of descendants
 

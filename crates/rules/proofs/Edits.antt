@@ -3,15 +3,16 @@ use Prim.Native.Nat.{ℕ, zero, suc, _+_, _≤_, _<_}
 use native.Mathlib.Omega.{arith}
 use mathlib.Core.Path.{_≡_, refl, sym, ap, subst, _∙_}
 use mathlib.Core.Logic.{_⊎_, inl, inr, ⊎-elim}
-use mathlib.Core.List.{List, [], _∷_, _++_, List·Memᴰ·not-nil, List·Memᴰ·cases-cons}
+use mathlib.Core.List.{List, [], _∷_, _++_, map, List·Memᴰ·not-nil, List·Memᴰ·cases-cons}
 use mathlib.Core.List.List·Memᴰ.{List·Memᴰ·head, List·Memᴰ·tail}
 use mathlib.Core.Bool.{Bool, true, false, cond, _||_, true≢false, false≢true}
 use lib.Dec.{eqb}
 use lib.ListN.{length, getD, set, take, drop}
 use lib.Seq.{getD-set-same, getD-set-other}
 use borrow.Author.Tests.{eqb-true, eqb-false}
-use Rattle.rules.specs.01-Lists.{_∈_, any, first, without, rising, put, put-all}
+use Rattle.rules.specs.01-Lists.{_∈_, any, first, place, without, rising, put, put-all}
 use Rattle.rules.proofs.Bools.{or-neither, and-both, and-of}
+use Rattle.rules.proofs.01-Lists.{any-at, any-where, none-at}
 
 -- ---- one put in
 
@@ -196,6 +197,14 @@ module _ {A : Type 0} (p : A → Bool) where
       go true q ih = omega (arith, without-long l)
       go false q ih = omega (arith, ih (rw q at e))
 
+-- the first that passes is a new one where no old one does
+pub first-put : {A : Type 0} (before : A → A → Bool) (p : A → Bool) (d : A) (new rs : List A) → any p new ≡ true → any p rs ≡ false
+    → first p d (put-all before new rs) ∈ new
+first-put before p d new rs some none =
+    let (y, j, e) = any-where p new some in
+    let (i, h) = first-in p d (put-all before new rs) (any-at p (put-all-new before new rs j) e) in
+    ⊎-elim (λ k. k) (λ k. absurd (true≢false (sym h ∙ none-at p none k))) (put-all-in before new rs i)
+
 module _ {A : Type 0} where
   pub without-same : (p q : A → Bool) (l : List A) → ((x : A) → x ∈ l → p x ≡ q x) → without p l ≡ without q l
   unfolding without
@@ -213,3 +222,32 @@ module _ {A : Type 0} where
           ≡ cond (b || q x) (without (λ x. p x || q x) l) (x ∷ without (λ x. p x || q x) l)
       go true ih = ih
       go false ih = ap (λ (r : List A). cond (q x) r (x ∷ r)) ih
+
+-- ---- each made another
+
+pub map-of : {A B : Type 0} (f : A → B) {l : List A} {x : A} → x ∈ l → f x ∈ map f l
+map-of f (List·Memᴰ·head h) = List·Memᴰ·head (ap f h)
+map-of f (List·Memᴰ·tail i) = List·Memᴰ·tail (map-of f i)
+
+-- where a test does not see the change, it finds the same
+module _ {A : Type 0} (p : A → Bool) (f : A → A) (same : (x : A) → p (f x) ≡ p x) where
+  pub any-mapped : (l : List A) → any p (map f l) ≡ any p l
+  unfolding any
+  any-mapped [] = refl
+  any-mapped (x ∷ l) = λ i. same x i || any-mapped l i
+
+  pub place-mapped : (l : List A) → place p (map f l) ≡ place p l
+  unfolding place
+  place-mapped [] = refl
+  place-mapped (x ∷ l) = λ i. cond (same x i) 0 (suc (place-mapped l i))
+
+  -- and what g tells of the first, where the change leaves that
+  pub first-mapped : {B : Type 0} (g : A → B) → ((x : A) → p x ≡ true → g (f x) ≡ g x) → (d : A) (l : List A)
+      → g (first p d (map f l)) ≡ g (first p d l)
+  unfolding first
+  first-mapped g told d [] = refl
+  first-mapped {B} g told d (x ∷ l) = rw (same x) (go (p x) refl (first-mapped g told d l))
+    where
+      go : (b : Bool) → p x ≡ b → g (first p d (map f l)) ≡ g (first p d l) → g (cond b (f x) (first p d (map f l))) ≡ g (cond b x (first p d l))
+      go true e ih = told x e
+      go false e ih = ih

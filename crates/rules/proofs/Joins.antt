@@ -8,10 +8,10 @@ use mathlib.Core.Bool.{Bool, true, false, not, cond, _&&_, _||_, true≢false, f
 use lib.Bits.{bitOr}
 use lib.Dec.{ltb, eqb}
 use lib.ListN.{length, getD}
-use borrow.Author.Tests.{le-ltb}
+use borrow.Author.Tests.{le-ltb, eq-eqb}
 use Rattle.rules.specs.01-Lists.{any, first, among, repeated}
 use Rattle.rules.specs.03-Names.{Name}
-use Rattle.rules.specs.04-Schema.{Schema, present, bears, type-named, applied, has-end}
+use Rattle.rules.specs.04-Schema.{Schema, Presence, Modes, has-mode, holds-type, present, bears, type-named, applied, has-end}
 use Rattle.rules.specs.05-Descent.{descends, depth, members}
 use Rattle.rules.specs.06-Good.{Good}
 use Rattle.rules.specs.08-Working.{visible, applied-in, end-in, shown, object-scans, link-scans}
@@ -20,21 +20,26 @@ use Rattle.rules.specs.09-Refusals.{Outcome, verdict, answer-of, unknown
 use Rattle.rules.specs.09-Refusals.{no-object, short-output}
 use Rattle.rules.specs.09-Refusals.Outcome.{refused, done}
 use Rattle.rules.specs.11-Asks as Asks
-use Rattle.rules.specs.11-Asks.{object-scan-list, link-scan-list, marks, visible-descendant}
+use Rattle.rules.specs.11-Asks.{object-scan-list, link-scan-list, marks, visible-descendant, mode-listed, modes-under}
 use Rattle.rules.specs.13-History.{ask-rule}
-use Rattle.rules.proofs.Bools.{and-both, or-neither, fails}
-use Rattle.rules.proofs.01-Lists.{numbers-alike, any-joined, first-joined, once-joined, any-order, repeated-order}
+use Rattle.rules.proofs.Bools.{and-both, and-of, or-neither, fails}
+use Rattle.rules.proofs.01-Lists.{numbers-alike, any-at, any-where, any-either, among-in, any-joined}
+use Rattle.rules.proofs.01-Lists.{first-joined, once-joined, any-order, repeated-order}
 use Rattle.rules.proofs.05-Descent.{members-among, members-most, descends-sound}
 use Rattle.rules.proofs.08-Working.{ancestors-visible}
-use Rattle.rules.proofs.11-Asks.{marks-or, set-counts-list}
+use Rattle.rules.proofs.11-Asks.{marks-or, marks-mode, set-counts-list}
 use Rattle.rules.proofs.Questions.{Question, under}
-use Rattle.rules.proofs.Questions.Question.{scan-object, scan-link, profile, find, depth-of, descendant-set}
+use Rattle.rules.proofs.Questions.Question.{scan-object, scan-link, profile, find, depth-of, descendant-set, modes-of}
 
 -- ---- "the visible types of the join are the union"
 
 pub visible-joined : (s : Schema) (v w : List ℕ) (t : ℕ) → visible s (v ++ w) t ≡ visible s v t || visible s w t
 unfolding visible
 visible-joined s v w t = any-joined (λ d. present s d t) v w
+
+-- where it is visible in one alone
+pub joined-unseen : (s : Schema) (v w : List ℕ) (t : ℕ) → visible s w t ≡ false → visible s (v ++ w) t ≡ visible s v t
+joined-unseen s v w t unseen = visible-joined s v w t ∙ rw unseen (or-false (visible s v t))
 
 -- ---- "their order does not alter any scan"
 
@@ -46,6 +51,7 @@ scans (profile t room) = true
 scans (find n) = false
 scans (depth-of t) = true
 scans (descendant-set t) = true
+scans (modes-of t) = true
 
 module _ (s : Schema) {v w : List ℕ} (turned : Perm v w) where
   seen : visible s v ≡ visible s w
@@ -78,9 +84,13 @@ module _ (s : Schema) {v w : List ℕ} (turned : Perm v w) where
   unfolding visible-descendant
   below t = λ i k. seen i k && descends s k t
 
+  modes-same : (modes : Presence → Modes) (t : ℕ) → mode-listed modes v t s ≡ mode-listed modes w t s
+  unfolding mode-listed
+  modes-same modes t = λ i m. any (λ p. any-order turned (eqb (p .sds)) i && (eqb (p .type) t && has-mode (modes p) m)) (s .presences)
+
   -- of any list, with unknown or repeated SDSs too, the whole outcome, refusals included
   pub order-alters-no-scan : (q : Question) → scans q ≡ true → ask-rule (under v q) s ≡ ask-rule (under w q) s
-  unfolding not-visible Asks.scan-object Asks.scan-link Asks.profile-list Asks.profile Asks.depth-of Asks.descendant-set
+  unfolding not-visible Asks.scan-object Asks.scan-link Asks.profile-list Asks.profile Asks.depth-of Asks.descendant-set Asks.modes-of
   order-alters-no-scan (scan-object t code room) e = rw (any-order turned (unknown-sds s), seen, repeated-order turned, object-list t code)
   order-alters-no-scan (scan-link t code room) e = rw (any-order turned (unknown-sds s), seen, repeated-order turned, link-list t code)
   order-alters-no-scan (profile t room) e =
@@ -88,6 +98,8 @@ module _ (s : Schema) {v w : List ℕ} (turned : Perm v w) where
   order-alters-no-scan (find n) e = absurd (false≢true e)
   order-alters-no-scan (depth-of t) e = rw (any-order turned (unknown-sds s), seen, repeated-order turned)
   order-alters-no-scan (descendant-set t) e = rw (any-order turned (unknown-sds s), seen, repeated-order turned, below t)
+  order-alters-no-scan (modes-of t) e =
+      rw (any-order turned (unknown-sds s), seen, repeated-order turned, modes-same (λ p. p .usage) t, modes-same (λ p. p .definition) t)
 
 either-first : (v w : List ℕ) → Perm (v ++ w) (w ++ v)
 either-first v w = ∣ List·Permᴰ·append-comm v w ∣₁
@@ -134,21 +146,37 @@ module _ (s : Schema) (n : Name) where
       go false true q d e = refl
       go false false q d e = refl
 
--- ---- a question about an object type under such a list
+-- ---- a question about a type under such a list
 
 -- 6 where it is not visible, 7 where it is of another kind, else what the call tells
 abbrev asked : Bool → Bool → Outcome (List ℕ) → Outcome (List ℕ)
 asked seen wrong told = cond (not seen) (refused 6 0) (cond wrong (refused 7 0) told)
 
+record Asked (seen wrong : Bool) (told o : Outcome (List ℕ)) : Type 0 where
+  is : o ≡ asked seen wrong told
+
 -- where the call tells no 6 of its own, 6 says that the type is not visible
-unseen-by-6 : (seen wrong : Bool) (told : Outcome (List ℕ)) → ((answer-of told) .no ≡ 6 → ⊥) → (answer-of (asked seen wrong told)) .no ≡ 6 → seen ≡ false
-unseen-by-6 true true told other e = absurd (omega arith)
-unseen-by-6 true false told other e = absurd (other e)
-unseen-by-6 false wrong told other e = refl
+unseen-by-6 : {seen wrong : Bool} {told o : Outcome (List ℕ)} → Asked seen wrong told o → ((answer-of told) .no ≡ 6 → ⊥) → (answer-of o) .no ≡ 6
+    → seen ≡ false
+unseen-by-6 {seen} {wrong} {told} q other e = go seen wrong (ap (λ (x : Outcome (List ℕ)). (answer-of x) .no) (sym (q .is)) ∙ e)
+  where
+    go : (seen wrong : Bool) → (answer-of (asked seen wrong told)) .no ≡ 6 → seen ≡ false
+    go true true e = absurd (omega arith)
+    go true false e = absurd (other e)
+    go false wrong e = refl
+
+-- two questions about it that tell the same
+asked-same : {seen seen′ wrong : Bool} {told told′ o o′ : Outcome (List ℕ)} → Asked seen wrong told o → Asked seen′ wrong told′ o′ → seen ≡ seen′
+    → told ≡ told′ → o ≡ o′
+asked-same {wrong = wrong} q q′ e f = q .is ∙ (λ i. asked (e i) wrong (f i)) ∙ sym (q′ .is)
 
 -- descendants, as a set and as a list
 abbrev set-told : (ℕ → Bool) → Outcome (List ℕ)
 set-told p = done (marks 0 64 p) (marks 64 64 p) (length (members p)) []
+
+-- usage and definition
+abbrev modes-told : ((Presence → Modes) → Modes) → Outcome (List ℕ)
+modes-told told = done (told (λ p. p .usage)) (told (λ p. p .definition)) 0 []
 
 abbrev list-told : ℕ → List ℕ → Outcome (List ℕ)
 list-told room l = cond (short-output room (length l)) (refused 15 0) (done (length l) 0 0 l)
@@ -158,28 +186,34 @@ module _ (s : Schema) {w : List ℕ} (h : Used-once s w) (t : ℕ) where
   unfolding Asks.depth-of verdict not-visible
   depth-asked = rw (h .used, h .once)
 
-  set-asked : Asks.descendant-set w t s ≡ asked (visible s w t) (no-object s t) (set-told (visible-descendant w t s))
+  set-asked : Asked (visible s w t) (no-object s t) (set-told (visible-descendant w t s)) (Asks.descendant-set w t s)
   unfolding Asks.descendant-set verdict not-visible
-  set-asked = rw (h .used, h .once)
+  set-asked = record { is = rw (h .used, h .once) }
 
   pub set-unseen : (answer-of (Asks.descendant-set w t s)) .no ≡ 6 → visible s w t ≡ false
-  set-unseen e =
-      unseen-by-6 (visible s w t) (no-object s t) (set-told (visible-descendant w t s)) (λ e. omega arith)
-      (ap (λ (o : Outcome (List ℕ)). (answer-of o) .no) (sym set-asked) ∙ e)
+  set-unseen = unseen-by-6 set-asked (λ e. omega arith)
+
+  modes-asked : Asked (visible s w t) false (modes-told (λ modes. modes-under modes w t s)) (Asks.modes-of w t s)
+  unfolding Asks.modes-of verdict not-visible
+  modes-asked = record { is = rw (h .used, h .once) }
+
+  pub modes-unseen : (answer-of (Asks.modes-of w t s)) .no ≡ 6 → visible s w t ≡ false
+  modes-unseen = unseen-by-6 modes-asked (λ e. omega arith)
+
+  pub modes-done : visible s w t ≡ true → Asks.modes-of w t s ≡ modes-told (λ modes. modes-under modes w t s)
+  modes-done seen = modes-asked .is ∙ rw seen
 
   pub set-done : visible s w t ≡ true → no-object s t ≡ false → Asks.descendant-set w t s ≡ set-told (visible-descendant w t s)
-  set-done seen object = set-asked ∙ rw (seen, object)
+  set-done seen object = set-asked .is ∙ rw (seen, object)
 
   module _ (room : ℕ) where
-    scan-asked : Asks.scan-object w t descendant room s ≡ asked (visible s w t) (no-object s t) (list-told room (object-scan-list w t descendant s))
+    scan-asked : Asked (visible s w t) (no-object s t) (list-told room (object-scan-list w t descendant s)) (Asks.scan-object w t descendant room s)
     unfolding Asks.scan-object verdict not-visible unknown-object-scan
-    scan-asked = rw (h .used, h .once)
+    scan-asked = record { is = rw (h .used, h .once) }
 
     pub scan-unseen : (answer-of (Asks.scan-object w t descendant room s)) .no ≡ 6 → visible s w t ≡ false
-    scan-unseen e =
-        unseen-by-6 (visible s w t) (no-object s t) (list-told room (object-scan-list w t descendant s))
-        (other (object-scan-list w t descendant s) (short-output room (length (object-scan-list w t descendant s))))
-        (ap (λ (o : Outcome (List ℕ)). (answer-of o) .no) (sym scan-asked) ∙ e)
+    scan-unseen =
+        unseen-by-6 scan-asked (other (object-scan-list w t descendant s) (short-output room (length (object-scan-list w t descendant s))))
       where
         other : (l : List ℕ) (short : Bool) → (answer-of (cond short (refused 15 0) (done (length l) 0 0 l))) .no ≡ 6 → ⊥
         other l true e = omega arith
@@ -193,7 +227,7 @@ module _ (s : Schema) {w : List ℕ} (h : Used-once s w) (t : ℕ) where
         let l = object-scan-list w t descendant s in
         let enough : ltb room (length l) ≡ false
         = le-ltb room (length l) (omega (arith, members-most (visible-descendant w t s), ap length (set-counts-list w t s))) in
-        scan-asked ∙ rw (seen, object, enough)
+        scan-asked .is ∙ rw (seen, object, enough)
 
 -- depth is 6 exactly where a type is not visible: the union again, as this call tells it
 pub depth-joined : (s : Schema) (v w : List ℕ) → Used-once s (v ++ w) → (t : ℕ)
@@ -260,20 +294,73 @@ module _ {s : Schema} (good : Good s) (v w : List ℕ) (t : ℕ) (unseen : visib
 
   -- so are the outcomes of both calls, whatever the room
   module _ (h : Used-once s (v ++ w)) where
+    left : Used-once s v
+    left = halves s v w h .0
+
     seen-by-one : visible s (v ++ w) t ≡ visible s v t
-    seen-by-one = visible-joined s v w t ∙ rw unseen (or-false (visible s v t))
+    seen-by-one = joined-unseen s v w t unseen
 
     pub scan-of-one : (room : ℕ) → (Asks.scan-object (v ++ w) t descendant room s ≡ Asks.scan-object v t descendant room s)
         × (Asks.scan-object (w ++ v) t descendant room s ≡ Asks.scan-object v t descendant room s)
     scan-of-one room =
-        let first = scan-asked s h t room
-        ∙ (λ i. asked (seen-by-one i) (no-object s t) (list-told room (descendants-of-one .0 i)))
-        ∙ sym (scan-asked s (halves s v w h .0) t room) in
+        let first = asked-same (scan-asked s h t room) (scan-asked s left t room) seen-by-one (ap (list-told room) (descendants-of-one .0)) in
         (first, order-alters-no-scan s (either-first w v) (scan-object t descendant room) refl ∙ first)
 
     pub set-of-one : (Asks.descendant-set (v ++ w) t s ≡ Asks.descendant-set v t s) × (Asks.descendant-set (w ++ v) t s ≡ Asks.descendant-set v t s)
     set-of-one =
-        let first = set-asked s h t
-        ∙ (λ i. asked (seen-by-one i) (no-object s t) (set-told (below-one i)))
-        ∙ sym (set-asked s (halves s v w h .0) t) in
+        let first = asked-same (set-asked s h t) (set-asked s left t) seen-by-one (ap set-told below-one) in
         (first, order-alters-no-scan s (either-first w v) (descendant-set t) refl ∙ first)
+
+-- ---- modes (02, Q-2): "the union over the listed SDSs"
+
+module _ (s : Schema) (modes : Presence → Modes) (t : ℕ) where
+  -- mode by mode: a presence in an SDS of either list
+  mode-joined : (v w : List ℕ) (m : ℕ) → mode-listed modes (v ++ w) t s m ≡ mode-listed modes v t s m || mode-listed modes w t s m
+  unfolding mode-listed
+  mode-joined v w m =
+      (λ i. any (λ p. any-joined (eqb (p .sds)) v w i && has p) (s .presences))
+      ∙ (λ i. any (λ p. and-or-distrib-right (among v (p .sds)) (among w (p .sds)) (has p) i) (s .presences))
+      ∙ any-either (λ p. among v (p .sds) && has p) (λ p. among w (p .sds) && has p) (s .presences)
+    where
+      has : Presence → Bool
+      has p = eqb (p .type) t && has-mode (modes p) m
+
+  pub modes-joined : (v w : List ℕ) → modes-under modes (v ++ w) t s ≡ bitOr (modes-under modes v t s) (modes-under modes w t s)
+  modes-joined v w = ap (marks 0 5) (λ i m. mode-joined v w m i) ∙ marks-or (mode-listed modes v t s) (mode-listed modes w t s) 0 5
+
+  -- a list that has every SDS of another takes away no mode that this shows
+  pub longer-list : (v w : List ℕ) → ((d : ℕ) → among v d ≡ true → among w d ≡ true) → (m : ℕ) → has-mode (modes-under modes v t s) m ≡ true
+      → has-mode (modes-under modes w t s) m ≡ true
+  unfolding mode-listed
+  longer-list v w more m e =
+      let (below, listed) = and-both (ltb m 5) (mode-listed modes v t s m) (sym (marks-mode (mode-listed modes v t s) m) ∙ e) in
+      let (p, i, q) = any-where _ (s .presences) listed in
+      let (in-v, has) = and-both (among v (p .sds)) (eqb (p .type) t && has-mode (modes p) m) q in
+      marks-mode (mode-listed modes w t s) m
+      ∙ and-of (ltb m 5) (mode-listed modes w t s m) below
+      (any-at _ i (and-of (among w (p .sds)) (eqb (p .type) t && has-mode (modes p) m) (more (p .sds) in-v) has))
+
+  -- there is none where the type is not visible
+  mode-unseen : (w : List ℕ) → visible s w t ≡ false → (m : ℕ) → mode-listed modes w t s m ≡ false
+  unfolding mode-listed visible present
+  mode-unseen w unseen m =
+      fails (mode-listed modes w t s m) (λ e.
+      let (p, i, q) = any-where _ (s .presences) e in
+      let (in-w, has) = and-both (among w (p .sds)) (eqb (p .type) t && has-mode (modes p) m) q in
+      let there = any-at (holds-type (p .sds) t) i (and-of (eqb (p .sds) (p .sds)) (eqb (p .type) t) (eq-eqb (p .sds) (p .sds) refl)
+      (and-both (eqb (p .type) t) (has-mode (modes p) m) has .0)) in
+      true≢false (sym (any-at (λ d. present s d t) (among-in w (p .sds) in-w) there) ∙ unseen))
+
+  modes-of-first : (v w : List ℕ) → visible s w t ≡ false → modes-under modes (v ++ w) t s ≡ modes-under modes v t s
+  modes-of-first v w unseen = ap (marks 0 5) (λ i m. first m i)
+    where
+      first : (m : ℕ) → mode-listed modes (v ++ w) t s m ≡ mode-listed modes v t s m
+      first m = mode-joined v w m ∙ rw (mode-unseen w unseen m) (or-false (mode-listed modes v t s m))
+
+-- "and where it is visible in one, that one's", whichever comes first
+pub modes-of-one : (s : Schema) (v w : List ℕ) (t : ℕ) → visible s w t ≡ false → Used-once s (v ++ w)
+    → (Asks.modes-of (v ++ w) t s ≡ Asks.modes-of v t s) × (Asks.modes-of (w ++ v) t s ≡ Asks.modes-of v t s)
+modes-of-one s v w t unseen h =
+    let first = asked-same (modes-asked s h t) (modes-asked s (halves s v w h .0) t) (joined-unseen s v w t unseen)
+    (λ i. modes-told (λ modes. modes-of-first s modes t v w unseen i)) in
+    (first, order-alters-no-scan s (either-first w v) (modes-of t) refl ∙ first)

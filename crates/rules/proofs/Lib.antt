@@ -10,6 +10,7 @@ pub mod 08-Working
 pub mod 09-Refusals
 pub mod NameTests
 pub mod 11-Asks
+pub mod Modes
 pub mod 12-Contracts
 pub mod Questions
 pub mod Joins

@@ -72,6 +72,7 @@ parts-of {s} g = record {
       room = g .presence-room;
       in-used = g .presence-sds;
       named = g .presence-named;
+      known = g .modes-known;
       unique = g .local-names-unique;
       system = g .system-holds;
       system-alone = g .system-alone;
@@ -83,6 +84,7 @@ parts-of {s} g = record {
       parents = λ a by. g .parents-present (p .sds) (p .type) a (presence-there i) (parent-of (p .type) a by);
       reverse = λ c r k. g .reverse-present (p .sds) (p .type) c r (presence-there i) k;
     };
+    alike = g .reverse-modes;
     somewhere = g .somewhere;
   };
   applications = record {
@@ -109,6 +111,7 @@ whole {s} p = record {
   presence-type = p .presences .typed;
   presence-sds = p .presences .rows .in-used;
   presence-named = p .presences .rows .named;
+  modes-known = p .presences .rows .known;
   local-names-unique = p .presences .rows .unique;
   one-presence = p .presences .once;
   parents-few = p .types .kinds .few;
@@ -143,6 +146,7 @@ whole {s} p = record {
   somewhere = p .presences .somewhere;
   parents-present = λ d t a e by. at d t e .parents a (parent-in t a by);
   reverse-present = λ d t c r e k. at d t e .reverse c r k;
+  reverse-modes = p .presences .alike;
   mirrored = p .ends .mirrored;
 }
   where

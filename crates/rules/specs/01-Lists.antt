@@ -10,8 +10,8 @@
 --   07 Picture    a schema in bytes, and when a base is sound
 --   08 Working    what a working schema shows
 --   09 Refusals   the numbers, each with its condition, and what an outcome is
---   10 Changes    calls 1 to 8
---   11 Asks       calls 9 to 13
+--   10 Changes    calls 1 to 8, and setting modes
+--   11 Asks       calls 9 to 13, and asking for modes
 --   12 Contracts  what each function of the keeper promises
 --   13 History    any sequence of calls, and demand 3
 --   14 Run        the run program
@@ -26,6 +26,7 @@
 --                       are its body: `f [] = ..` where the list is empty, `f (x ∷ xs) = ..` where x is its head and xs the rest
 --   ℕ  Bool  List A     numbers from 0 on; false and true; lists. `[]` is the empty list, `x ∷ xs` x in front of xs, `xs ++ ys` one
 --                       behind the other, `suc n` is n + 1, and `limits .types` a field of a record
+--   a / b  a % b  a ^ b    the quotient of numbers, rounded down, the remainder, and the power
 --   λ k. ..             a function without a name, of k
 --   cond c a b          a where c is true, else b. `eqb`, `ltb`, `leb` test x = y, x < y, x ≤ y; `&&`, `||`, `not` are as everywhere
 --   getD xs i d         the element at place i, from 0 on; d where there is none. `set xs i a` is xs with a there, `map f xs` f of each

@@ -1,5 +1,5 @@
 -- 01, "Things in a base", as a value: names, types, presences, applications, ends. What is allowed of them is said in 06-Good.
-use Prim.Native.Nat.{ℕ, _-_}
+use Prim.Native.Nat.{ℕ, _-_, _/_, _%_, _^_}
 use mathlib.Core.List.{List, [], _∷_}
 use mathlib.Core.Bool.{Bool, not, _&&_}
 use lib.Dec.{ltb, eqb}
@@ -21,11 +21,34 @@ pub data Kind : Type 0 where
   -- a link type of another category, "0 composition, 1 existence, 2 reference, 3 implicit", and its reverse
   paired : ℕ → ℕ → Kind
 
--- "A presence says that a type is in an SDS, under a local name"
+-- a set of modes, as a sum: create 1, delete 2, read 4, write 8, navigate 16 (000, 10.1.2)
+abbrev pub Modes : Type 0
+Modes = ℕ
+
+-- "all five" (02, Q-2)
+abbrev pub all-modes : Modes
+all-modes = 31
+
+-- mode m is in the set: 0 create, 1 delete, 2 read, 3 write, 4 navigate
+unfoldable pub has-mode : Modes → ℕ → Bool
+has-mode modes m = eqb (modes / 2 ^ m % 2) 1
+
+-- "A presence says that a type is in an SDS, under a local name". "Each presence gains two sets of modes, usage and definition, out of
+-- create, delete, read, write and navigate." (02, Q-2)
 pub record Presence : Type 0 where
   pub sds : ℕ
   pub name : Name
   pub type : ℕ
+  pub usage : Modes
+  pub definition : Modes
+
+-- "New types, imports and a fresh base get all five." (02, Q-2)
+abbrev pub new-presence : ℕ → Name → ℕ → Presence
+new-presence d n t = record { sds = d; name = n; type = t; usage = all-modes; definition = all-modes }
+
+-- a presence with these modes
+abbrev pub with-modes : Modes → Modes → Presence → Presence
+with-modes usage definition p = record { sds = p .sds; name = p .name; type = p .type; usage = usage; definition = definition }
 
 -- "Within an SDS an attribute type may be applied to an object or link type"
 pub record Application : Type 0 where
@@ -58,7 +81,7 @@ abbrev pub system-name : Name
 system-name = bytes "system"
 
 abbrev pub system-presence : Presence
-system-presence = record { sds = 0; name = bytes "object"; type = 0 }
+system-presence = new-presence 0 (bytes "object") 0
 
 unfoldable pub fresh : Schema
 fresh = record {
@@ -166,16 +189,19 @@ unfoldable pub bears : Schema → ℕ → Name → Bool
 bears s d n = any (holds-name d n) (s .presences)
 
 -- what a search that fails hands back: it is never told, since each call refuses first
-abbrev nowhere : Presence
-nowhere = record { sds = 0; name = []; type = 0 }
+abbrev pub nowhere : Presence
+nowhere = record { sds = 0; name = []; type = 0; usage = 0; definition = 0 }
 
 -- the type that bears the local name n in SDS d
 unfoldable pub type-named : Schema → ℕ → Name → ℕ
 type-named s d n = (first (holds-name d n) nowhere (s .presences)) .type
 
--- the local name of type t in SDS d
+-- the presence of type t in SDS d, and its local name there
+abbrev pub type-presence : Schema → ℕ → ℕ → Presence
+type-presence s d t = first (holds-type d t) nowhere (s .presences)
+
 unfoldable pub local-name : Schema → ℕ → ℕ → Name
-local-name s d t = (first (holds-type d t) nowhere (s .presences)) .name
+local-name s d t = (type-presence s d t) .name
 
 -- ---- applications and ends
 

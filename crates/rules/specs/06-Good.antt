@@ -9,7 +9,7 @@ use lib.ListN.{length}
 use Rattle.rules.specs.01-Lists.{_∈_, rising}
 use Rattle.rules.specs.02-Limits.{limits}
 use Rattle.rules.specs.03-Names.{well-formed, same-name, name-before}
-use Rattle.rules.specs.04-Schema.{Schema, Presence, Application, End, system-name, system-presence, sds-name, used-sds, kind-of}
+use Rattle.rules.specs.04-Schema.{Schema, Presence, Application, End, all-modes, system-name, system-presence, sds-name, used-sds, kind-of}
 use Rattle.rules.specs.04-Schema.{is-used, is-object, is-attribute, is-link, present, has-end, side-code, other-side}
 use Rattle.rules.specs.04-Schema.Kind.{object, attribute, paired}
 use Rattle.rules.specs.05-Descent.{Parent, Descends}
@@ -20,9 +20,13 @@ use Rattle.rules.specs.05-Descent.{Parent, Descends}
 abbrev first-by : ℕ → ℕ → Bool → Bool
 first-by x y rest = ltb x y || (eqb x y && rest)
 
--- by SDS, then name, then type
+-- by type, then usage, then definition
+abbrev pub by-type : Presence → Presence → Bool
+by-type p q = first-by (p .type) (q .type) (first-by (p .usage) (q .usage) (ltb (p .definition) (q .definition)))
+
+-- by SDS, then name, then the rest of the row
 unfoldable pub presence-before : Presence → Presence → Bool
-presence-before p q = first-by (p .sds) (q .sds) (name-before (p .name) (q .name) || (not (name-before (q .name) (p .name)) && ltb (p .type) (q .type)))
+presence-before p q = first-by (p .sds) (q .sds) (name-before (p .name) (q .name) || (not (name-before (q .name) (p .name)) && by-type p q))
 
 -- by SDS, then the type applied to, then the attribute type
 unfoldable pub application-before : Application → Application → Bool
@@ -33,6 +37,15 @@ unfoldable pub end-before : End → End → Bool
 end-before x y = first-by (x .sds) (y .sds) (first-by (x .link) (y .link) (first-by (side-code (x .side)) (side-code (y .side)) (ltb (x .object) (y .object))))
 
 -- ---- what a sound base keeps
+
+-- no set has a mode that is none of the five
+pub record Known-modes (p : Presence) : Type 0 where
+  pub usage : p .usage ≤ all-modes
+  pub definition : p .definition ≤ all-modes
+
+pub record Same-modes (p q : Presence) : Type 0 where
+  pub usage : p .usage ≡ q .usage
+  pub definition : p .definition ≡ q .definition
 
 pub record Good (s : Schema) : Type 0 where
   -- "Room: 16 SDSs, 128 types, 512 presences, 256 applications, 512 ends."
@@ -49,6 +62,8 @@ pub record Good (s : Schema) : Type 0 where
   pub presence-type : (p : Presence) → p ∈ s .presences → is-used (kind-of s (p .type)) ≡ true
   pub presence-sds : (p : Presence) → p ∈ s .presences → used-sds s (p .sds) ≡ true
   pub presence-named : (p : Presence) → p ∈ s .presences → well-formed (p .name) ≡ true
+  -- "two sets of modes, usage and definition, out of create, delete, read, write and navigate" (02, Q-2)
+  pub modes-known : (p : Presence) → p ∈ s .presences → Known-modes p
   -- "unique in that SDS"
   pub local-names-unique : (p q : Presence) → p ∈ s .presences → q ∈ s .presences → p .sds ≡ q .sds → same-name (p .name) (q .name) ≡ true → p ≡ q
   -- "A type has at most one in an SDS."
@@ -95,6 +110,9 @@ pub record Good (s : Schema) : Type 0 where
   pub parents-present : (d t a : ℕ) → present s d t ≡ true → Parent s t a → present s d a ≡ true
   -- "a link type and its reverse are present in the same SDSs"
   pub reverse-present : (d t c r : ℕ) → present s d t ≡ true → kind-of s t ≡ paired c r → present s d r ≡ true
+  -- "The definition modes of a link and of its reverse must be the same." (000, 8.4; 02 is silent on pairs)
+  pub reverse-modes : (p q : Presence) → p ∈ s .presences → q ∈ s .presences → p .sds ≡ q .sds → (c : ℕ) → kind-of s (p .type) ≡ paired c (q .type)
+      → Same-modes p q
   -- "an object type is an origin of a link type in an SDS exactly when it is a destination of its reverse there"
   pub mirrored : (e : End) → e ∈ s .ends → (c r : ℕ) → kind-of s (e .link) ≡ paired c r
       → has-end s (e .sds) r (other-side (e .side)) (e .object) ≡ true

@@ -31,12 +31,12 @@ type-row (attribute v) = pad type-width (2 ∷ v ∷ [])
 type-row designation = pad type-width (3 ∷ 4 ∷ [])
 type-row (paired c r) = pad type-width (3 ∷ c ∷ r ∷ [])
 
--- a presence: SDS; name; type
+-- a presence: SDS; name; type; usage; definition
 abbrev pub presence-width : ℕ
-presence-width = limits .name + 2
+presence-width = limits .name + 4
 
 unfoldable pub presence-row : Presence → List ℕ
-presence-row p = p .sds ∷ (pad (limits .name) (p .name) ++ (p .type ∷ []))
+presence-row p = p .sds ∷ (pad (limits .name) (p .name) ++ (p .type ∷ p .usage ∷ p .definition ∷ []))
 
 -- an application: SDS; object or link type; attribute type
 abbrev pub application-width : ℕ
@@ -77,7 +77,7 @@ end-table s = table end-width end-row (limits .ends) (s .ends)
 unfoldable pub picture : Schema → List ℕ
 picture s = sds-table s ++ (type-table s ++ (presence-table s ++ (application-table s ++ end-table s)))
 
--- "The team fixes the base's exact length in bytes": 13,312
+-- "The team fixes the base's exact length in bytes": 14,336
 abbrev pub base-length : ℕ
 base-length =
     limits .sdss * sds-width + (limits .types * type-width + (limits .presences * presence-width

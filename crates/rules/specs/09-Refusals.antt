@@ -9,7 +9,7 @@ use Rattle.rules.specs.declared.Answer.{Answer}
 use Rattle.rules.specs.01-Lists.{any, numbers}
 use Rattle.rules.specs.02-Limits.{limits}
 use Rattle.rules.specs.03-Names.{Name, well-formed, blank, same-name}
-use Rattle.rules.specs.04-Schema.{Schema, used-sds, kind-of, is-used, is-object, is-attribute, is-link, parents, is-parent, reverse}
+use Rattle.rules.specs.04-Schema.{Schema, Modes, all-modes, used-sds, kind-of, is-used, is-object, is-attribute, is-link, parents, is-parent, reverse}
 use Rattle.rules.specs.04-Schema.{present, bears, type-named, applied, has-end}
 use Rattle.rules.specs.04-Schema.Side.{origin, destination}
 use Rattle.rules.specs.05-Descent.{members}
@@ -95,6 +95,12 @@ unknown-link-scan code = ltb 4 code
 
 unfoldable pub not-1-to-4 : List Name → Bool
 not-1-to-4 ns = ltb (length ns) 1 || ltb 4 (length ns)
+
+-- ---- 19 "an unknown mode, tested directly after 5" (02, Q-2)
+
+-- a sum over that of all five has another
+unfoldable pub unknown-mode : Modes → Bool
+unknown-mode modes = ltb all-modes modes
 
 -- ---- 6 "no such local name there, or type number unused, not visible or not present there" (what is unused is present nowhere)
 

@@ -1,4 +1,4 @@
--- The changing calls, 1 to 8 of 01: of each its refusals in order, and its effect.
+-- The changing calls, 1 to 8 of 01 and that which sets modes of 02: of each its refusals in order, and its effect.
 use Prim.Native.Nat.{ℕ}
 use mathlib.Core.List.{List, [], _∷_, _++_, map}
 use mathlib.Core.Bool.{Bool, not, cond, _&&_, _||_}
@@ -6,14 +6,15 @@ use lib.Dec.{ltb, eqb}
 use lib.ListN.{length, getD, set}
 use Rattle.rules.specs.01-Lists.{any, among, repeated, without, put, put-all}
 use Rattle.rules.specs.03-Names.{Name, blank, names-in}
-use Rattle.rules.specs.04-Schema.{with-sdss, with-types, with-presences, with-applications, with-ends, Schema, Kind, Presence, Side, End}
+use Rattle.rules.specs.04-Schema.{with-sdss, with-types, with-presences, with-applications, with-ends, Schema, Kind, Modes, Presence, Side, End}
+use Rattle.rules.specs.04-Schema.{new-presence, with-modes, type-presence}
 use Rattle.rules.specs.04-Schema.{reverse, with-reverse, present, type-named, local-name, holds-type, applied, is-application, has-end, is-end}
 use Rattle.rules.specs.04-Schema.{other-side}
 use Rattle.rules.specs.06-Good.{presence-before, application-before, end-before}
 use Rattle.rules.specs.04-Schema.Kind.{unused, object, attribute, designation, paired}
 use Rattle.rules.specs.04-Schema.Side.{origin, destination}
 use Rattle.rules.specs.09-Refusals.{Outcome, Refusals, _when_, _held-by_, verdict, unknown-sds, system-sds, malformed, malformed-new, unknown-value-kind}
-use Rattle.rules.specs.09-Refusals.{no-pair, not-1-to-4, no-such-name, no-object, no-attribute, no-link, idle-reverse-name, missing-parent}
+use Rattle.rules.specs.09-Refusals.{no-pair, not-1-to-4, unknown-mode, no-such-name, no-object, no-attribute, no-link, idle-reverse-name, missing-parent}
 use Rattle.rules.specs.09-Refusals.{sds-name-taken, names-taken, borne-by-another, types-in, child-there, applied-there, end-there, in-the-way}
 use Rattle.rules.specs.09-Refusals.{no-free-sds, presences-full, applications-full, ends-full, types-full, free-sdss, free-types}
 use Rattle.rules.specs.09-Refusals.Outcome.{done}
@@ -56,7 +57,7 @@ second-new-type s = getD (free-types s) 1 0
 -- type t is of kind k, and in SDS d under the name n
 abbrev pub with-type : ℕ → Kind → ℕ → Name → Schema → Schema
 with-type t k d n s =
-    with-presences (with-types s (set (s .types) t k)) (put presence-before (record { sds = d; name = n; type = t }) (s .presences))
+    with-presences (with-types s (set (s .types) t k)) (put presence-before (new-presence d n t) (s .presences))
 
 -- "New object type: SDS, name, local names of its parents in that SDS"
 abbrev pub parents-named : Schema → ℕ → List ℕ → List ℕ
@@ -136,8 +137,7 @@ filled s source t new = cond (blank new) (local-name s source t) new
 -- "A pair is imported together.": the presences that come into the target, the named type's first
 unfoldable pub imported : ℕ → ℕ → ℕ → Name → Name → Schema → List Presence
 imported target source t new new-reverse s =
-    record { sds = target; name = filled s source t new; type = t }
-    ∷ map (λ r. record { sds = target; name = filled s source r new-reverse; type = r }) (reverse s t)
+    new-presence target (filled s source t new) t ∷ map (λ r. new-presence target (filled s source r new-reverse) r) (reverse s t)
 
 abbrev pub import-refusals : ℕ → ℕ → Name → Name → Name → Schema → Refusals
 import-refusals target source n new new-reverse s =
@@ -296,9 +296,34 @@ rename-refusals d n new s =
     ∷ (11 when borne-by-another s d (type-named s d n) new)
     ∷ []
 
+-- the presence of type t in SDS d under the new name; its modes are what they were
+abbrev pub renamed : ℕ → Name → ℕ → Schema → Presence
+renamed d new t s = with-modes ((type-presence s d t) .usage) ((type-presence s d t) .definition) (new-presence d new t)
+
 unfoldable pub rename : ℕ → Name → Name → Schema → Outcome Schema
 rename d n new s =
     let t = type-named s d n in
     verdict (rename-refusals d n new s)
     (done 0 0 0
-    (with-presences s (put presence-before (record { sds = d; name = new; type = t }) (without (holds-type d t) (s .presences)))))
+    (with-presences s (put presence-before (renamed d new t s) (without (holds-type d t) (s .presences)))))
+
+-- ---- "A call sets both sets." (02, Q-2)
+
+abbrev pub set-modes-refusals : ℕ → Name → Modes → Modes → Schema → Refusals
+set-modes-refusals d n usage definition s =
+    (2 when unknown-sds s d)
+    ∷ (3 when system-sds d)
+    ∷ (4 when malformed n)
+    ∷ (19 when unknown-mode usage || unknown-mode definition)
+    ∷ (6 when no-such-name s d n)
+    ∷ []
+
+-- the presences, those of the types ts in SDS d with these modes
+unfoldable pub modes-set : ℕ → List ℕ → Modes → Modes → List Presence → List Presence
+modes-set d ts usage definition ps = map (λ p. cond (eqb (p .sds) d && among ts (p .type)) (with-modes usage definition p) p) ps
+
+-- those of the reverse of a link type "are set .. in the same way" (000, 10.2.25)
+unfoldable pub set-modes : ℕ → Name → Modes → Modes → Schema → Outcome Schema
+set-modes d n usage definition s =
+    verdict (set-modes-refusals d n usage definition s)
+    (done 0 0 0 (with-presences s (modes-set d (with-reverse s (type-named s d n)) usage definition (s .presences))))

@@ -1,12 +1,13 @@
--- The asking calls, 9 to 13 of 01: of each its refusals in order, its values, and the list that it puts down, [] where it puts down
--- none. `w` is the working schema, as the caller lists it; `room` is the whole entries that the output has.
+-- The asking calls, 9 to 13 of 01 and that for modes of 02: of each its refusals in order, its values, and the list that it puts down,
+-- [] where it puts down none. `w` is the working schema, as the caller lists it; `room` is the whole entries that the output has.
 use Prim.Native.Nat.{ℕ, zero, suc, _+_, _*_}
 use mathlib.Core.List.{List, [], _∷_, _++_}
 use mathlib.Core.Bool.{Bool, true, false, _&&_}
+use lib.Dec.{eqb}
 use lib.ListN.{length, getD}
-use Rattle.rules.specs.01-Lists.{any, first, place, repeated}
+use Rattle.rules.specs.01-Lists.{any, first, place, among, repeated}
 use Rattle.rules.specs.03-Names.{Name}
-use Rattle.rules.specs.04-Schema.{Schema, bears, holds-type, type-named, local-name}
+use Rattle.rules.specs.04-Schema.{Schema, Presence, Modes, has-mode, bears, holds-type, type-named, local-name}
 use Rattle.rules.specs.05-Descent.{descends, depth, members}
 use Rattle.rules.specs.07-Picture.{name-start}
 use Rattle.rules.specs.08-Working.{visible, shown, object-scans, link-scans, ancestor, attribute-all, link-origin-all}
@@ -139,3 +140,24 @@ unfoldable pub descendant-set : List ℕ → ℕ → Schema → Outcome (List �
 descendant-set w t s =
     verdict (object-refusals w t s)
     (done (marks 0 64 (visible-descendant w t s)) (marks 64 64 (visible-descendant w t s)) (length (members (visible-descendant w t s))) [])
+
+-- ---- "The modes of a type under a working schema are the union over the listed SDSs." (02, Q-2)
+
+-- some presence of type t in a listed SDS has mode m, in its usage or its definition, whichever `modes` gives
+unfoldable pub mode-listed : (Presence → Modes) → List ℕ → ℕ → Schema → ℕ → Bool
+mode-listed modes w t s m = any (λ p. among w (p .sds) && (eqb (p .type) t && has-mode (modes p) m)) (s .presences)
+
+-- the modes of which that is so, as a sum
+abbrev pub modes-under : (Presence → Modes) → List ℕ → ℕ → Schema → Modes
+modes-under modes w t s = marks 0 5 (mode-listed modes w t s)
+
+abbrev pub modes-refusals : List ℕ → ℕ → Schema → Refusals
+modes-refusals w t s =
+    (2 when any (unknown-sds s) w)
+    ∷ (6 when not-visible s w t)
+    ∷ (8 when repeated w)
+    ∷ []
+
+-- its values: usage and definition
+unfoldable pub modes-of : List ℕ → ℕ → Schema → Outcome (List ℕ)
+modes-of w t s = verdict (modes-refusals w t s) (done (modes-under (λ p. p .usage) w t s) (modes-under (λ p. p .definition) w t s) 0 [])

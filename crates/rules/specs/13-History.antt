@@ -8,7 +8,7 @@ use lib.Dec.{ltb}
 use Rattle.rules.specs.declared.Answer.{Answer}
 use Rattle.rules.specs.01-Lists.{_∈_, rising}
 use Rattle.rules.specs.03-Names.{Name}
-use Rattle.rules.specs.04-Schema.{Schema, fresh}
+use Rattle.rules.specs.04-Schema.{Schema, Modes, fresh}
 use Rattle.rules.specs.05-Descent.{Descends}
 use Rattle.rules.specs.06-Good.{Good}
 use Rattle.rules.specs.07-Picture.{picture}
@@ -36,6 +36,7 @@ pub data Change : Type 0 where
   remove-destination : ℕ → Name → Name → Change
   remove-type : ℕ → Name → Change
   rename : ℕ → Name → Name → Change
+  set-modes : ℕ → Name → Modes → Modes → Change
 
 abbrev pub change-rule : Change → Schema → Outcome Schema
 change-rule (new-sds n) = Changes.new-sds n
@@ -53,6 +54,7 @@ change-rule (add-destination d n m) = Changes.add-destination d n m
 change-rule (remove-destination d n m) = Changes.remove-destination d n m
 change-rule (remove-type d n) = Changes.remove-type d n
 change-rule (rename d n new) = Changes.rename d n new
+change-rule (set-modes d n usage definition) = Changes.set-modes d n usage definition
 
 -- an asking call with its inputs; the last of a call that puts a list down is the room of its output
 pub data Ask : Type 0 where
@@ -63,6 +65,7 @@ pub data Ask : Type 0 where
   depth-of : List ℕ → ℕ → Ask
   name : ℕ → ℕ → Ask
   descendant-set : List ℕ → ℕ → Ask
+  modes-of : List ℕ → ℕ → Ask
 
 abbrev pub ask-rule : Ask → Schema → Outcome (List ℕ)
 ask-rule (scan-object w t code room) = Asks.scan-object w t code room
@@ -72,6 +75,7 @@ ask-rule (find w n) = Asks.find w n
 ask-rule (depth-of w t) = Asks.depth-of w t
 ask-rule (name d t) = Asks.name d t
 ask-rule (descendant-set w t) = Asks.descendant-set w t
+ask-rule (modes-of w t) = Asks.modes-of w t
 
 pub data Call : Type 0 where
   begin-fresh : Call

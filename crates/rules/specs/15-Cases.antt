@@ -13,8 +13,8 @@ use Rattle.rules.specs.09-Refusals.{Outcome, answer-of, telling, refusal
 use Rattle.rules.specs.09-Refusals.Outcome.{refused, done}
 use Rattle.rules.specs.13-History.{Change, Ask, Call, change-rule, ask-rule, after}
 use Rattle.rules.specs.13-History.Change.{new-sds, remove-sds, new-object, new-attribute, new-designation, new-pair, import, apply}
-use Rattle.rules.specs.13-History.Change.{unapply, apply-link, unapply-link, add-destination, remove-destination, remove-type, rename}
-use Rattle.rules.specs.13-History.Ask.{scan-object, scan-link, profile, find, depth-of, name, descendant-set}
+use Rattle.rules.specs.13-History.Change.{unapply, apply-link, unapply-link, add-destination, remove-destination, remove-type, rename, set-modes}
+use Rattle.rules.specs.13-History.Ask.{scan-object, scan-link, profile, find, depth-of, name, descendant-set, modes-of}
 use Rattle.rules.specs.13-History.Call.{begin-fresh, change, ask}
 use Rattle.rules.specs.14-Run.{reply}
 
@@ -194,7 +194,7 @@ own =
     ∷ asks (profile (1 ∷ []) 2 6) (success 2 1 3) (0 ∷ 1 ∷ 3 ∷ 5 ∷ 6 ∷ 7 ∷ [])
     ∷ asks (profile (1 ∷ []) 2 5) (refusal 15) []
     ∷ asks (descendant-set (1 ∷ []) 0) (success 6 0 2) []
-    ∷ asks (name 1 2) (success 1371 5 0) []
+    ∷ asks (name 1 2) (success 1381 5 0) []
     ∷ [])))
     -- what is taken away is gone, and only then can a type go
     ∷ calls
@@ -292,8 +292,8 @@ own =
     (bus
     ++ (changes (new-designation 1 (bytes "AB")) (success 1 0 0)
     ∷ changes (new-designation 1 (bytes "A_")) (success 2 0 0)
-    ∷ asks (name 1 2) (success 1299 2 0) []
-    ∷ asks (name 1 1) (success 1317 2 0) []
+    ∷ asks (name 1 2) (success 1301 2 0) []
+    ∷ asks (name 1 1) (success 1321 2 0) []
     ∷ []))
     -- "Attribute-all can give more than the two apart" (02, Q-10): bus holds t and its parent a, ground a with x applied
     ∷ calls
@@ -325,6 +325,54 @@ own =
     ∷ asks (scan-object (1 ∷ []) 2 1 2) (refusal 6) []
     ∷ asks (scan-object (1 ∷ 2 ∷ []) 2 1 2) (success 1 0 0) (3 ∷ [])
     ∷ asks (descendant-set (2 ∷ 1 ∷ []) 0) (success 14 0 3) []
+    ∷ []))
+    -- modes (02, Q-2): all five at first; 31 is a set and 32 none, 19 comes after 3 and 4 and before 6; any set may be set on any kind
+    ∷ calls
+    (ship
+    ++ (asks (modes-of (0 ∷ []) 0) (success 31 31 0) []
+    ∷ asks (modes-of (1 ∷ []) 3) (success 31 31 0) []
+    ∷ changes (set-modes 1 (bytes "state") 31 31) (success 0 0 0)
+    ∷ changes (set-modes 1 (bytes "state") 32 31) (refusal 19)
+    ∷ changes (set-modes 1 (bytes "state") 31 32) (refusal 19)
+    ∷ changes (set-modes 1 (bytes "none") 257 0) (refusal 19)
+    ∷ changes (set-modes 1 (bytes "none") 0 4294967297) (refusal 19)
+    ∷ changes (set-modes 1 (bytes "none") 31 31) (refusal 6)
+    ∷ changes (set-modes 1 (bytes "1none") 32 32) (refusal 4)
+    ∷ changes (set-modes 0 (bytes "1none") 32 32) (refusal 3)
+    ∷ changes (set-modes 16 (bytes "state") 0 0) (refusal 2)
+    ∷ asks (modes-of (1 ∷ []) 3) (success 31 31 0) []
+    ∷ changes (set-modes 1 (bytes "STATE") 0 0) (success 0 0 0)
+    ∷ asks (modes-of (1 ∷ []) 3) (success 0 0 0) []
+    ∷ changes (set-modes 1 (bytes "unit") 4 16) (success 0 0 0)
+    ∷ asks (modes-of (1 ∷ []) 1) (success 4 16 0) []
+    ∷ asks (modes-of [] 1) (refusal 6) []
+    ∷ asks (modes-of (0 ∷ []) 1) (refusal 6) []
+    ∷ asks (modes-of (1 ∷ 1 ∷ []) 8) (refusal 6) []
+    ∷ asks (modes-of (1 ∷ 1 ∷ []) 1) (refusal 8) []
+    ∷ asks (modes-of (1 ∷ 16 ∷ []) 1) (refusal 2) []
+    ∷ []))
+    -- a pair has its modes together, by either name; an import has all five, whatever the source has; rename keeps them, and a removal
+    -- and a new import give all five again; under two SDSs they are the union
+    ∷ calls
+    (ship
+    ++ (changes (set-modes 1 (bytes "has") 1 2) (success 0 0 0)
+    ∷ asks (modes-of (1 ∷ []) 6) (success 1 2 0) []
+    ∷ changes (set-modes 1 (bytes "of") 9 6) (success 0 0 0)
+    ∷ asks (modes-of (1 ∷ []) 5) (success 9 6 0) []
+    ∷ changes (rename 1 (bytes "of") (bytes "part")) (success 0 0 0)
+    ∷ asks (modes-of (1 ∷ []) 6) (success 9 6 0) []
+    ∷ changes (new-sds (bytes "ground")) (success 2 0 0)
+    ∷ changes (import 2 1 (bytes "part") [] []) (success 6 5 0)
+    ∷ asks (modes-of (2 ∷ []) 5) (success 31 31 0) []
+    ∷ asks (modes-of (2 ∷ 0 ∷ []) 6) (success 31 31 0) []
+    ∷ asks (modes-of (1 ∷ []) 6) (success 9 6 0) []
+    ∷ changes (set-modes 2 (bytes "has") 20 0) (success 0 0 0)
+    ∷ asks (modes-of (1 ∷ 2 ∷ []) 5) (success 29 6 0) []
+    ∷ asks (modes-of (2 ∷ 1 ∷ 0 ∷ []) 6) (success 29 6 0) []
+    ∷ changes (remove-type 2 (bytes "part")) (success 6 0 0)
+    ∷ asks (modes-of (1 ∷ 2 ∷ []) 5) (success 9 6 0) []
+    ∷ changes (import 2 1 (bytes "has") [] []) (success 5 6 0)
+    ∷ asks (modes-of (2 ∷ []) 6) (success 31 31 0) []
     ∷ []))
     -- the run program's SDSs and types in any spelling; its commands byte for byte
     ∷ lines

@@ -11,7 +11,7 @@ use Rattle.rules.specs.02-Limits.{limits}
 use Rattle.rules.specs.03-Names.{Name, well-formed, same-name}
 use Rattle.rules.specs.04-Schema.{Schema, Kind, Presence, Application, End, system-name, system-presence, used-sds, kind-of, is-used, is-object}
 use Rattle.rules.specs.04-Schema.{is-attribute, is-link, present, has-end, other-side}
-use Rattle.rules.specs.06-Good.{presence-before, application-before, end-before}
+use Rattle.rules.specs.06-Good.{presence-before, application-before, end-before, Known-modes, Same-modes}
 use Rattle.rules.specs.04-Schema.Kind.{object, attribute, paired}
 use Rattle.rules.specs.05-Descent.{Parent, Descends}
 
@@ -72,6 +72,7 @@ pub record Presence-rows (ns : List Name) (ps : List Presence) : Type 0 where
   pub room : length ps ≤ limits .presences
   pub in-used : (p : Presence) → p ∈ ps → used-sds (of-sdss ns) (p .sds) ≡ true
   pub named : (p : Presence) → p ∈ ps → well-formed (p .name) ≡ true
+  pub known : (p : Presence) → p ∈ ps → Known-modes p
   pub unique : (p q : Presence) → p ∈ ps → q ∈ ps → p .sds ≡ q .sds → same-name (p .name) (q .name) ≡ true → p ≡ q
   pub system : system-presence ∈ ps
   pub system-alone : (p : Presence) → p ∈ ps → p .sds ≡ 0 → p ≡ system-presence
@@ -94,11 +95,15 @@ Closed ks ps = (p : Presence) → p ∈ ps → Closed-under ks (present (of-pres
 abbrev pub Somewhere : List Kind → List Presence → Type 0
 Somewhere ks ps = (t : ℕ) → is-used (kind-of (of-types ks) t) ≡ true → (d : ℕ) × (present (of-presences ps) d t ≡ true)
 
+abbrev pub Alike : List Kind → List Presence → Type 0
+Alike ks ps = (p q : Presence) → p ∈ ps → q ∈ ps → p .sds ≡ q .sds → (c : ℕ) → kind-of (of-types ks) (p .type) ≡ paired c (q .type) → Same-modes p q
+
 pub record Presences (ns : List Name) (ks : List Kind) (ps : List Presence) : Type 0 where
   pub rows : Presence-rows ns ps
   pub once : Once ps
   pub typed : Typed ks ps
   pub closed : Closed ks ps
+  pub alike : Alike ks ps
   pub somewhere : Somewhere ks ps
 
 -- ---- applications and ends

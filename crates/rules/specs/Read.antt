@@ -25,12 +25,18 @@ count-offset = 3
 abbrev pub parents-offset : ℕ
 parents-offset = 4
 
--- a presence: the first byte of its name; its type
+-- a presence: the first byte of its name; its type; its modes
 abbrev pub name-offset : ℕ
 name-offset = 1
 
 abbrev pub type-offset : ℕ
 type-offset = name-offset + limits .name
+
+abbrev pub usage-offset : ℕ
+usage-offset = type-offset + 1
+
+abbrev pub definition-offset : ℕ
+definition-offset = usage-offset + 1
 
 -- an application: the type that has the attribute type; the attribute type
 abbrev pub to-offset : ℕ
@@ -64,7 +70,13 @@ read-kind r =
     unused))
 
 unfoldable pub read-presence : List ℕ → Presence
-read-presence r = record { sds = getD r 0 0; name = strip (take (limits .name) (drop name-offset r)); type = getD r type-offset 0 }
+read-presence r = record {
+  sds = getD r 0 0;
+  name = strip (take (limits .name) (drop name-offset r));
+  type = getD r type-offset 0;
+  usage = getD r usage-offset 0;
+  definition = getD r definition-offset 0;
+}
 
 unfoldable pub read-application : List ℕ → Application
 read-application r = record { sds = getD r 0 0; to = getD r to-offset 0; attribute = getD r attribute-offset 0 }

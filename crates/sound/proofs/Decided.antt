@@ -5,7 +5,7 @@ use mathlib.Core.Path.{_≡_}
 use mathlib.Core.List.{List}
 use lib.ListN.{length}
 use Rattle.rules.specs.07-Picture.{Sound, base-length}
-use Rattle.rules.specs.Parts.{Acyclic, Parts}
+use Rattle.rules.specs.Parts.{Acyclic, Alike, Parts}
 use Rattle.rules.proofs.05-Descent.{used-below}
 use Rattle.rules.proofs.Parts.{parent-in, parts-of, whole}
 use Rattle.base.specs.Back.{schema-of, Canonical}
@@ -22,6 +22,7 @@ pub record Decided (b : List ℕ) : Type 0 where
   pub acyclic : Acyclic ((schema-of b) .types)
   pub applications : Applications-fine b
   pub ends : Ends-fine b
+  pub alike : Alike ((schema-of b) .types) ((schema-of b) .presences)
 
 -- as the check for cycles asks for it
 pub parental : {b : List ℕ} → length b ≡ base-length → Types-fine b → Parental b
@@ -59,6 +60,7 @@ decided-of {b} s =
         each = p .ends .each;
         mirrored = p .ends .mirrored;
       };
+      alike = p .presences .alike;
     }
 
 pub decided-sound : (b : List ℕ) → Decided b → Sound b
@@ -85,6 +87,7 @@ decided-sound b w = is-sound b canonical (whole parts)
         once = w .presences .once;
         typed = w .types .typed;
         closed = w .types .closed;
+        alike = w .alike;
         somewhere = w .types .somewhere;
       };
       applications = record { rows = w .applications .rows; each = w .applications .each };

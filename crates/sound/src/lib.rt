@@ -15,7 +15,8 @@ pub fn is_sound(base: &[u8]) -> bool
         return false;
     }
     let mut held = [0u16; Limits::TYPES];
-    if !check_presences::presences_fine(base, base::used::presences_halved(base), &mut held) {
+    let n = base::used::presences_halved(base);
+    if !check_presences::presences_fine(base, n, &mut held) {
         return false;
     }
     let types = check_types::types_fine(base, &held);
@@ -30,5 +31,10 @@ pub fn is_sound(base: &[u8]) -> bool
     if !check_applications::applications_fine(base, base::used::applications_halved(base), &held) {
         return false;
     }
-    check_ends::ends_fine(base, base::used::ends_halved(base), &held, &mut bytes)
+    if !check_ends::ends_fine(base, base::used::ends_halved(base), &held, &mut bytes) {
+        return false;
+    }
+    // What the SDSs hold is no longer asked: the words are used again.
+    held = [0u16; Limits::TYPES];
+    check_modes::pairs_fine(base, n, &mut held)
 }

@@ -1,2 +1,3 @@
 pub mod ShownLaws
 pub mod Rules
+pub mod ModeLaws

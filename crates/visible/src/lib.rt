@@ -1,4 +1,4 @@
-// What the SDSs of a word show: sets of types, each gathered row by row from one table.
+// What the SDSs of a word show: sets of types, each gathered row by row from one table, and the modes of a type.
 use type_set::TypeSet;
 ghost use mathlib.Core.Path.{_≡_};
 ghost use mathlib.Core.Bool.{_&&_};
@@ -8,7 +8,7 @@ ghost use Rattle.rules.specs.04-Schema.{side-code};
 ghost use Rattle.rules.specs.07-Picture.{Sound};
 ghost use Rattle.base.specs.Back.{schema-of, presence-count, application-count, end-count, presence-shown, application-shown, end-shown};
 ghost use Rattle.type_set.specs.Set.{bit, has};
-ghost use Rattle.visible.specs.Shown.{gathered, held-in};
+ghost use Rattle.visible.specs.Shown.{gathered, held-in, joined};
 
 // Whether row i says that type t is in one of these SDSs.
 fn is_shown(base: &[u8], i: usize, sdss: u16, t: usize) -> bool
@@ -35,6 +35,32 @@ pub fn is_visible(base: &[u8], sdss: u16, t: usize) -> bool
         i += 1;
     }
     false
+}
+
+// Two sets of modes, usage and definition.
+pub struct Modes {
+    pub usage: usize,
+    pub definition: usize,
+}
+
+// Those of type t in these SDSs, joined.
+pub fn modes_in(base: &[u8], sdss: u16, t: usize) -> Modes
+    requires { ⌜ Sound (now base) ⌝ }
+    ensures { λ r. ⌜ (let ps = (schema-of (now (base .entry))) .presences in
+        (r .usage ≡ joined (bit sdss) t (λ p. p .usage) ps) × (r .definition ≡ joined (bit sdss) t (λ p. p .definition) ps)) ⌝ }
+{
+    let n = lookup::presences::count(base);
+    let mut usage = 0;
+    let mut definition = 0;
+    let mut i = 0;
+    while i < n {
+        if is_shown(base, i, sdss, t) {
+            usage = usage | base::presence_usage(base, i);
+            definition = definition | base::presence_definition(base, i);
+        }
+        i += 1;
+    }
+    Modes { usage, definition }
 }
 
 // The types that are in these SDSs.

@@ -3,7 +3,8 @@
 #![forbid(unsafe_code)]
 
 use crate::schema::{
-    has_same, is_name, Application, End, Name, Schema, Sds, Side, Type, DESIGNATION, IMPLICIT, LAST_VALUE_KIND,
+    has_same, is_name, Application, End, Modes, Name, Presence, Schema, Sds, Side, Type, DESIGNATION, IMPLICIT,
+    LAST_VALUE_KIND,
 };
 use std::collections::{BTreeMap, BTreeSet};
 
@@ -17,10 +18,15 @@ pub struct Table {
 
 pub const SDSS: Table = Table { start: 0, rows: Schema::SDSS, width: Schema::NAME };
 pub const TYPES: Table = SDSS.followed_by(Schema::TYPES, 4 + Schema::PARENTS);
-pub const PRESENCES: Table = TYPES.followed_by(Schema::PRESENCES, 1 + Schema::NAME + 1);
+pub const PRESENCES: Table = TYPES.followed_by(Schema::PRESENCES, 1 + Schema::NAME + 3);
 pub const APPLICATIONS: Table = PRESENCES.followed_by(Schema::APPLICATIONS, 3);
 pub const ENDS: Table = APPLICATIONS.followed_by(Schema::ENDS, 4);
 pub const LENGTH: usize = ENDS.end();
+
+/// Where a presence's row has its type and its modes, behind SDS and name.
+pub const TYPE: usize = 1 + Schema::NAME;
+pub const USAGE: usize = TYPE + 1;
+pub const DEFINITION: usize = USAGE + 1;
 
 impl Table {
     const fn followed_by(self, rows: usize, width: usize) -> Table {
@@ -52,7 +58,7 @@ impl Table {
 
 /// Presences stand by SDS, then name, then type. A name's field may have its padding, which is below every byte of a name.
 pub fn presence_key(row: &[u8]) -> (u8, Name, u8) {
-    (row[0], Name::new(&row[1..][..Schema::NAME]), row[1 + Schema::NAME])
+    (row[0], Name::new(&row[1..][..Schema::NAME]), row[TYPE])
 }
 
 /// Applications and ends stand as their bytes do, which are numbers.
@@ -76,11 +82,12 @@ pub fn to_bytes(schema: &Schema) -> Vec<u8> {
     // The maps and sets are in the order of the rows: names hold no byte 0, so padding doesn't change their order.
     let (mut presences, mut applications, mut ends) = (0.., 0.., 0..);
     for (&number, sds) in &schema.sdss {
-        for (name, &ty) in &sds.presences {
+        for (name, present) in &sds.presences {
             let row = PRESENCES.row(&mut base, presences.next().unwrap());
             row[0] = number as u8;
             row[1..][..name.len()].copy_from_slice(name);
-            row[1 + Schema::NAME] = ty as u8;
+            let Modes { usage, definition } = present.modes;
+            row[TYPE..].copy_from_slice(&[present.ty, usage, definition].map(|field| field as u8));
         }
         for application in &sds.applications {
             let row = [number, application.to, application.attribute].map(|field| field as u8);
@@ -143,7 +150,8 @@ pub fn from_bytes(base: &[u8]) -> Option<Schema> {
     for row in PRESENCES.rising_rows(base, presence_key)? {
         let presences = &mut schema.sdss.get_mut(&row[0].into())?.presences;
         let name = name_in(&row[1..][..Schema::NAME])?;
-        if presences.insert(Name::new(name), row[1 + Schema::NAME].into()).is_some() {
+        let modes = Modes { usage: row[USAGE].into(), definition: row[DEFINITION].into() };
+        if presences.insert(Name::new(name), Presence { ty: row[TYPE].into(), modes }).is_some() {
             return None;
         }
     }
@@ -201,7 +209,7 @@ fn is_good(schema: &Schema) -> bool {
         return false;
     }
     // Each type is present somewhere, and only types are; no type is its own ancestor.
-    let present: BTreeSet<usize> = schema.sdss.values().flat_map(|sds| sds.presences.values().copied()).collect();
+    let present: BTreeSet<usize> = schema.sdss.values().flat_map(Sds::types).collect();
     present.iter().eq(schema.types.keys())
         && schema.types.iter().all(|(&number, ty)| is_good_type(schema, number, ty))
         && !has_cycle(schema)
@@ -256,14 +264,16 @@ fn is_good_sds(schema: &Schema, sds: &Sds) -> bool {
         return false;
     }
     // A type has at most one presence in an SDS.
-    let present: BTreeSet<usize> = sds.presences.values().copied().collect();
+    let present: BTreeSet<usize> = sds.types().collect();
     if present.len() < sds.presences.len() {
         return false;
     }
-    let is_good_presence = |&ty: &usize| {
-        // Parents of a present type are present; a link type and its reverse are present in the same SDSs.
+    let is_good_presence = |&Presence { ty, modes }: &Presence| {
+        // Parents of a present type are present; a link type and its reverse are present in the same SDSs, with the
+        // same modes. No mode is unknown.
         schema.parents(ty).is_subset(&present)
-            && schema.reverse(ty).is_none_or(|reverse| present.contains(&reverse))
+            && schema.reverse(ty).is_none_or(|reverse| sds.modes_of(reverse) == Some(modes))
+            && modes.are_known()
     };
     // An attribute type is applied to an object or link type; both are present.
     let is_good_application = |application: &Application| {
@@ -281,7 +291,7 @@ fn is_good_sds(schema: &Schema, sds: &Sds) -> bool {
             && schema.is_object(end.object)
             && schema.reverse(end.link).is_none_or(|reverse| sds.ends.contains(&end.mirror(reverse)))
     };
-    present.iter().all(is_good_presence)
+    sds.presences.values().all(is_good_presence)
         && sds.applications.iter().all(is_good_application)
         && sds.ends.iter().all(is_good_end)
 }

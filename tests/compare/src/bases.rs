@@ -2,7 +2,7 @@
 //! on a list of descendants.
 #![forbid(unsafe_code)]
 
-use crate::schema::{Name, Schema, Type};
+use crate::schema::{Modes, Name, Presence, Schema, Type};
 
 /// 3 SDSs, 100 types.
 pub fn typical() -> Schema {
@@ -26,11 +26,12 @@ pub fn chain() -> Schema {
 pub fn zigzag() -> Schema {
     let mut s = chain();
     let here = s.sdss.get_mut(&1).expect("a used SDS");
-    let names: Vec<Name> = here.presences.iter().filter(|(_, &ty)| ty != 0).map(|(name, _)| name.clone()).collect();
+    let names: Vec<Name> =
+        here.presences.iter().filter(|(_, present)| present.ty != 0).map(|(name, _)| name.clone()).collect();
     for (step, ty) in (1..=names.len()).rev().enumerate() {
         let middle = names.len() / 2;
         let place = if step % 2 == 0 { middle + step / 2 } else { middle - step.div_ceil(2) };
-        here.presences.insert(names[place].clone(), ty);
+        here.presences.insert(names[place].clone(), Presence::of(ty));
     }
     s
 }
@@ -46,7 +47,8 @@ pub fn short() -> Schema {
     s
 }
 
-/// Every table full, such ends, and as long a chain as the types left for it make.
+/// Every table full, such ends, as long a chain as the types left for it make, and fewer modes than all in every SDS but
+/// SDS 0.
 pub fn worst() -> Schema {
     let mut s = with_sdss(Schema::SDSS - 1);
     let chained = Schema::TYPES - 1 - 2 * PAIRS - 1;
@@ -64,6 +66,7 @@ pub fn worst() -> Schema {
         }
     }
     add_short_ends(&mut s, PAIRS);
+    set_modes(&mut s);
     s
 }
 
@@ -131,7 +134,17 @@ fn add_chain(s: &mut Schema, length: usize) {
     for n in 1..=length {
         let parent = if n < length { n + 1 } else { 0 };
         s.types.insert(n, Type::Object { parents: [parent].into() });
-        here.presences.insert(Name::new(object(n)), n);
+        here.presences.insert(Name::new(object(n)), Presence::of(n));
+    }
+}
+
+/// Modes that go round, so that no presence but that of SDS 0 has all in either set.
+fn set_modes(s: &mut Schema) {
+    for (sds, here) in s.sdss.clone().into_iter().skip(1) {
+        for (n, name) in here.presences.keys().enumerate() {
+            let usage = (sds + n) % Modes::FIVE;
+            s.set_modes(sds, name, Modes { usage, definition: Modes::FIVE - 1 - usage });
+        }
     }
 }
 
@@ -186,7 +199,8 @@ fn add_ends(s: &mut Schema, objects: usize, pairs: usize, ends: usize) {
 fn add_short_ends(s: &mut Schema, pairs: usize) {
     for sds in 1..s.sdss.len() {
         let here = s.sdss[&sds].presences.iter();
-        let objects: Vec<Name> = here.filter(|(_, &ty)| s.is_object(ty)).map(|(name, _)| name.clone()).collect();
+        let objects: Vec<Name> =
+            here.filter(|(_, present)| s.is_object(present.ty)).map(|(name, _)| name.clone()).collect();
         for n in 0..pairs {
             if s.end_count() < Schema::ENDS {
                 s.apply_link(sds, link(n).as_bytes(), &objects[n % objects.len()]);

@@ -141,12 +141,13 @@ fn questions(schema: &Schema) -> [(&'static str, Call, String); 3] {
     ]
 }
 
-/// What the lowest type has above it.
-fn upward(schema: &Schema) -> [(&'static str, Call); 2] {
+/// What the lowest type has above it, and its modes.
+fn upward(schema: &Schema) -> [(&'static str, Call); 3] {
     let (low, list) = (lowest(schema), working_schema(schema));
     [
         ("ancestors", Call::ScanObject { schema: list.clone(), ty: low, code: 3 }),
-        ("depth", Call::Depth { schema: list, ty: low }),
+        ("depth", Call::Depth { schema: list.clone(), ty: low }),
+        ("modes", Call::Modes { schema: list, ty: low }),
     ]
 }
 
@@ -242,6 +243,7 @@ fn changes() -> Vec<(&'static str, Schema, Call)> {
             Call::RemoveType { sds: 1, name: new() },
         ),
         ("rename", typical(), Call::Rename { sds: 1, name: "object_type_30".into(), new_name: new() }),
+        ("set modes of a pair", typical(), Call::SetModes { sds: 1, name: link(), usage: 4, definition: 0 }),
     ]
 }
 

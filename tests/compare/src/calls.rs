@@ -3,7 +3,7 @@
 
 use crate::base::{from_bytes, to_bytes, LENGTH};
 use crate::keeper::Reply;
-use crate::schema::Schema;
+use crate::schema::{Modes, Schema};
 use std::fmt;
 
 /// Bytes that should be a name, or several; shown as text.
@@ -41,6 +41,7 @@ pub enum Call {
     RemoveDestination { sds: usize, link: Text, object: Text },
     RemoveType { sds: usize, name: Text },
     Rename { sds: usize, name: Text, new_name: Text },
+    SetModes { sds: usize, name: Text, usage: usize, definition: usize },
     ScanObject { schema: Vec<u8>, ty: usize, code: usize },
     ScanLink { schema: Vec<u8>, ty: usize, code: usize },
     Profile { schema: Vec<u8>, ty: usize },
@@ -48,6 +49,7 @@ pub enum Call {
     Depth { schema: Vec<u8>, ty: usize },
     Name { sds: usize, ty: usize },
     DescendantSet { schema: Vec<u8>, ty: usize },
+    Modes { schema: Vec<u8>, ty: usize },
 }
 
 /// What a call under a working schema asks.
@@ -68,13 +70,13 @@ const fn known(name: &'static str, refusals: &'static [usize]) -> Known {
 }
 
 /// Every number that a call can answer is below this.
-pub const NUMBERS: usize = 19;
+pub const NUMBERS: usize = 20;
 
 /// The refusals that tell a type, their first value (02, Q-1); all other values of a refusal are 0.
 pub const TELLING: [usize; 4] = [12, 16, 17, 18];
 
 /// In the order of `Call`.
-pub const CALLS: [Known; 23] = [
+pub const CALLS: [Known; 25] = [
     known("fresh", &[1]),
     known("new_sds", &[1, 4, 11, 14]),
     known("remove_sds", &[1, 2, 3, 12]),
@@ -91,6 +93,7 @@ pub const CALLS: [Known; 23] = [
     known("remove_destination", &[1, 2, 3, 4, 6, 7, 13]),
     known("remove_type", &[1, 2, 3, 4, 6, 16, 17, 18]),
     known("rename", &[1, 2, 3, 4, 6, 11]),
+    known("set_modes", &[1, 2, 3, 4, 19, 6]),
     known("scan_object", &[1, 2, 5, 6, 7, 8, 15]),
     known("scan_link", &[1, 2, 5, 6, 7, 8, 15]),
     known("profile", &[1, 2, 6, 7, 8, 15]),
@@ -98,6 +101,7 @@ pub const CALLS: [Known; 23] = [
     known("depth", &[1, 2, 6, 7, 8]),
     known("name", &[1, 2, 6]),
     known("descendant_set", &[1, 2, 6, 7, 8]),
+    known("modes", &[1, 2, 6, 8]),
 ];
 
 impl Call {
@@ -120,19 +124,21 @@ impl Call {
             Call::RemoveDestination { .. } => 13,
             Call::RemoveType { .. } => 14,
             Call::Rename { .. } => 15,
-            Call::ScanObject { .. } => 16,
-            Call::ScanLink { .. } => 17,
-            Call::Profile { .. } => 18,
-            Call::Find { .. } => 19,
-            Call::Depth { .. } => 20,
-            Call::Name { .. } => 21,
-            Call::DescendantSet { .. } => 22,
+            Call::SetModes { .. } => 16,
+            Call::ScanObject { .. } => 17,
+            Call::ScanLink { .. } => 18,
+            Call::Profile { .. } => 19,
+            Call::Find { .. } => 20,
+            Call::Depth { .. } => 21,
+            Call::Name { .. } => 22,
+            Call::DescendantSet { .. } => 23,
+            Call::Modes { .. } => 24,
         }
     }
 
     /// Whether the call leaves every base as it is.
     pub fn asks(&self) -> bool {
-        self.index() >= 16
+        self.index() >= 17
     }
 
     /// The numbers and the slices that the C function takes beside base and output, each in the order of the header.
@@ -160,12 +166,14 @@ impl Call {
                 ([*sds, 0, 0], [&name.0, &[], &[]])
             }
             Call::Rename { sds, name, new_name } => ([*sds, 0, 0], [&name.0, &new_name.0, &[]]),
+            Call::SetModes { sds, name, usage, definition } => ([*sds, *usage, *definition], [&name.0, &[], &[]]),
             Call::ScanObject { schema, ty, code } | Call::ScanLink { schema, ty, code } => {
                 ([*ty, *code, 0], [schema, &[], &[]])
             }
-            Call::Profile { schema, ty } | Call::Depth { schema, ty } | Call::DescendantSet { schema, ty } => {
-                ([*ty, 0, 0], [schema, &[], &[]])
-            }
+            Call::Profile { schema, ty }
+            | Call::Depth { schema, ty }
+            | Call::DescendantSet { schema, ty }
+            | Call::Modes { schema, ty } => ([*ty, 0, 0], [schema, &[], &[]]),
             Call::Find { schema, name } => ([0; 3], [schema, &name.0, &[]]),
             Call::Name { sds, ty } => ([*sds, *ty, 0], [&[]; 3]),
         }
@@ -178,9 +186,10 @@ impl Call {
                 (schema, Some(*code), true)
             }
             Call::Profile { schema, .. } => (schema, None, true),
-            Call::Find { schema, .. } | Call::Depth { schema, .. } | Call::DescendantSet { schema, .. } => {
-                (schema, None, false)
-            }
+            Call::Find { schema, .. }
+            | Call::Depth { schema, .. }
+            | Call::DescendantSet { schema, .. }
+            | Call::Modes { schema, .. } => (schema, None, false),
             _ => return None,
         };
         Some(Asked { schema, code, has_output })
@@ -194,7 +203,8 @@ impl Call {
         | Call::Profile { schema, .. }
         | Call::Find { schema, .. }
         | Call::Depth { schema, .. }
-        | Call::DescendantSet { schema, .. } = &mut call
+        | Call::DescendantSet { schema, .. }
+        | Call::Modes { schema, .. } = &mut call
         {
             *schema = list.to_vec();
         }
@@ -236,6 +246,9 @@ impl Call {
             Call::RemoveDestination { sds, link, object } => s.remove_destination(*sds, &link.0, &object.0),
             Call::RemoveType { sds, name } => s.remove_type(*sds, &name.0),
             Call::Rename { sds, name, new_name } => s.rename(*sds, &name.0, &new_name.0),
+            &Call::SetModes { sds, ref name, usage, definition } => {
+                s.set_modes(sds, &name.0, Modes { usage, definition })
+            }
             Call::ScanObject { schema, ty, code } => s.scan_object(schema, *ty, *code, output),
             Call::ScanLink { schema, ty, code } => s.scan_link(schema, *ty, *code, output),
             Call::Profile { schema, ty } => s.profile(schema, *ty, output),
@@ -243,6 +256,7 @@ impl Call {
             Call::Depth { schema, ty } => s.depth(schema, *ty),
             Call::Name { sds, ty } => s.name(*sds, *ty),
             Call::DescendantSet { schema, ty } => s.descendant_set(schema, *ty),
+            Call::Modes { schema, ty } => s.modes(schema, *ty),
         }
     }
 }

@@ -180,6 +180,7 @@ impl<'a> Line<'a> {
             b"remove_destination" => Call::RemoveDestination { sds, link: second, object: third },
             b"remove_type" => Call::RemoveType { sds, name: second },
             b"rename" => Call::Rename { sds, name: second, new_name: third },
+            b"set_modes" => Call::SetModes { sds, name: second, usage: self.number(3), definition: self.number(4) },
             b"scan_object" => Call::ScanObject { schema, ty, code },
             b"scan_link" => Call::ScanLink { schema, ty, code },
             b"profile" => Call::Profile { schema, ty },
@@ -187,6 +188,7 @@ impl<'a> Line<'a> {
             b"depth" => Call::Depth { schema, ty },
             b"name" => Call::Name { sds, ty },
             b"descendant_set" => Call::DescendantSet { schema, ty },
+            b"modes" => Call::Modes { schema, ty },
             _ => return None,
         };
         let output_at = if matches!(call, Call::Profile { .. }) { 3 } else { 4 };

@@ -3,18 +3,19 @@
 
 use crate::calls::{Call, CALLS, NUMBERS};
 use crate::joins::JOINED;
+use crate::modes::MODED;
 use crate::removals::{traits, REMOVED};
 use crate::schema::Schema;
 use crate::shapes::{visible, SHAPES};
-use crate::spellings::{Spelt, SPELT};
-use crate::spoil::{SPELLINGS, WAYS};
+use crate::spellings::SPELT;
+use crate::spoil::{EXPECTED, WAYS};
 use std::collections::{BTreeMap, BTreeSet};
 
 /// Each number of each call should come up at least so often.
 const OFTEN: usize = 20;
 
 /// So should all that is answered under an empty list, on a sound base.
-const UNLISTED: [&str; 9] = [
+const UNLISTED: [&str; 10] = [
     "no SDS listed: scan_object 5",
     "no SDS listed: scan_object 6",
     "no SDS listed: scan_link 5",
@@ -24,11 +25,12 @@ const UNLISTED: [&str; 9] = [
     "no SDS listed: find 6",
     "no SDS listed: depth 6",
     "no SDS listed: descendant_set 6",
+    "no SDS listed: modes 6",
 ];
 
-/// What schemas are drawn for should come up so often: each of `REMOVED`, of `SPELT` and of `JOINED`, and lists of
-/// descendants, of each shape and with each of these, which one pass by number, first parents alone, too few passes or no
-/// look at presences would get wrong.
+/// What schemas are drawn for should come up so often: each of `REMOVED`, of `SPELT`, of `MODED` and of `JOINED`, and
+/// lists of descendants, of each shape and with each of these, which one pass by number, first parents alone, too few
+/// passes or no look at presences would get wrong.
 const OFTEN_DRAWN: usize = 200;
 const LISTED: [&str; 5] = [
     "a type below its parents",
@@ -38,8 +40,46 @@ const LISTED: [&str; 5] = [
     "a type not visible left out",
 ];
 
-/// So often should each way that spoils spellings have left a base as it is expected to, sound or not.
+/// So often should each way that spoils spellings or modes have left a base as it is expected to, sound or not.
 const OFTEN_SPOILED: usize = 100;
+
+/// What a call is called if it is answered one of the numbers.
+pub struct Trait {
+    pub what: String,
+    pub numbers: &'static [usize],
+}
+
+/// The traits of a call, found before it is made.
+pub struct Traits {
+    /// The call's name.
+    call: &'static str,
+    pub found: Vec<Trait>,
+}
+
+impl Traits {
+    /// None as yet.
+    pub fn of(call: &Call) -> Traits {
+        Traits { call: CALLS[call.index()].name, found: Vec::new() }
+    }
+
+    pub fn add(&mut self, is_so: bool, numbers: &'static [usize], what: &str) {
+        if is_so {
+            self.found.push(Trait { what: format!("{} {what}", self.call), numbers });
+        }
+    }
+
+    /// The same whatever the call.
+    pub fn add_any(&mut self, is_so: bool, numbers: &'static [usize], what: &str) {
+        if is_so {
+            self.found.push(Trait { what: what.into(), numbers });
+        }
+    }
+
+    /// Those that the call has with its answer.
+    pub fn answered(self, answer: [usize; 4]) -> impl Iterator<Item = String> {
+        self.found.into_iter().filter(move |found| found.numbers.contains(&answer[0])).map(|found| found.what)
+    }
+}
 
 /// Calls that have something in common.
 #[derive(Clone, Copy, Default)]
@@ -61,6 +101,8 @@ pub struct Counts {
     pub removed: BTreeMap<String, usize>,
     /// Calls on sound bases, by the spellings of their names.
     pub spelt: BTreeMap<String, usize>,
+    /// Calls on sound bases, by the modes that they set, ask for, or should keep or renew.
+    pub moded: BTreeMap<String, usize>,
     /// Questions under two lists and their join, or under a list in another order.
     pub joined: BTreeMap<String, usize>,
 }
@@ -73,6 +115,7 @@ impl Counts {
             asked: BTreeMap::new(),
             removed: BTreeMap::new(),
             spelt: BTreeMap::new(),
+            moded: BTreeMap::new(),
             joined: BTreeMap::new(),
         }
     }
@@ -91,6 +134,7 @@ impl Counts {
         for (sums, numbers) in [
             (&mut self.removed, &other.removed),
             (&mut self.spelt, &other.spelt),
+            (&mut self.moded, &other.moded),
             (&mut self.joined, &other.joined),
         ] {
             numbers.iter().for_each(|(what, number)| *sums.entry(what.clone()).or_default() += number);
@@ -172,11 +216,14 @@ impl Counts {
         }
     }
 
-    /// Counts a call by what it was before it was answered.
-    pub fn spell(&mut self, spelt: Vec<Spelt>, answer: [usize; 4]) {
-        for Spelt { what, .. } in spelt.into_iter().filter(|spelt| spelt.numbers.contains(&answer[0])) {
-            *self.spelt.entry(what).or_default() += 1;
-        }
+    /// Counts a call by the spellings of its names.
+    pub fn spell(&mut self, spelt: Traits, answer: [usize; 4]) {
+        spelt.answered(answer).for_each(|what| *self.spelt.entry(what).or_default() += 1);
+    }
+
+    /// Counts a call by its modes.
+    pub fn set_modes(&mut self, moded: Traits, answer: [usize; 4]) {
+        moded.answered(answer).for_each(|what| *self.moded.entry(what).or_default() += 1);
     }
 
     /// Counts what a law was held to.
@@ -190,7 +237,7 @@ impl Counts {
     }
 
     /// The pairs of a call and a number that it can answer that came up too seldom, in words; under an empty list too,
-    /// descents, removals and spellings, and bases with these spoiled.
+    /// descents, removals, spellings and modes, and bases with the last two spoiled.
     pub fn seldom(&self) -> Vec<String> {
         let mut seldom = Vec::new();
         for (call, counts) in CALLS.iter().zip(&self.answered) {
@@ -204,8 +251,9 @@ impl Counts {
         seldom.extend(descents.filter(|what| is_seldom(what, OFTEN_DRAWN)));
         seldom.extend(seldom_of("removal", &REMOVED, &self.removed));
         seldom.extend(seldom_of("spelling", &SPELT, &self.spelt));
+        seldom.extend(seldom_of("mode", &MODED, &self.moded));
         for ((way, _), [sound, unsound]) in WAYS.iter().zip(&self.spoiled) {
-            let expected = SPELLINGS.iter().find(|(name, _)| name == way);
+            let expected = EXPECTED.iter().find(|(name, _)| name == way);
             let seen = expected.map(|(_, stays_sound)| if *stays_sound { sound } else { unsound });
             seldom.extend(seen.filter(|seen| **seen < OFTEN_SPOILED).map(|_| format!("spoiled: {way}")));
         }
@@ -220,6 +268,7 @@ impl Counts {
         }
         print_drawn("removed or refused", &self.removed);
         print_drawn("in another spelling", &self.spelt);
+        print_drawn("with modes", &self.moded);
         println!("\n{:<28}{:>8}{:>10}", "spoiled", "sound", "not sound");
         for ((name, _), [sound, unsound]) in WAYS.iter().zip(&self.spoiled) {
             println!("{name:<28}{sound:>8}{unsound:>10}");
@@ -252,8 +301,9 @@ impl Counts {
             println!("{:>7.0}%", 100.0 * counts[0] as f64 / on_sound.max(1) as f64);
         }
         let seldom = self.seldom();
-        let drawn = format!("descents, removals and spellings less than {OFTEN_DRAWN}");
-        let least = format!("{OFTEN} times, {drawn}, bases with spoiled spellings less than {OFTEN_SPOILED}");
+        let drawn = format!("descents, removals, spellings and modes less than {OFTEN_DRAWN}");
+        let least =
+            format!("{OFTEN} times, {drawn}, bases with spoiled spellings or modes less than {OFTEN_SPOILED}");
         println!("pairs of a call and a number that came up less than {least}: {}", seldom.len());
         if !seldom.is_empty() {
             println!("    {}", seldom.join(", "));

@@ -3,6 +3,8 @@
 #![forbid(unsafe_code)]
 
 use crate::calls::{Call, CALLS};
+use crate::coverage::Traits;
+use crate::modes;
 use crate::random::Random;
 use crate::removals::{draw_sds, other_types};
 use crate::run::{Run, Told};
@@ -13,7 +15,7 @@ use std::collections::BTreeSet;
 
 /// What should come up often: v is the first list, w the second. Lists in another order count where they are really in
 /// another order, and a call that is done where it gives something.
-pub const JOINED: [&str; 41] = [
+pub const JOINED: [&str; 47] = [
     "v is empty",
     "w is empty",
     "visible in v alone",
@@ -31,6 +33,11 @@ pub const JOINED: [&str; 41] = [
     "descendants: visible in w alone",
     "descendants: 15 for the join alone",
     "attribute-all: more than the two apart",
+    "modes: of both, more than each",
+    "modes: of both, those of one",
+    "modes: visible in v alone",
+    "modes: visible in w alone",
+    "modes: visible in neither",
     "order: scan_object, code 0",
     "order: scan_object, code 1",
     "order: scan_object, code 2",
@@ -49,6 +56,7 @@ pub const JOINED: [&str; 41] = [
     "order: profile",
     "order: depth",
     "order: descendant_set",
+    "order: modes",
     "order: 2",
     "order: 5",
     "order: 6",
@@ -76,11 +84,15 @@ const ATTRIBUTE_ALL: usize = 5;
 /// An output of so many bytes holds any list.
 const WHOLE: usize = 2 * Schema::TYPES;
 
-/// Three SDSs or more beside SDS 0, which share types of every kind, and names for different ones, in any spelling.
+/// Three SDSs or more beside SDS 0, which share types of every kind, with any modes, and names for different ones, in
+/// any spelling.
 pub fn draw(random: &mut Random) -> Schema {
-    if random.one_in(2) {
-        return spellings::draw(random);
-    }
+    let mut s = if random.one_in(2) { spellings::draw(random) } else { drawn(random) };
+    modes::give(random, &mut s);
+    s
+}
+
+fn drawn(random: &mut Random) -> Schema {
     let sdss = 3 + random.below(4);
     let mut numbers = random.shuffled((1..Schema::TYPES).collect());
     let objects = numbers.split_off(numbers.len() - 4 - random.below(32));
@@ -93,7 +105,7 @@ pub fn draw(random: &mut Random) -> Schema {
     s.types.extend(drawn.types);
     for (sds, held) in random.shuffled((1..Schema::SDSS).collect()).into_iter().zip(drawn.held) {
         let mut here = draw_sds(random, &s, sds, &held);
-        let respelt = here.presences.into_iter().map(|(name, ty)| (Name(random.spelt(&name)), ty));
+        let respelt = here.presences.into_iter().map(|(name, present)| (Name(random.spelt(&name)), present));
         here.presences = respelt.collect();
         s.sdss.insert(sds, here);
     }
@@ -161,6 +173,16 @@ fn union_marked(before: &[u8], told: [&Told; 2]) -> Told {
     }
 }
 
+/// The law of modes.
+fn union_of_modes(before: &[u8], told: [&Told; 2]) -> Told {
+    match told.map(|told| told.answer) {
+        [[0, v_usage, v_definition, _], [0, w_usage, w_definition, _]] => {
+            Told { answer: [0, v_usage | w_usage, v_definition | w_definition, 0], output: before.to_vec() }
+        }
+        _ => first_or_second(before, told),
+    }
+}
+
 /// The types that a scan has put down, none where it is refused.
 fn listed(told: &Told) -> BTreeSet<u16> {
     let entries = told.output.chunks_exact(2).map(|entry| u16::from_le_bytes([entry[0], entry[1]]));
@@ -204,6 +226,7 @@ impl Run {
             self.visible(&lists)?;
             self.finds(&lists)?;
             self.scans(&lists)?;
+            self.modes_joined(&lists)?;
         }
         self.place = format!("{place}, another order");
         (0..ORDERS).try_for_each(|_| self.order())
@@ -246,8 +269,10 @@ impl Run {
                 _ => {}
             }
             let is_found = v.answer[0] == 0 || w.answer[0] == 0;
-            let spelt = spellings::traits(&self.schema, &call.under(&lists.concat()));
-            if is_found && spelt.iter().any(|spelt| spelt.what == "find 0") {
+            let call = call.under(&lists.concat());
+            let mut spelt = Traits::of(&call);
+            spellings::add_traits(&mut spelt, &self.schema, &call);
+            if is_found && spelt.found.iter().any(|spelt| spelt.what == "find 0") {
                 self.counts.join("find: in another spelling");
             }
         }
@@ -302,6 +327,27 @@ impl Run {
         self.join(call, lists, &output, union_listed)
     }
 
+    /// The modes of types of each sort and of every kind, under both orders of the two lists.
+    fn modes_joined(&mut self, lists: &[Vec<u8>; 2]) -> Result<(), String> {
+        for sort in sorts(&self.schema, lists) {
+            for ty in self.caller.random.shuffled(sort).into_iter().take(ASKED) {
+                let call = Call::Modes { schema: Vec::new(), ty };
+                let output = self.output(&call);
+                let told = self.join(&call, lists, &output, union_of_modes)?;
+                let union = union_of_modes(&output, told.each_ref());
+                self.hold(&call.under(&[&lists[1][..], &lists[0]].concat()), &output, &union)?;
+                self.counts.join(match (sees(&told), told.each_ref().map(|told| *told == union)) {
+                    ([true, true], [false, false]) => "modes: of both, more than each",
+                    ([true, true], _) => "modes: of both, those of one",
+                    ([true, false], _) => "modes: visible in v alone",
+                    ([false, true], _) => "modes: visible in w alone",
+                    ([false, false], _) => "modes: visible in neither",
+                });
+            }
+        }
+        Ok(())
+    }
+
     /// There is no law but that the join gives no less than the two.
     fn attribute_all(&mut self, lists: &[Vec<u8>; 2], ty: usize) -> Result<(), String> {
         let call = Call::ScanObject { schema: Vec::new(), ty, code: ATTRIBUTE_ALL };
@@ -324,7 +370,7 @@ impl Run {
     fn order(&mut self) -> Result<(), String> {
         // Each code should come up.
         let scans = [&["scan_object"; 6][..], &["scan_link"; 2]].concat();
-        let kinds = places(&[&scans[..], &["profile", "depth", "descendant_set"]].concat());
+        let kinds = places(&[&scans[..], &["profile", "depth", "descendant_set", "modes"]].concat());
         let (call, other) = loop {
             let call = self.caller.any_of(&self.schema, &kinds);
             let list = call.asked().expect("each has one").schema.to_vec();
@@ -354,7 +400,7 @@ impl Run {
 
 #[cfg(test)]
 mod tests {
-    use super::{draw, first_or_second, two_lists, union_listed, union_marked, Law, JOINED, LONG};
+    use super::{draw, first_or_second, two_lists, union_listed, union_marked, union_of_modes, Law, JOINED, LONG};
     use crate::random::Random;
     use crate::run::{Run, Told};
     use crate::schema::{Name, Schema, Sds};
@@ -410,6 +456,16 @@ mod tests {
         assert!(is_both_ways(union_marked, &one, &refused(6, &[9]), [&one, &one]));
     }
 
+    #[test]
+    fn modes_joined() {
+        let (one, other) = (told([0, 0b00101, 0, 0], &[9]), told([0, 0b10001, 0b11111, 0], &[9]));
+        let union = told([0, 0b10101, 0b11111, 0], &[9]);
+        assert!(is_both_ways(union_of_modes, &one, &other, [&union, &union]));
+        let missing = refused(6, &[9]);
+        assert!(is_both_ways(union_of_modes, &one, &missing, [&one, &one]));
+        assert!(is_both_ways(union_of_modes, &missing, &missing, [&missing, &missing]));
+    }
+
     /// Some type is shared, and some name is borne by different types, in whatever spelling.
     #[test]
     fn drawn_schemas_are_as_called() {
@@ -421,8 +477,8 @@ mod tests {
             let is_shared = |ty| ty != 0 && sdss.iter().filter(|sds| sds.holds(ty)).count() > 1;
             let is_another =
                 |name: &Name, ty| sdss.iter().any(|sds| sds.find(name).is_some_and(|other| other != ty));
-            assert!(sdss.len() >= 3 && presences().any(|(_, &ty)| is_shared(ty)));
-            assert!(presences().any(|(name, &ty)| is_another(name, ty)));
+            assert!(sdss.len() >= 3 && presences().any(|(_, present)| is_shared(present.ty)));
+            assert!(presences().any(|(name, present)| is_another(name, present.ty)));
             for is_kind in [Schema::is_object, Schema::is_attribute, Schema::is_link] {
                 assert!(s.types.keys().any(|&ty| is_kind(&s, ty)));
             }

@@ -1,13 +1,14 @@
-//! Every call of document 01 as a method on the schema.
+//! Every call of document 01, and those of 02, as a method on the schema.
 //!
-//! A call is a row of early returns, one for each number, in rising order: a number is tried over all inputs of the
-//! call before the next one is. Number 1 is left to the reader of bytes, since a schema here is always a good one.
+//! A call is a row of early returns, one for each number, in rising order, but that 02 sets some of its own between: a
+//! number is tried over all inputs of the call before the next one is. Number 1 is left to the reader of bytes, since a
+//! schema here is always a good one.
 #![forbid(unsafe_code)]
 
 use crate::base;
 use crate::schema::{
-    has_same, is_name, is_same, Application, End, Name, Schema, Sds, Side, Type, DESIGNATION, IMPLICIT,
-    LAST_VALUE_KIND,
+    has_same, is_name, is_same, Application, End, Modes, Name, Presence, Schema, Sds, Side, Type, DESIGNATION,
+    IMPLICIT, LAST_VALUE_KIND,
 };
 use std::collections::BTreeSet;
 
@@ -42,7 +43,7 @@ fn gives_two(one: usize, two: usize) -> Reply {
     Reply { one, two, ..Reply::default() }
 }
 
-/// Calls 1 to 8, which change the schema.
+/// Calls 1 to 8, and the setting of modes, which change the schema.
 impl Schema {
     pub fn new_sds(&mut self, name: &[u8]) -> Reply {
         if !is_name(name) {
@@ -65,7 +66,7 @@ impl Schema {
         if sds == 0 {
             return refused(3);
         }
-        if let Some(&lowest) = removed.presences.values().min() {
+        if let Some(lowest) = removed.types().min() {
             return refused_by(12, lowest);
         }
         self.sdss.remove(&sds);
@@ -231,7 +232,9 @@ impl Schema {
         if self.presence_count() + imported.len() > Self::PRESENCES {
             return refused(14);
         }
-        self.within(target).presences.extend(imported);
+        // Whatever modes the source has.
+        let presences = imported.into_iter().map(|(name, ty)| (name, Presence::of(ty)));
+        self.within(target).presences.extend(presences);
         gives_two(ty, reverse.unwrap_or(0))
     }
 
@@ -299,7 +302,7 @@ impl Schema {
                 return refused_by(no, lowest);
             }
         }
-        self.within(sds).presences.retain(|_, present| !going.contains(present));
+        self.within(sds).presences.retain(|_, present| !going.contains(&present.ty));
         for gone in going {
             if !self.sdss.values().any(|sds| sds.holds(gone)) {
                 self.types.remove(&gone);
@@ -325,12 +328,36 @@ impl Schema {
             return refused(11);
         }
         let here = self.within(sds);
-        here.presences.retain(|_, present| *present != ty);
-        here.presences.insert(Name::new(new_name), ty);
+        let modes = here.modes_of(ty).expect("found above");
+        here.presences.retain(|_, present| present.ty != ty);
+        here.presences.insert(Name::new(new_name), Presence { ty, modes });
         done()
     }
 
-    /// A link type goes with its reverse.
+    /// Sets both sets of a presence, and of its reverse's in that SDS (02, Q-2). 19 is tried right after 5, which the
+    /// call lacks.
+    pub fn set_modes(&mut self, sds: usize, name: &[u8], modes: Modes) -> Reply {
+        let Some(here) = self.sdss.get(&sds) else {
+            return refused(2);
+        };
+        if sds == 0 {
+            return refused(3);
+        }
+        if !is_name(name) {
+            return refused(4);
+        }
+        if !modes.are_known() {
+            return refused(19);
+        }
+        let Some(ty) = here.find(name) else {
+            return refused(6);
+        };
+        let types = self.with_reverse(ty);
+        self.within(sds).set_modes(&types, modes);
+        done()
+    }
+
+    /// A link type goes, and has its modes, with its reverse.
     pub fn with_reverse(&self, ty: usize) -> Vec<usize> {
         [Some(ty), self.reverse(ty)].into_iter().flatten().collect()
     }
@@ -424,7 +451,7 @@ impl Schema {
 
     fn put_type(&mut self, sds: usize, name: &[u8], number: usize, ty: Type) {
         self.types.insert(number, ty);
-        self.within(sds).presences.insert(Name::new(name), number);
+        self.within(sds).presences.insert(Name::new(name), Presence::of(number));
     }
 
     /// An SDS that the call has found to be used, to be changed.
@@ -524,7 +551,8 @@ impl WorkingSchema<'_> {
     }
 }
 
-/// Calls 9 to 13, which ask. `list` is the working schema, `output` the length in bytes of the output area.
+/// Calls 9 to 13, and that for modes, which ask. `list` is the working schema, `output` the length in bytes of the
+/// output area.
 impl Schema {
     pub fn scan_object(&self, list: &[u8], ty: usize, code: usize, output: usize) -> Reply {
         let asked = self.asked(list, OBJECT_SCANS.get(code), ty, Self::is_object);
@@ -589,6 +617,16 @@ impl Schema {
         })
     }
 
+    /// Gives usage and definition, each the union over the listed SDSs that hold the type, which may be of any kind.
+    pub fn modes(&self, list: &[u8], ty: usize) -> Reply {
+        let asked = self.asked(list, Some(()), ty, |_, _| true);
+        asked.map_or_else(refused, |(working, ())| {
+            let held = working.sdss.iter().filter_map(|sds| sds.modes_of(ty));
+            let Modes { usage, definition } = held.fold(Modes::NONE, Modes::union);
+            gives_two(usage, definition)
+        })
+    }
+
     /// The working schema of a call that asks about a type of the wanted kind, and what it asks, none for an unknown
     /// code; or the lowest of the numbers 2, 5, 6, 7 and 8 whose condition holds.
     fn asked<T>(
@@ -619,7 +657,7 @@ impl Schema {
     /// The SDSs listed, none if one of them is unused. An empty list makes nothing visible.
     fn working_schema(&self, list: &[u8]) -> Option<WorkingSchema<'_>> {
         let sdss: Vec<&Sds> = list.iter().map(|&sds| self.sdss.get(&sds.into())).collect::<Option<_>>()?;
-        let visible = sdss.iter().flat_map(|sds| sds.presences.values().copied()).collect();
+        let visible = sdss.iter().flat_map(|sds| sds.types()).collect();
         Some(WorkingSchema { sdss, visible })
     }
 

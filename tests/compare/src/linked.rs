@@ -46,6 +46,8 @@ unsafe extern "C" {
     fn cf_remove_type(base: *mut u8, base_len: usize, sds: usize, name: *const u8, name_len: usize) -> Answer;
     fn cf_rename(base: *mut u8, base_len: usize, sds: usize, name: *const u8, name_len: usize,
                  new_name: *const u8, new_name_len: usize) -> Answer;
+    fn cf_set_modes(base: *mut u8, base_len: usize, sds: usize, name: *const u8, name_len: usize, usage: usize,
+                    definition: usize) -> Answer;
     fn cf_name(base: *const u8, base_len: usize, sds: usize, ty: usize) -> Answer;
     fn cf_scan_object(base: *const u8, base_len: usize, schema: *const u8, schema_len: usize, ty: usize,
                       code: usize, output: *mut u8, output_len: usize) -> Answer;
@@ -58,6 +60,7 @@ unsafe extern "C" {
     fn cf_depth(base: *const u8, base_len: usize, schema: *const u8, schema_len: usize, ty: usize) -> Answer;
     fn cf_descendant_set(base: *const u8, base_len: usize, schema: *const u8, schema_len: usize,
                          ty: usize) -> Answer;
+    fn cf_modes(base: *const u8, base_len: usize, schema: *const u8, schema_len: usize, ty: usize) -> Answer;
 }
 
 /// Makes the call on what is lent. `b` is the base; `x`, `y` and `z` are the slices beside base and output, in the order
@@ -90,6 +93,8 @@ fn made(call: &Call, lent: &Lent) -> Found {
             Call::RemoveDestination { sds, .. } => cf_remove_destination(b, b_len, sds, x, x_len, y, y_len),
             Call::RemoveType { sds, .. } => cf_remove_type(b, b_len, sds, x, x_len),
             Call::Rename { sds, .. } => cf_rename(b, b_len, sds, x, x_len, y, y_len),
+            Call::SetModes { sds, usage, definition, .. } =>
+                cf_set_modes(b, b_len, sds, x, x_len, usage, definition),
             Call::ScanObject { ty, code, .. } =>
                 cf_scan_object(b, b_len, x, x_len, ty, code, output, output_len),
             Call::ScanLink { ty, code, .. } => cf_scan_link(b, b_len, x, x_len, ty, code, output, output_len),
@@ -98,6 +103,7 @@ fn made(call: &Call, lent: &Lent) -> Found {
             Call::Depth { ty, .. } => cf_depth(b, b_len, x, x_len, ty),
             Call::Name { sds, ty } => cf_name(b, b_len, sds, ty),
             Call::DescendantSet { ty, .. } => cf_descendant_set(b, b_len, x, x_len, ty),
+            Call::Modes { ty, .. } => cf_modes(b, b_len, x, x_len, ty),
         }
     };
     Found { answer: [answer.no, answer.one, answer.two, answer.three], bytes }

@@ -26,6 +26,7 @@ mod library;
 #[cfg(linked)]
 #[allow(unsafe_code)]
 mod linked;
+mod modes;
 mod random;
 mod removals;
 mod run;

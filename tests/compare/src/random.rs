@@ -2,7 +2,7 @@
 #![forbid(unsafe_code)]
 
 use crate::calls::{Call, Text, CALLS};
-use crate::schema::{is_same, Name, Schema, Sds, Side, DESIGNATION, LAST_VALUE_KIND};
+use crate::schema::{is_same, Modes, Name, Presence, Schema, Sds, Side, DESIGNATION, LAST_VALUE_KIND};
 
 /// A small deterministic generator (splitmix64).
 pub struct Random(u64);
@@ -90,6 +90,21 @@ impl Random {
         missed
     }
 
+    /// A number at an edge, or one that is not n though its low bytes are.
+    pub fn odd_number(&mut self, limit: usize) -> usize {
+        let number = self.below(limit);
+        match self.below(9) {
+            0 => 0,
+            1 => limit - 1,
+            2 => limit,
+            3 => 255,
+            4 => 256 + number,
+            5 => (1 << 32) + number,
+            6 => usize::MAX,
+            _ => number,
+        }
+    }
+
     pub fn shuffled<T>(&mut self, mut items: Vec<T>) -> Vec<T> {
         for at in (1..items.len()).rev() {
             items.swap(at, self.below(at + 1));
@@ -162,7 +177,7 @@ const NAMES: [&[u8]; 24] = [
 
 /// Blank, too long, beginning with no letter, with a neighbour of the letters, digits and underscore, with a byte 0, with
 /// a digit or an underscore but for the bit of the case.
-const MALFORMED: [&[u8]; 32] = [
+pub const MALFORMED: [&[u8]; 32] = [
     b"",
     b"abcdefghijklmnopq",
     b"abcdefghijklmnop\0",
@@ -302,13 +317,15 @@ impl Caller {
             13 => self.remove_destination(schema, sds),
             14 => self.remove_type(schema, sds),
             15 => self.rename(schema, sds),
-            16 => self.scan_object(schema),
-            17 => self.scan_link(schema),
-            18 => self.profile(schema),
-            19 => self.find(schema),
-            20 => self.depth(schema),
-            21 => self.name(schema),
-            _ => self.descendant_set(schema),
+            16 => self.set_modes(schema, sds),
+            17 => self.scan_object(schema),
+            18 => self.scan_link(schema),
+            19 => self.profile(schema),
+            20 => self.find(schema),
+            21 => self.depth(schema),
+            22 => self.name(schema),
+            23 => self.descendant_set(schema),
+            _ => self.modes(schema),
         }
     }
 
@@ -337,7 +354,11 @@ impl Caller {
             return Call::NewAttribute { sds, name, value_kind: 0 };
         }
         let named = |is_wanted: IsWanted| -> Vec<(&Name, usize)> {
-            here.presences.iter().map(|(name, &ty)| (name, ty)).filter(|&(_, ty)| is_wanted(schema, ty)).collect()
+            here.presences
+                .iter()
+                .map(|(name, present)| (name, present.ty))
+                .filter(|&(_, ty)| is_wanted(schema, ty))
+                .collect()
         };
         if schema.types.len() == Schema::TYPES {
             let is_applied = |ty| here.applications.iter().any(|application| application.attribute == ty);
@@ -369,7 +390,7 @@ impl Caller {
             return import_object(sds);
         }
         let has_types_left = schema.types.len() < Schema::TYPES;
-        let lacks = |is_wanted: IsWanted| here.presences.values().filter(|&&ty| is_wanted(schema, ty)).count() < 12;
+        let lacks = |is_wanted: IsWanted| here.types().filter(|&ty| is_wanted(schema, ty)).count() < 12;
         match self.mode {
             Mode::FullPresences if schema.types.len() > 50 => self.import(schema, sds),
             Mode::FullApplications if has_types_left && lacks(Schema::is_attribute) => {
@@ -449,7 +470,7 @@ impl Caller {
         let used: Vec<usize> = schema.sdss.keys().copied().collect();
         let source = match self.random.pick(&used) {
             Some(source) if !self.random.one_in(12) => source,
-            _ => self.odd_number(Schema::SDSS),
+            _ => self.random.odd_number(Schema::SDSS),
         };
         let importable = importable(schema, target, source);
         let name = match self.random.pick(&importable) {
@@ -508,15 +529,20 @@ impl Caller {
         Call::Rename { sds, name, new_name }
     }
 
+    fn set_modes(&mut self, schema: &Schema, sds: usize) -> Call {
+        let [usage, definition] = [(); 2].map(|()| self.code(Modes::FIVE + 1));
+        Call::SetModes { sds, name: self.borne_name(schema, sds, any_type), usage, definition }
+    }
+
     fn scan_object(&mut self, schema: &Schema) -> Call {
         let list = self.list(schema);
-        let code = if list.is_empty() { self.odd_number(10) } else { self.code(10) };
+        let code = if list.is_empty() { self.random.odd_number(10) } else { self.code(10) };
         Call::ScanObject { ty: self.ty(schema, &list, Schema::is_object), code, schema: list }
     }
 
     fn scan_link(&mut self, schema: &Schema) -> Call {
         let list = self.list(schema);
-        let code = if list.is_empty() { self.odd_number(5) } else { self.code(5) };
+        let code = if list.is_empty() { self.random.odd_number(5) } else { self.code(5) };
         Call::ScanLink { ty: self.ty(schema, &list, Schema::is_link), code, schema: list }
     }
 
@@ -551,29 +577,19 @@ impl Caller {
         let list = self.list(schema);
         Call::DescendantSet { ty: self.ty(schema, &list, Schema::is_object), schema: list }
     }
+
+    fn modes(&mut self, schema: &Schema) -> Call {
+        let list = self.list(schema);
+        Call::Modes { ty: self.ty(schema, &list, any_type), schema: list }
+    }
 }
 
 /// Inputs, each mostly right.
 impl Caller {
-    /// A number at an edge, or one that is not n though its low bytes are.
-    fn odd_number(&mut self, limit: usize) -> usize {
-        let number = self.random.below(limit);
-        match self.random.below(9) {
-            0 => 0,
-            1 => limit - 1,
-            2 => limit,
-            3 => 255,
-            4 => 256 + number,
-            5 => (1 << 32) + number,
-            6 => usize::MAX,
-            _ => number,
-        }
-    }
-
-    /// A kind, category or scan code: one of `known`, or an odd number.
+    /// A kind, category, scan code or set of modes: one of `known`, or an odd number.
     fn code(&mut self, known: usize) -> usize {
         if self.random.one_in(12) {
-            self.odd_number(known)
+            self.random.odd_number(known)
         } else {
             self.random.below(known)
         }
@@ -581,7 +597,7 @@ impl Caller {
 
     fn sds(&mut self, schema: &Schema) -> usize {
         if self.random.one_in(12) {
-            self.odd_number(Schema::SDSS)
+            self.random.odd_number(Schema::SDSS)
         } else {
             self.changeable_sds(schema)
         }
@@ -652,9 +668,9 @@ impl Caller {
 
     /// A name borne in the SDS, mostly by a type of the wanted kind.
     fn borne_name(&mut self, schema: &Schema, sds: usize, is_wanted: IsWanted) -> Text {
-        let borne: Vec<(&Name, &usize)> =
+        let borne: Vec<(&Name, &Presence)> =
             schema.sdss.get(&sds).map_or(Vec::new(), |sds| sds.presences.iter().collect());
-        let wanted: Vec<_> = borne.iter().copied().filter(|(_, &ty)| is_wanted(schema, ty)).collect();
+        let wanted: Vec<_> = borne.iter().copied().filter(|(_, present)| is_wanted(schema, present.ty)).collect();
         let found = match self.random.below(16) {
             0 => return Text(self.malformed()),
             1 => None,
@@ -669,8 +685,10 @@ impl Caller {
 
     /// A run of parents: mostly 1 to 4 different object types, parted by one space.
     fn parents(&mut self, schema: &Schema, sds: usize) -> Text {
-        let presences = schema.sdss.get(&sds).map_or(Vec::new(), |sds| sds.presences.iter().collect());
-        let objects = presences.into_iter().filter(|(_, &ty)| schema.is_object(ty)).map(|(name, _)| name);
+        let presences: Vec<(&Name, &Presence)> =
+            schema.sdss.get(&sds).map_or(Vec::new(), |sds| sds.presences.iter().collect());
+        let objects =
+            presences.into_iter().filter(|(_, present)| schema.is_object(present.ty)).map(|(name, _)| name);
         let objects: Vec<&Name> = self.random.shuffled(objects.collect());
         let count = if self.random.one_in(10) { self.random.below(7) } else { 1 + self.random.below(4) };
         let mut names: Vec<Vec<u8>> = objects.into_iter().take(count).map(|name| self.given(name)).collect();
@@ -757,7 +775,7 @@ impl Caller {
     fn ty(&mut self, schema: &Schema, list: &[u8], is_wanted: IsWanted) -> usize {
         let is_listed = |sds: usize| list.is_empty() || list.iter().any(|&listed| usize::from(listed) == sds);
         let listed = schema.sdss.iter().filter(|(&sds, _)| is_listed(sds));
-        let visible: Vec<usize> = listed.flat_map(|(_, sds)| sds.presences.values().copied()).collect();
+        let visible: Vec<usize> = listed.flat_map(|(_, sds)| sds.types()).collect();
         let wanted: Vec<usize> = visible.iter().copied().filter(|&ty| is_wanted(schema, ty)).collect();
         let used: Vec<usize> = schema.types.keys().copied().collect();
         let found = match self.random.below(16) {
@@ -766,7 +784,7 @@ impl Caller {
             2 => self.random.pick(&visible),
             _ => self.random.pick(&wanted),
         };
-        found.unwrap_or_else(|| self.odd_number(Schema::TYPES))
+        found.unwrap_or_else(|| self.random.odd_number(Schema::TYPES))
     }
 }
 
@@ -792,7 +810,7 @@ pub fn importable(schema: &Schema, target: usize, source: usize) -> Vec<&Name> {
         return Vec::new();
     };
     let has_parents = |ty| schema.parents(ty).into_iter().all(|parent| to.holds(parent));
-    let importable = from.presences.iter().filter(|(_, &ty)| !to.holds(ty) && has_parents(ty));
+    let importable = from.presences.iter().filter(|(_, present)| !to.holds(present.ty) && has_parents(present.ty));
     importable.map(|(name, _)| name).collect()
 }
 

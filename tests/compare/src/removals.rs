@@ -4,7 +4,7 @@
 
 use crate::calls::{Call, TELLING};
 use crate::random::Random;
-use crate::schema::{Application, End, Name, Schema, Sds, Side, Type, DESIGNATION};
+use crate::schema::{Application, End, Name, Presence, Schema, Sds, Side, Type, DESIGNATION};
 use crate::shapes::in_any_order;
 use std::collections::{BTreeMap, BTreeSet};
 
@@ -61,12 +61,12 @@ pub fn traits(s: &Schema, call: &Call, [no, told, ..]: [usize; 4]) -> Vec<String
 }
 
 fn of_sds(here: &Sds, told: usize) -> Vec<String> {
-    let first = here.presences.values().next();
+    let first = here.types().next();
     named(
         "12 of an SDS",
         &[
             ("one of several", here.presences.len() > 1),
-            ("not in the first row", first != Some(&told)),
+            ("not in the first row", first != Some(told)),
             ("type 0", told == 0),
         ],
     )
@@ -121,7 +121,7 @@ fn in_the_first_row(here: &Sds, going: &[usize], no: usize, types: &BTreeSet<usi
     match no {
         17 => here.applications.iter().find_map(|a| told([a.to, a.attribute])),
         18 => here.ends.iter().find_map(|end| told([end.link, end.object])),
-        _ => here.presences.values().copied().find(|ty| types.contains(ty)),
+        _ => here.types().find(|ty| types.contains(ty)),
     }
 }
 
@@ -183,7 +183,7 @@ pub fn other_types(mut number: impl FnMut() -> usize) -> Vec<Vec<(usize, Type)>>
 pub fn draw_sds(random: &mut Random, s: &Schema, sds: usize, held: &[usize]) -> Sds {
     let mut here = Sds::named(format!("sds{sds}").as_bytes());
     let names = (0..held.len()).map(|n| Name::new(format!("type_{n:03}"))).collect();
-    here.presences.extend(in_any_order(random, names).into_iter().zip(held.iter().copied()));
+    here.presences.extend(in_any_order(random, names).into_iter().zip(held.iter().copied().map(Presence::of)));
     let of_kind = |is_wanted: fn(&Schema, usize) -> bool| -> Vec<usize> {
         held.iter().copied().filter(|&ty| is_wanted(s, ty)).collect()
     };
@@ -215,7 +215,7 @@ pub fn removal(random: &mut Random, s: &Schema) -> Call {
         _ => Schema::is_link,
     };
     let present = s.sdss.range(1..).flat_map(|(&sds, here)| here.presences.iter().map(move |row| (sds, row)));
-    let wanted: Vec<_> = present.filter(|(_, (_, &ty))| is_wanted(s, ty)).collect();
+    let wanted: Vec<_> = present.filter(|(_, (_, present))| is_wanted(s, present.ty)).collect();
     let sdss: Vec<usize> = s.sdss.keys().copied().collect();
     match random.pick(&wanted) {
         Some((sds, (name, _))) if !random.one_in(12) => Call::RemoveType { sds, name: name.into() },

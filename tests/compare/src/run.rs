@@ -3,8 +3,9 @@
 
 use crate::base::{from_bytes, is_sound, to_bytes, LENGTH};
 use crate::calls::{apply, apply_to, Call, CALLS, TELLING};
-use crate::coverage::Counts;
+use crate::coverage::{Counts, Traits};
 use crate::library::{Expected, Lent, Library};
+use crate::modes::{self, Gone};
 use crate::random::{Caller, Mode, Random};
 use crate::removals;
 use crate::schema::Schema;
@@ -15,10 +16,11 @@ use crate::spoil::{spoiled, WAYS};
 /// Questions about each schema that is drawn for descents.
 const QUESTIONS: usize = 20;
 
-/// Schemas that are drawn for removals, as many for spellings, and calls on each.
+/// Schemas that are drawn for removals, as many for spellings and for modes, and calls on each.
 const DRAWN: usize = 10;
 const REMOVALS: usize = 20;
 const RESPELLINGS: usize = 40;
+const SETTINGS: usize = 40;
 
 /// What a question was answered, and its output afterwards.
 #[derive(Clone, Debug, PartialEq, Eq)]
@@ -32,6 +34,8 @@ pub struct Run {
     /// The present base, which is sound, and its schema.
     base: Vec<u8>,
     pub schema: Schema,
+    /// What went from it with fewer modes than all.
+    gone: Gone,
     /// Without one the keeper's own answers are checked, and that is all.
     library: Option<Box<dyn Library>>,
     /// Where the run is, in words.
@@ -43,7 +47,7 @@ impl Run {
     pub fn new(library: Option<Box<dyn Library>>) -> Run {
         let schema = Schema::fresh();
         let (caller, base) = (Caller::new(0), to_bytes(&schema));
-        Run { caller, base, schema, library, place: String::new(), counts: Counts::new() }
+        Run { caller, base, schema, gone: Gone::default(), library, place: String::new(), counts: Counts::new() }
     }
 
     /// A history of so many calls and so many on spoiled bases, spread over it. It depends on nothing but the numbers.
@@ -59,7 +63,7 @@ impl Run {
             }
         }
         self.check_base()?;
-        for ending in [Run::descents, Run::removals, Run::spellings] {
+        for ending in [Run::descents, Run::removals, Run::spellings, Run::modes] {
             self.place = format!("seed {seed}, history {number}");
             ending(self)?;
         }
@@ -74,7 +78,7 @@ impl Run {
         self.caller.mode = Mode::ALL[number % Mode::ALL.len()];
         let bytes = self.caller.random.bytes(LENGTH);
         let (_, after) = self.on_any_bytes(bytes, &Call::Fresh)?;
-        (self.base, self.schema) = (after.base, Schema::fresh());
+        (self.base, self.schema, self.gone) = (after.base, Schema::fresh(), Gone::default());
         self.check_base()
     }
 
@@ -115,6 +119,11 @@ impl Run {
         self.on_drawn("respelling", RESPELLINGS, spellings::draw, spellings::respelling)
     }
 
+    /// Calls that set modes, ask for them, or should keep or renew them, on schemas drawn for them.
+    pub fn modes(&mut self) -> Result<(), String> {
+        self.on_drawn("setting", SETTINGS, modes::draw, modes::call)
+    }
+
     fn on_drawn(
         &mut self,
         what: &str,
@@ -139,7 +148,7 @@ impl Run {
     /// A schema that is drawn takes the place of the present one.
     pub fn draw(&mut self, draw: fn(&mut Random) -> Schema) -> Result<(), String> {
         self.schema = draw(&mut self.caller.random);
-        self.base = to_bytes(&self.schema);
+        (self.base, self.gone) = (to_bytes(&self.schema), Gone::default());
         self.check_base()
     }
 
@@ -147,10 +156,17 @@ impl Run {
     fn on_present(&mut self, call: &Call) -> Result<[usize; 4], String> {
         let before = self.lent(self.base.clone(), call);
         let mut after = before.clone();
-        let spelt = spellings::traits(&self.schema, call);
+        let (mut spelt, mut moded) = (Traits::of(call), Traits::of(call));
+        spellings::add_traits(&mut spelt, &self.schema, call);
+        modes::add_traits(&mut moded, &self.schema, &self.gone, call);
+        let going = Gone::going(&self.schema, call);
         let answer = apply_to(&mut self.schema, &mut after.base, &mut after.output, call);
         self.compare(call, &before, answer, &after)?;
         self.counts.spell(spelt, answer);
+        self.counts.set_modes(moded, answer);
+        if answer[0] == 0 && !call.asks() {
+            self.gone.keep(&self.schema, going);
+        }
         self.counts.ask(&self.schema, call, before.output.len(), answer);
         self.counts.remove(&self.schema, call, answer);
         self.base = after.base;

@@ -83,6 +83,44 @@ pub enum Type {
     Link { category: usize, reverse: Option<usize> },
 }
 
+/// What may be done through a presence: two sets of modes, each the sum of those in it out of create 1, delete 2, read
+/// 4, write 8 and navigate 16 (02, Q-2).
+#[derive(Clone, Copy, Debug, PartialEq, Eq, PartialOrd, Ord)]
+pub struct Modes {
+    pub usage: usize,
+    pub definition: usize,
+}
+
+impl Modes {
+    /// All five in a set, which is the greatest sum.
+    pub const FIVE: usize = 31;
+    pub const NONE: Modes = Modes { usage: 0, definition: 0 };
+    pub const ALL: Modes = Modes { usage: Modes::FIVE, definition: Modes::FIVE };
+
+    /// Whether no mode is unknown.
+    pub fn are_known(self) -> bool {
+        self.usage <= Modes::FIVE && self.definition <= Modes::FIVE
+    }
+
+    pub fn union(self, other: Modes) -> Modes {
+        Modes { usage: self.usage | other.usage, definition: self.definition | other.definition }
+    }
+}
+
+/// A type is in an SDS, and what may be done through that.
+#[derive(Clone, Copy, Debug, PartialEq, Eq)]
+pub struct Presence {
+    pub ty: usize,
+    pub modes: Modes,
+}
+
+impl Presence {
+    /// As it is made or imported: with all modes.
+    pub fn of(ty: usize) -> Presence {
+        Presence { ty, modes: Modes::ALL }
+    }
+}
+
 /// An attribute type is applied to an object or link type.
 #[derive(Clone, Copy, Debug, PartialEq, Eq, PartialOrd, Ord)]
 pub struct Application {
@@ -120,7 +158,7 @@ impl End {
 pub struct Sds {
     pub name: Name,
     /// Local names are unique in an SDS, in whatever spelling.
-    pub presences: BTreeMap<Name, usize>,
+    pub presences: BTreeMap<Name, Presence>,
     pub applications: BTreeSet<Application>,
     pub ends: BTreeSet<End>,
 }
@@ -142,12 +180,28 @@ impl Sds {
 
     /// The spelling that is kept of the local name, and the type that bears it.
     pub fn kept(&self, name: &[u8]) -> Option<(&Name, usize)> {
-        self.presences.iter().find(|(kept, _)| is_same(kept, name)).map(|(kept, &ty)| (kept, ty))
+        self.presences.iter().find(|(kept, _)| is_same(kept, name)).map(|(kept, present)| (kept, present.ty))
     }
 
     /// The local name of the type as it is spelt, if it is present.
     pub fn name_of(&self, ty: usize) -> Option<&Name> {
-        self.presences.iter().find(|&(_, &present)| present == ty).map(|(name, _)| name)
+        self.presences.iter().find(|(_, present)| present.ty == ty).map(|(name, _)| name)
+    }
+
+    /// The types present, in the order of their names.
+    pub fn types(&self) -> impl Iterator<Item = usize> + '_ {
+        self.presences.values().map(|present| present.ty)
+    }
+
+    /// The modes of the type, if it is present.
+    pub fn modes_of(&self, ty: usize) -> Option<Modes> {
+        self.presences.values().find(|present| present.ty == ty).map(|present| present.modes)
+    }
+
+    /// Gives the types that are present these modes.
+    pub fn set_modes(&mut self, types: &[usize], modes: Modes) {
+        let set = self.presences.values_mut().filter(|present| types.contains(&present.ty));
+        set.for_each(|present| present.modes = modes);
     }
 
     pub fn holds(&self, ty: usize) -> bool {
@@ -173,7 +227,7 @@ impl Schema {
     /// SDS 0 "system", holding type 0 "object", and nothing else.
     pub fn fresh() -> Schema {
         let mut system = Sds::named(b"system");
-        system.presences.insert(Name::new("object"), 0);
+        system.presences.insert(Name::new("object"), Presence::of(0));
         let object = Type::Object { parents: BTreeSet::new() };
         Schema { sdss: BTreeMap::from([(0, system)]), types: BTreeMap::from([(0, object)]) }
     }

@@ -4,7 +4,7 @@
 
 use crate::calls::Call;
 use crate::random::Random;
-use crate::schema::{End, Name, Schema, Sds, Side, Type, DESIGNATION};
+use crate::schema::{End, Name, Presence, Schema, Sds, Side, Type, DESIGNATION};
 use std::collections::BTreeSet;
 
 type Shape = fn(&mut Random) -> Schema;
@@ -128,7 +128,7 @@ impl Drawn {
         for (sds, held) in random.shuffled((1..Schema::SDSS).collect()).into_iter().zip(self.held) {
             let mut here = Sds::named(format!("sds{sds}").as_bytes());
             let names = (0..held.len()).map(|n| Name::new(format!("type_{n:03}"))).collect();
-            here.presences.extend(in_any_order(random, names).into_iter().zip(held));
+            here.presences.extend(in_any_order(random, names).into_iter().zip(held.into_iter().map(Presence::of)));
             s.sdss.insert(sds, here);
         }
         add_link(&mut s, random);
@@ -141,17 +141,17 @@ fn add_link(s: &mut Schema, random: &mut Random) {
     let Some(link) = (1..Schema::TYPES).find(|ty| !s.types.contains_key(ty)) else { return };
     s.types.insert(link, Type::Link { category: DESIGNATION, reverse: None });
     for (_, here) in s.sdss.range_mut(1..) {
-        let objects: Vec<usize> = here.presences.values().copied().collect();
+        let objects: Vec<usize> = here.types().collect();
         for side in [Side::Origin, Side::Destination] {
             here.ends.insert(End { link, side, object: random.pick(&objects).expect("there is type 0") });
         }
-        here.presences.insert(Name::new("link"), link);
+        here.presences.insert(Name::new("link"), Presence::of(link));
     }
 }
 
 /// What is visible under a list of used SDSs.
 pub fn visible(s: &Schema, list: &[u8]) -> BTreeSet<usize> {
-    list.iter().flat_map(|&sds| s.sdss[&sds.into()].presences.values().copied()).collect()
+    list.iter().flat_map(|&sds| s.sdss[&sds.into()].types()).collect()
 }
 
 /// A question about descent under some of the SDSs, mostly about a visible type: type 0, one right below it, or any.

@@ -2,7 +2,8 @@
 //! tells one such call from another.
 #![forbid(unsafe_code)]
 
-use crate::calls::{Call, Text, CALLS};
+use crate::calls::{Call, Text};
+use crate::coverage::Traits;
 use crate::random::{importable, Random, BESIDE_LETTERS, CASE};
 use crate::removals;
 use crate::schema::{has_same, is_name, is_same, lowered, Name, Schema, Sds};
@@ -10,7 +11,7 @@ use std::iter::zip;
 
 /// What should come up often. Where names were compared byte for byte, or set in order by their bytes or as capitals, the
 /// answer or the base would be another.
-pub const SPELT: [&str; 59] = [
+pub const SPELT: [&str; 60] = [
     // Taken in another spelling, and for no other reason.
     "new_sds 11",
     "new_sds 11, SDS 0",
@@ -50,6 +51,7 @@ pub const SPELT: [&str; 59] = [
     "unapply_link 13",
     "remove_type 0",
     "remove_type 16 to 18",
+    "set_modes 0",
     // The spelling that is kept.
     "import 0, capitals filled in",
     "import 0, the reverse's capitals filled in",
@@ -81,20 +83,12 @@ pub const SPELT: [&str; 59] = [
 /// Numbers that a call comes to only when it has looked for its names.
 const LOOKED: &[usize] = &[0, 8, 9, 11, 13, 16, 17, 18];
 
-/// What a call is called if it is answered one of the numbers.
-pub struct Spelt {
-    pub what: String,
-    pub numbers: &'static [usize],
-}
-
 /// The traits of a call on the schema, before it is made.
-pub fn traits(s: &Schema, call: &Call) -> Vec<Spelt> {
-    let mut traits = Traits { call: CALLS[call.index()].name, found: Vec::new() };
+pub fn add_traits(traits: &mut Traits, s: &Schema, call: &Call) {
     traits.add_call(s, call);
     for (names, name) in given(s, call) {
         traits.add_name(&names, name);
     }
-    traits.found
 }
 
 /// The names that a call gives, each with those among which it is looked for.
@@ -123,7 +117,8 @@ fn given<'a>(s: &'a Schema, call: &'a Call) -> Vec<(Vec<&'a Name>, &'a [u8])> {
         | Call::UnapplyLink { sds, .. }
         | Call::AddDestination { sds, .. }
         | Call::RemoveDestination { sds, .. }
-        | Call::Rename { sds, .. } => {
+        | Call::Rename { sds, .. }
+        | Call::SetModes { sds, .. } => {
             let slices = call.inputs().1;
             slices.into_iter().filter(|slice| !slice.is_empty()).map(|name| local(*sds, name)).collect()
         }
@@ -161,7 +156,7 @@ fn is_beside(kept: &[u8], name: &[u8]) -> bool {
 /// Whether a row for the name, among those of the SDS but for one type's, has another place where a key sets the order.
 fn is_elsewhere(here: &Sds, moved: Option<usize>, name: &[u8], key: fn(&[u8]) -> Vec<u8>) -> bool {
     let (name, by_key) = (Name::new(name), key(name));
-    let others = || here.presences.iter().filter(|(_, &ty)| Some(ty) != moved).map(|(kept, _)| kept);
+    let others = || here.presences.iter().filter(|(_, present)| Some(present.ty) != moved).map(|(kept, _)| kept);
     others().filter(|kept| **kept < name).count() != others().filter(|kept| key(kept) < by_key).count()
 }
 
@@ -184,26 +179,7 @@ fn taken(here: &Sds, first: &[u8], second: Option<&[u8]>) -> [bool; 3] {
     [is_otherwise(here, first), of_second[0], of_second[1]]
 }
 
-struct Traits {
-    /// The call's name.
-    call: &'static str,
-    found: Vec<Spelt>,
-}
-
 impl Traits {
-    fn add(&mut self, is_so: bool, numbers: &'static [usize], what: &str) {
-        if is_so {
-            self.found.push(Spelt { what: format!("{} {what}", self.call), numbers });
-        }
-    }
-
-    /// The same whatever the call.
-    fn add_any(&mut self, is_so: bool, numbers: &'static [usize], what: &str) {
-        if is_so {
-            self.found.push(Spelt { what: what.into(), numbers });
-        }
-    }
-
     /// What sets a name that is given off from one that is there.
     fn add_name(&mut self, names: &[&Name], name: &[u8]) {
         if let Some(kept) = names.iter().find(|kept| is_respelt(kept, name)) {
@@ -258,6 +234,10 @@ impl Traits {
                 let Some(here) = s.sdss.get(sds) else { return };
                 self.add(is_otherwise(here, &name.0), &[0], "0");
                 self.add(is_otherwise(here, &name.0), &[16, 17, 18], "16 to 18");
+            }
+            Call::SetModes { sds, name, .. } => {
+                let Some(here) = s.sdss.get(sds) else { return };
+                self.add(is_otherwise(here, &name.0), &[0], "0");
             }
             Call::Rename { sds, name, new_name } => {
                 let Some(here) = s.sdss.get(sds) else { return };
@@ -397,7 +377,7 @@ pub fn respelling(random: &mut Random, s: &Schema) -> Call {
     let sds = random.pick(&sdss).expect("four are drawn");
     let here = &s.sdss[&sds];
     let any = |_: &Schema, _: usize| true;
-    match random.below(24) {
+    match random.below(26) {
         0 | 1 => Call::NewSds { name: Text(new_sds_name(random, s)) },
         2..=4 => {
             let parents = parents(random, s, here);
@@ -430,12 +410,13 @@ pub fn respelling(random: &mut Random, s: &Schema) -> Call {
         }
         17 => Call::RemoveType { sds, name: Text(there(random, s, here, any)) },
         18..=20 => rename(random, s, sds),
-        21 | 22 => {
+        24 => Call::SetModes { sds, name: Text(there(random, s, here, any)), usage: 1, definition: 2 },
+        21..=23 => {
             let schema = vec![sds as u8];
             Call::Find { schema, name: Text(there(random, s, here, any)) }
         }
         _ => {
-            let types: Vec<usize> = here.presences.values().copied().collect();
+            let types: Vec<usize> = here.types().collect();
             Call::Name { sds, ty: random.pick(&types).unwrap_or(0) }
         }
     }
@@ -453,7 +434,7 @@ fn as_given(random: &mut Random, name: &[u8]) -> Vec<u8> {
 /// The name of a type of the kind in the SDS, if there is one.
 fn there(random: &mut Random, s: &Schema, here: &Sds, is_wanted: fn(&Schema, usize) -> bool) -> Vec<u8> {
     let names: Vec<&Name> =
-        here.presences.iter().filter(|(_, &ty)| is_wanted(s, ty)).map(|(name, _)| name).collect();
+        here.presences.iter().filter(|(_, present)| is_wanted(s, present.ty)).map(|(name, _)| name).collect();
     match random.pick(&names) {
         Some(name) => as_given(random, name),
         None => free_name(random, here),
@@ -478,7 +459,7 @@ fn two_there(
 }
 
 /// A name that no type in the SDS bears, in any spelling.
-fn free_name(random: &mut Random, here: &Sds) -> Vec<u8> {
+pub fn free_name(random: &mut Random, here: &Sds) -> Vec<u8> {
     let free: Vec<&str> = STEMS.into_iter().filter(|stem| here.find(stem.as_bytes()).is_none()).collect();
     let stem = random.pick(&free).unwrap_or("none_was_free");
     random.spelt(stem.as_bytes())
@@ -526,7 +507,7 @@ fn new_sds_name(random: &mut Random, s: &Schema) -> Vec<u8> {
 /// One or two object types; one of them once more at times.
 fn parents(random: &mut Random, s: &Schema, here: &Sds) -> Vec<u8> {
     let names: Vec<&Name> =
-        here.presences.iter().filter(|(_, &ty)| s.is_object(ty)).map(|(name, _)| name).collect();
+        here.presences.iter().filter(|(_, present)| s.is_object(present.ty)).map(|(name, _)| name).collect();
     let count = 1 + random.below(2);
     let names: Vec<&Name> = random.shuffled(names).into_iter().take(count).collect();
     let mut run: Vec<Vec<u8>> = names.iter().map(|name| as_given(random, name)).collect();

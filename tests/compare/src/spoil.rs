@@ -4,10 +4,11 @@
 #![forbid(unsafe_code)]
 
 use crate::base::{
-    from_bytes, is_used, presence_key, to_bytes, Table, APPLICATIONS, ENDS, LENGTH, PRESENCES, SDSS, TYPES,
+    from_bytes, is_used, presence_key, to_bytes, Table, APPLICATIONS, ENDS, LENGTH, PRESENCES, SDSS, TYPES, USAGE,
 };
+use crate::modes;
 use crate::random::{Random, BESIDE_LETTERS, CASE};
-use crate::schema::{Application, End, Name, Schema, Sds, Side, Type};
+use crate::schema::{Application, End, Modes, Name, Presence, Schema, Sds, Side, Type};
 use std::collections::BTreeSet;
 
 pub enum Way {
@@ -16,7 +17,7 @@ pub enum Way {
     Schema(fn(&mut Random, &mut Schema)),
 }
 
-pub const WAYS: [(&str, Way); 49] = [
+pub const WAYS: [(&str, Way); 63] = [
     ("wrong length", Way::Length(wrong_length)),
     ("flipped bit", Way::Layout(flipped_bit)),
     ("changed byte of a row", Way::Layout(changed_byte)),
@@ -66,10 +67,24 @@ pub const WAYS: [(&str, Way); 49] = [
     ("two SDSs of one name", Way::Schema(two_sdss_of_one_name)),
     ("two SDSs in two spellings", Way::Schema(two_sdss_in_two_spellings)),
     ("malformed name", Way::Schema(malformed_name)),
+    ("usage of 32 or more", Way::Schema(unknown_usage)),
+    ("definition of 32 or more", Way::Schema(unknown_definition)),
+    ("pair of two usages", Way::Schema(pair_of_two_usages)),
+    ("pair of two definitions", Way::Schema(pair_of_two_definitions)),
+    ("modes of SDS 0", Way::Schema(modes_of_sds_0)),
+    ("modes in an unused row", Way::Layout(modes_in_an_unused_row)),
+    ("modes of a lone type", Way::Schema(modes_of_a_lone_type)),
+    ("modes of a pair", Way::Schema(modes_of_a_pair)),
+    ("modes of every presence", Way::Schema(modes::give)),
+    ("one pair of many", Way::Schema(one_pair_of_many)),
+    ("pair with its sets turned", Way::Schema(pair_with_its_sets_turned)),
+    ("two pairs crossed", Way::Schema(two_pairs_crossed)),
+    ("pair otherwise in each SDS", Way::Schema(pair_otherwise_in_each_sds)),
+    ("one of a pair as elsewhere", Way::Schema(one_of_a_pair_as_elsewhere)),
 ];
 
-/// The ways that spoil spellings, and whether a base stays sound.
-pub const SPELLINGS: [(&str, bool); 11] = [
+/// The ways that spoil spellings or modes, and whether a base stays sound.
+pub const EXPECTED: [(&str, bool); 25] = [
     ("both spellings of a name", false),
     ("both spellings, falling", false),
     ("both spellings, by bytes", false),
@@ -81,6 +96,20 @@ pub const SPELLINGS: [(&str, bool); 11] = [
     ("name respelt", true),
     ("every name respelt", true),
     ("two SDSs in two spellings", false),
+    ("usage of 32 or more", false),
+    ("definition of 32 or more", false),
+    ("pair of two usages", false),
+    ("pair of two definitions", false),
+    ("modes of SDS 0", false),
+    ("modes in an unused row", false),
+    ("modes of a lone type", true),
+    ("modes of a pair", true),
+    ("modes of every presence", true),
+    ("one pair of many", false),
+    ("pair with its sets turned", false),
+    ("two pairs crossed", false),
+    ("pair otherwise in each SDS", true),
+    ("one of a pair as elsewhere", false),
 ];
 
 /// A sound base spoiled in the way.
@@ -440,6 +469,18 @@ fn every_name_respelt(random: &mut Random, base: &mut [u8]) {
     }
 }
 
+fn modes_in_an_unused_row(random: &mut Random, base: &mut [u8]) {
+    let used = used_rows(base, PRESENCES).len();
+    if used < PRESENCES.rows {
+        let number = match random.below(3) {
+            0 => used,
+            1 => PRESENCES.rows - 1,
+            _ => used + random.below(PRESENCES.rows - used),
+        };
+        PRESENCES.row(base, number)[USAGE + random.below(2)] = 1 + random.below(Modes::FIVE) as u8;
+    }
+}
+
 // Ways that break one sentence of document 01.
 
 fn types_where(schema: &Schema, is_wanted: impl Fn(usize) -> bool) -> Vec<usize> {
@@ -462,11 +503,11 @@ fn sds_where<'a>(
 }
 
 fn present(sds: &Sds, is_wanted: impl Fn(usize) -> bool) -> Vec<usize> {
-    sds.presences.values().copied().filter(|&ty| is_wanted(ty)).collect()
+    sds.types().filter(|&ty| is_wanted(ty)).collect()
 }
 
 fn drop_presence(sds: &mut Sds, ty: usize) {
-    sds.presences.retain(|_, &mut present| present != ty);
+    sds.presences.retain(|_, present| present.ty != ty);
 }
 
 /// Puts `parent` among the parents, in the place of another if there are 4.
@@ -514,7 +555,7 @@ fn ring_of_any_length(random: &mut Random, schema: &mut Schema) {
             parents.insert(0);
         }
         schema.types.insert(ty, Type::Object { parents });
-        sds.presences.insert(Name::new(format!("type_{ty}")), ty);
+        sds.presences.insert(Name::new(format!("type_{ty}")), Presence::of(ty));
     }
     schema.sdss.insert(1, sds);
 }
@@ -571,7 +612,7 @@ fn no_parent_in_one_more_sds(random: &mut Random, schema: &mut Schema) {
         .collect();
     if let Some((number, ty)) = random.pick(&orphans) {
         let sds = schema.sdss.get_mut(&number).expect("a used SDS");
-        sds.presences.insert(Name::new("orphan"), ty);
+        sds.presences.insert(Name::new("orphan"), Presence::of(ty));
     }
 }
 
@@ -617,7 +658,7 @@ fn type_twice(random: &mut Random, schema: &mut Schema) {
     }
     if let Some(sds) = sds_where(random, schema, |sds| !sds.presences.is_empty()) {
         let ty = random.pick(&present(sds, |_| true)).expect("there is one");
-        sds.presences.insert(Name::new("twice"), ty);
+        sds.presences.insert(Name::new("twice"), Presence::of(ty));
     }
 }
 
@@ -632,7 +673,7 @@ fn presence_of_an_unused_type(random: &mut Random, schema: &mut Schema) {
     let unused = unused_type(random, schema);
     if let Some(sds) = sds_where(random, schema, |sds| !sds.presences.is_empty()) {
         let names: Vec<Name> = sds.presences.keys().cloned().collect();
-        sds.presences.insert(random.pick(&names).expect("there is one"), unused);
+        sds.presences.insert(random.pick(&names).expect("there is one"), Presence::of(unused));
     }
 }
 
@@ -717,9 +758,9 @@ fn sds_0_changed(random: &mut Random, schema: &mut Schema) {
     let system = schema.sdss.get_mut(&0).expect("a used SDS");
     match (random.below(8), random.pick(&used)) {
         (0, _) => system.name = Name::new("systems"),
-        (1, _) => system.presences = [(Name::new("objects"), 0)].into(),
+        (1, _) => system.presences = [(Name::new("objects"), Presence::of(0))].into(),
         (2, _) => system.presences.clear(),
-        (3, Some(ty)) if has_presence => _ = system.presences.insert(Name::new("other"), ty),
+        (3, Some(ty)) if has_presence => _ = system.presences.insert(Name::new("other"), Presence::of(ty)),
         (4, Some(link)) if has_end => _ = system.ends.insert(End { link, side: Side::Origin, object: 0 }),
         (5, Some(parent)) => put_parent(schema, 0, parent),
         (6, _) => _ = schema.types.insert(0, Type::Attribute { value_kind: 0 }),
@@ -755,9 +796,209 @@ fn malformed_name(random: &mut Random, schema: &mut Schema) {
         } else {
             let names: Vec<Name> = sds.presences.keys().cloned().collect();
             let name = random.pick(&names).expect("there is one");
-            let ty = sds.presences.remove(&name).expect("it is borne");
-            sds.presences.insert(malformed, ty);
+            let present = sds.presences.remove(&name).expect("it is borne");
+            sds.presences.insert(malformed, present);
         }
+    }
+}
+
+// Ways that spoil modes (02, Q-2), some of which leave the base sound.
+
+/// A presence of such a type, not in SDS 0: its SDS, to be changed, the type, alone or with its reverse, and its modes.
+fn presence_where<'a>(
+    random: &mut Random,
+    schema: &'a mut Schema,
+    is_wanted: fn(&Schema, usize) -> bool,
+) -> Option<(&'a mut Sds, Vec<usize>, Modes)> {
+    let sdss = schema.sdss.range(1..);
+    let all = sdss
+        .flat_map(|(&sds, here)| present(here, |ty| is_wanted(schema, ty)).into_iter().map(move |ty| (sds, ty)));
+    let (sds, ty) = random.pick(&all.collect::<Vec<_>>())?;
+    let types = schema.with_reverse(ty);
+    let here = schema.sdss.get_mut(&sds)?;
+    let modes = here.modes_of(ty)?;
+    Some((here, types, modes))
+}
+
+fn is_paired(schema: &Schema, ty: usize) -> bool {
+    schema.reverse(ty).is_some()
+}
+
+/// A known set that is another, at times by one mode.
+fn other_set(random: &mut Random, set: usize) -> usize {
+    match random.below(2) {
+        0 => set ^ 1 << random.below(5),
+        _ => (set + 1 + random.below(Modes::FIVE)) % (Modes::FIVE + 1),
+    }
+}
+
+fn other_modes(random: &mut Random, modes: Modes) -> Modes {
+    let Modes { usage, definition } = modes;
+    match random.below(3) {
+        0 => Modes { usage: other_set(random, usage), ..modes },
+        1 => Modes { definition: other_set(random, definition), ..modes },
+        _ => Modes { usage: other_set(random, usage), definition: other_set(random, definition) },
+    }
+}
+
+fn unknown_set(random: &mut Random) -> usize {
+    match random.below(4) {
+        0 => Modes::FIVE + 1,
+        1 => 1 << (5 + random.below(3)) | Modes::FIVE,
+        2 => 255,
+        _ => Modes::FIVE + 1 + random.below(255 - Modes::FIVE),
+    }
+}
+
+/// Of a pair both, so that nothing else is wrong.
+fn unknown_usage(random: &mut Random, schema: &mut Schema) {
+    let usage = unknown_set(random);
+    if let Some((here, types, modes)) = presence_where(random, schema, |_, _| true) {
+        here.set_modes(&types, Modes { usage, ..modes });
+    }
+}
+
+fn unknown_definition(random: &mut Random, schema: &mut Schema) {
+    let definition = unknown_set(random);
+    if let Some((here, types, modes)) = presence_where(random, schema, |_, _| true) {
+        here.set_modes(&types, Modes { definition, ..modes });
+    }
+}
+
+fn pair_of_two_usages(random: &mut Random, schema: &mut Schema) {
+    if let Some((here, types, modes)) = presence_where(random, schema, is_paired) {
+        here.set_modes(&types[..1], Modes { usage: other_set(random, modes.usage), ..modes });
+    }
+}
+
+fn pair_of_two_definitions(random: &mut Random, schema: &mut Schema) {
+    if let Some((here, types, modes)) = presence_where(random, schema, is_paired) {
+        here.set_modes(&types[..1], Modes { definition: other_set(random, modes.definition), ..modes });
+    }
+}
+
+fn modes_of_sds_0(random: &mut Random, schema: &mut Schema) {
+    let modes = other_modes(random, Modes::ALL);
+    schema.sdss.get_mut(&0).expect("a used SDS").set_modes(&[0], modes);
+}
+
+/// The base stays sound.
+fn modes_of_a_lone_type(random: &mut Random, schema: &mut Schema) {
+    if let Some((here, types, modes)) = presence_where(random, schema, |schema, ty| !is_paired(schema, ty)) {
+        here.set_modes(&types, other_modes(random, modes));
+    }
+}
+
+/// The base stays sound.
+fn modes_of_a_pair(random: &mut Random, schema: &mut Schema) {
+    if let Some((here, types, modes)) = presence_where(random, schema, is_paired) {
+        here.set_modes(&types, other_modes(random, modes));
+    }
+}
+
+/// Another schema, sound and with all modes: SDSs that share many pairs, and some attribute types. In an SDS the rows of
+/// a pair are neighbours, as far from each other as can be, or anywhere.
+fn many_pairs(random: &mut Random) -> Schema {
+    let mut s = Schema::fresh();
+    let (pairs, attributes) = (2 + random.below(24), random.below(8));
+    let mut numbers = random.shuffled((1..Schema::TYPES).collect()).into_iter();
+    let mut groups: Vec<Vec<usize>> = (0..pairs).map(|_| numbers.by_ref().take(2).collect()).collect();
+    groups.extend(numbers.take(attributes).map(|ty| vec![ty]));
+    for group in &groups {
+        match group[..] {
+            [ty, reverse] => {
+                s.types.insert(ty, Type::Link { category: 0, reverse: Some(reverse) });
+                s.types.insert(reverse, Type::Link { category: 0, reverse: Some(ty) });
+            }
+            _ => _ = s.types.insert(group[0], Type::Attribute { value_kind: 0 }),
+        }
+    }
+    let sdss: Vec<usize> = random.shuffled((1..Schema::SDSS).collect());
+    let count = 2 + random.below(5);
+    for (place, &sds) in sdss[..count].iter().enumerate() {
+        let mut here = Sds::named(format!("sds{sds}").as_bytes());
+        let order = random.below(3);
+        for (n, group) in groups.iter().enumerate() {
+            // Two hold every type, so that each pair is shared.
+            if place > 1 && random.one_in(3) {
+                continue;
+            }
+            let names = match order {
+                0 => [format!("p{n:02}a"), format!("p{n:02}b")],
+                1 => [format!("a{n:02}"), format!("z{:02}", 99 - n)],
+                _ => ["a", "b"].map(|last| format!("p{:04}_{n}{last}", random.below(10_000))),
+            };
+            let types = random.shuffled(group.clone());
+            here.presences.extend(names.map(Name::new).into_iter().zip(types.into_iter().map(Presence::of)));
+        }
+        s.sdss.insert(sds, here);
+    }
+    s
+}
+
+/// One of a pair in one SDS has fewer modes; all others are there.
+fn one_pair_of_many(random: &mut Random, schema: &mut Schema) {
+    *schema = many_pairs(random);
+    if let Some((here, types, modes)) = presence_where(random, schema, is_paired) {
+        here.set_modes(&types[..1], other_modes(random, modes));
+    }
+}
+
+/// The usage of the one is the definition of the other.
+fn pair_with_its_sets_turned(random: &mut Random, schema: &mut Schema) {
+    *schema = many_pairs(random);
+    if let Some((here, types, _)) = presence_where(random, schema, is_paired) {
+        let usage = random.below(Modes::FIVE + 1);
+        let definition = other_set(random, usage);
+        here.set_modes(&types[..1], Modes { usage, definition });
+        here.set_modes(&types[1..], Modes { usage: definition, definition: usage });
+    }
+}
+
+/// In an SDS two pairs have exchanged the modes of one of each: all modes are there as often as they should be.
+fn two_pairs_crossed(random: &mut Random, schema: &mut Schema) {
+    *schema = many_pairs(random);
+    let pairs = types_where(schema, |ty| schema.reverse(ty).is_some_and(|reverse| ty < reverse));
+    let reverses: Vec<usize> = pairs.iter().filter_map(|&ty| schema.reverse(ty)).collect();
+    if let Some(here) = sds_where(random, schema, |sds| pairs.iter().all(|&ty| sds.holds(ty))) {
+        let (one, step) = (random.below(pairs.len()), 1 + random.below(pairs.len() - 1));
+        let other = (one + step) % pairs.len();
+        let modes = modes::any(random);
+        let others = other_modes(random, modes);
+        here.set_modes(&[pairs[one], reverses[other]], modes);
+        here.set_modes(&[reverses[one], pairs[other]], others);
+    }
+}
+
+/// A pair that several SDSs hold gets in each of them modes that it has in no other. Gives the types of the pair.
+fn otherwise_in_each_sds(random: &mut Random, schema: &mut Schema) -> Vec<usize> {
+    let paired = types_where(schema, |ty| is_paired(schema, ty));
+    let types = schema.with_reverse(random.pick(&paired).expect("there are many"));
+    let first = random.below(Modes::FIVE + 1);
+    for (place, (_, here)) in schema.sdss.range_mut(1..).enumerate() {
+        let usage = (first + place) % (Modes::FIVE + 1);
+        here.set_modes(&types, Modes { usage, definition: random.below(Modes::FIVE + 1) });
+    }
+    types
+}
+
+/// The base stays sound.
+fn pair_otherwise_in_each_sds(random: &mut Random, schema: &mut Schema) {
+    *schema = many_pairs(random);
+    otherwise_in_each_sds(random, schema);
+}
+
+/// The same, but that in one SDS one of the pair has the modes that both have in another. At times it has them exchanged,
+/// so that over all SDSs it has those that its reverse has.
+fn one_of_a_pair_as_elsewhere(random: &mut Random, schema: &mut Schema) {
+    *schema = many_pairs(random);
+    let types = otherwise_in_each_sds(random, schema);
+    let held = schema.sdss.iter().filter(|(_, sds)| sds.holds(types[0])).map(|(&sds, _)| sds).collect();
+    let [one, other] = random.shuffled(held)[..2] else { return };
+    let modes = [one, other].map(|sds| schema.sdss[&sds].modes_of(types[0]).expect("it is held"));
+    let changed = if random.one_in(2) { vec![(one, modes[1])] } else { vec![(one, modes[1]), (other, modes[0])] };
+    for (sds, modes) in changed {
+        schema.sdss.get_mut(&sds).expect("a used SDS").set_modes(&types[..1], modes);
     }
 }
 

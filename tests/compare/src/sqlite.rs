@@ -72,8 +72,8 @@ fn rows(schema: &Schema, list: &[u8]) -> String {
         }
     }
     for (number, sds) in &schema.sdss {
-        for (name, ty) in &sds.presences {
-            insert("presence", format!("{number}, '{}', {ty}", name.escape_ascii()));
+        for (name, present) in &sds.presences {
+            insert("presence", format!("{number}, '{}', {}", name.escape_ascii(), present.ty));
         }
         for application in &sds.applications {
             insert("application", format!("{number}, {}, {}", application.to, application.attribute));

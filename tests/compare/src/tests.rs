@@ -5,14 +5,15 @@
 use crate::base::{from_bytes, is_sound, to_bytes, APPLICATIONS, ENDS, LENGTH, PRESENCES, SDSS, TYPES};
 use crate::calls::{apply as keep, Call, CALLS, TELLING};
 use crate::cases::printed;
-use crate::coverage::Counts;
+use crate::coverage::{Counts, Traits};
 use crate::joins;
+use crate::modes::{self, Gone};
 use crate::random::{free_places, Mode, Random};
 use crate::removals::{self, traits};
 use crate::run::Run;
-use crate::schema::{is_name, is_same, Application, End, Name, Schema, Sds, Side, Type};
+use crate::schema::{is_name, is_same, Application, End, Modes, Name, Presence, Schema, Sds, Side, Type};
 use crate::spellings;
-use crate::spoil::{spoiled, SPELLINGS, WAYS};
+use crate::spoil::{spoiled, EXPECTED, WAYS};
 use std::collections::BTreeSet;
 
 // Calls, as short as they can be written.
@@ -78,6 +79,10 @@ fn rename(sds: usize, name: &str, new_name: &str) -> Call {
     Call::Rename { sds, name: name.into(), new_name: new_name.into() }
 }
 
+fn set_modes(sds: usize, name: &str, usage: usize, definition: usize) -> Call {
+    Call::SetModes { sds, name: name.into(), usage, definition }
+}
+
 fn scan_object(schema: &[u8], ty: usize, code: usize) -> Call {
     Call::ScanObject { schema: schema.to_vec(), ty, code }
 }
@@ -104,6 +109,10 @@ fn name(sds: usize, ty: usize) -> Call {
 
 fn descendant_set(schema: &[u8], ty: usize) -> Call {
     Call::DescendantSet { schema: schema.to_vec(), ty }
+}
+
+fn modes(schema: &[u8], ty: usize) -> Call {
+    Call::Modes { schema: schema.to_vec(), ty }
 }
 
 /// A base to call on.
@@ -301,6 +310,17 @@ fn refused_calls() -> Vec<(usize, Call)> {
         (4, rename(1, "", "unit")),
         (6, rename(1, "nope", "unit")),
         (11, rename(1, "part", "unit")),
+        (2, set_modes(16, "0", 32, 32)),
+        (2, set_modes(4, "unit", 0, 0)),
+        (3, set_modes(0, "0", 32, 32)),
+        (3, set_modes(0, "object", 31, 31)),
+        (4, set_modes(1, "0", 32, 32)),
+        (4, set_modes(1, "", 31, 31)),
+        (19, set_modes(1, "nope", 32, 0)),
+        (19, set_modes(1, "nope", 0, 32)),
+        (19, set_modes(1, "unit", 32, 32)),
+        (6, set_modes(1, "nope", 31, 31)),
+        (6, set_modes(2, "part", 0, 0)),
         (2, scan_object(&[1, 1, 4], 128, 10)),
         (2, scan_object(&[16], 128, 10)),
         (5, scan_object(&[1, 1], 128, 10)),
@@ -352,6 +372,13 @@ fn refused_calls() -> Vec<(usize, Call)> {
         (7, descendant_set(&[1, 1], SIZE)),
         (8, descendant_set(&[1, 1], UNIT)),
         (6, descendant_set(&[], SIZE)),
+        (2, modes(&[1, 1, 16], 128)),
+        (2, modes(&[1, 4], UNIT)),
+        (6, modes(&[1, 1], 128)),
+        (6, modes(&[2, 2], HAS)),
+        (6, modes(&[], UNIT)),
+        (8, modes(&[1, 2, 1], SIZE)),
+        (8, modes(&[1; 17], 0)),
     ]
 }
 
@@ -490,7 +517,7 @@ fn every_refusal_of_every_call() {
         }
     }
     let known = |index: usize| CALLS[index].refusals.iter().map(move |&number| (index, number));
-    assert!(seen.into_iter().eq((0..CALLS.len()).flat_map(known)));
+    assert_eq!(seen, (0..CALLS.len()).flat_map(known).collect());
 }
 
 #[test]
@@ -523,6 +550,7 @@ fn numbers_are_tested_at_full_width() {
             remove_type(1 + over, "part"),
             rename(1 + over, "part", "part"),
             name(1 + over, UNIT),
+            set_modes(1 + over, "unit", 1, 1),
         ] {
             assert_eq!(lent.number(&call), 2, "{call:?}");
         }
@@ -542,8 +570,12 @@ fn numbers_are_tested_at_full_width() {
             depth(&[1], UNIT + over),
             name(1, UNIT + over),
             descendant_set(&[1], UNIT + over),
+            modes(&[1], UNIT + over),
         ] {
             assert_eq!(lent.number(&call), 6, "{call:?}");
+        }
+        for call in [set_modes(1, "unit", 1 + over, 1), set_modes(1, "unit", 1, 1 + over)] {
+            assert_eq!(lent.number(&call), 19, "{call:?}");
         }
     }
 }
@@ -1087,6 +1119,7 @@ fn empty_list_shows_nothing() {
     let mut lent = scanned_base();
     for (list, number) in [(&[0, 1, 2][..], 0), (&[], 6)] {
         let mut questions = vec![profile(list, 4), find(list, "low"), depth(list, 4), descendant_set(list, 1)];
+        questions.extend((0..10).map(|ty| modes(list, ty)));
         questions.extend((0..10).map(|code| scan_object(list, 4, code)));
         questions.extend((0..5).map(|code| scan_link(list, 7, code)));
         for question in questions {
@@ -1148,7 +1181,7 @@ fn which_names_are_the_same() {
 #[test]
 fn every_drawn_schema_is_sound() {
     let mut random = Random::new(1);
-    for draw in [removals::draw, spellings::draw, joins::draw] {
+    for draw in [removals::draw, spellings::draw, modes::draw, joins::draw] {
         for s in (0..200).map(|_| draw(&mut random)) {
             assert!(is_sound(&to_bytes(&s)));
         }
@@ -1322,8 +1355,9 @@ fn traits_of_a_spelling() {
     let mut has_traits = |call: Call, expected: &[&str]| {
         let before = from_bytes(&lent.0).unwrap();
         let no = lent.number(&call);
-        let traits = spellings::traits(&before, &call).into_iter().filter(|spelt| spelt.numbers.contains(&no));
-        assert_eq!(traits.map(|spelt| spelt.what).collect::<Vec<_>>(), expected, "{call:?}");
+        let mut traits = Traits::of(&call);
+        spellings::add_traits(&mut traits, &before, &call);
+        assert_eq!(traits.answered([no, 0, 0, 0]).collect::<Vec<_>>(), expected, "{call:?}");
     };
     has_traits(new_sds("System"), &["new_sds 11", "new_sds 11, SDS 0"]);
     has_traits(new_sds("system"), &[]);
@@ -1349,16 +1383,195 @@ fn traits_of_a_spelling() {
     has_traits(new_attribute(1, "s_", 0), &["new_attribute 0, elsewhere by bytes", "elsewhere by capitals"]);
 }
 
+// Modes (02, Q-2).
+
+/// Sets on both sides of 31; which of the two is at fault doesn't matter.
+#[test]
+fn edges_of_a_set() {
+    for usage in 0..300 {
+        for definition in [0, 1, 31, 32, 255, 256] {
+            let is_known = usage <= 31 && definition <= 31;
+            let mut lent = some_base();
+            assert_eq!(lent.number(&set_modes(1, "unit", usage, definition)), if is_known { 0 } else { 19 });
+            let expected = if is_known { [0, usage, definition, 0] } else { [0, 31, 31, 0] };
+            assert_eq!(lent.call(&modes(&[1], UNIT)), expected);
+        }
+    }
+    for over in [257, (1 << 32) + 1, usize::MAX] {
+        assert_eq!(some_base().number(&set_modes(1, "unit", over, 1)), 19);
+        assert_eq!(some_base().number(&set_modes(1, "unit", 1, over)), 19);
+    }
+}
+
+/// What is made, by each call, and what a fresh base holds.
+#[test]
+fn made_with_all_modes() {
+    let mut lent = some_base();
+    assert_eq!(lent.call(&modes(&[0], 0)), [0, 31, 31, 0]);
+    for ty in 0..=6 {
+        assert_eq!(lent.call(&modes(&[1], ty)), [0, 31, 31, 0]);
+    }
+}
+
+/// In one SDS alone; nothing of the base but bytes 18 and 19 of the row is another.
+#[test]
+fn modes_are_set() {
+    let mut lent = some_base();
+    let mut expected = lent.0.clone();
+    for (sds, name_given, ty, row) in
+        [(1, "Object", 0, 2), (1, "part", PART, 4), (1, "SEES", 4, 5), (1, "size", SIZE, 6), (2, "unit", SIZE, 9)]
+    {
+        for (usage, definition) in [(0, 0), (31, 31), (1, 2), (16, 0), (0, 8), (5, 26)] {
+            assert_eq!(lent.call(&set_modes(sds, name_given, usage, definition)), [0; 4]);
+            expected[PRESENCES.start + row * PRESENCES.width + 18..][..2]
+                .copy_from_slice(&[usage as u8, definition as u8]);
+            assert!(lent.0 == expected, "{name_given}");
+            assert_eq!(lent.call(&modes(&[sds as u8], ty)), [0, usage, definition, 0]);
+        }
+    }
+    // Type 0 and size are elsewhere too.
+    assert_eq!(lent.call(&modes(&[0], 0)), [0, 31, 31, 0]);
+    assert_eq!(lent.call(&modes(&[2], 0)), [0, 31, 31, 0]);
+}
+
+/// By either name, and asked by both.
+#[test]
+fn modes_of_a_pair() {
+    let mut lent = some_base();
+    lent.done(&import(2, 1, "has", "", ""));
+    for (sds, given, usage, definition) in [(1, "has", 1, 2), (1, "of", 4, 0), (2, "OF", 31, 8), (2, "Has", 0, 31)]
+    {
+        let elsewhere = lent.call(&modes(&[3 - sds as u8], HAS));
+        lent.done(&set_modes(sds, given, usage, definition));
+        for ty in [HAS, 6] {
+            assert_eq!(lent.call(&modes(&[sds as u8], ty)), [0, usage, definition, 0]);
+            assert_eq!(lent.call(&modes(&[3 - sds as u8], ty)), elsewhere);
+        }
+    }
+    assert_eq!(lent.call(&modes(&[1, 2], 6)), [0, 4, 31, 0]);
+}
+
+#[test]
+fn modes_are_the_union_of_those_listed() {
+    let mut lent = some_base();
+    lent.done(&set_modes(1, "size", 1 | 4, 0));
+    lent.done(&set_modes(2, "unit", 4 | 8, 16));
+    for (list, expected) in [
+        (&[1][..], [0, 5, 0, 0]),
+        (&[2], [0, 12, 16, 0]),
+        (&[1, 2], [0, 13, 16, 0]),
+        (&[2, 1], [0, 13, 16, 0]),
+        (&[3, 2, 0], [0, 12, 16, 0]),
+        (&[0, 1, 2, 3], [0, 13, 16, 0]),
+        (&[0, 3], [6, 0, 0, 0]),
+        (&[], [6, 0, 0, 0]),
+        (&[1, 1], [8, 0, 0, 0]),
+        (&[3, 3], [6, 0, 0, 0]),
+        (&[1, 2, 4], [2, 0, 0, 0]),
+    ] {
+        assert_eq!(lent.call(&modes(list, SIZE)), expected, "{list:?}");
+    }
+    lent.done(&set_modes(1, "size", 0, 0));
+    assert_eq!(lent.call(&modes(&[1], SIZE)), [0; 4]);
+}
+
+#[test]
+fn modes_kept_by_a_rename() {
+    let mut lent = some_base();
+    lent.done(&set_modes(1, "unit", 3, 24));
+    lent.done(&set_modes(1, "of", 0, 1));
+    for renamed in [rename(1, "unit", "a"), rename(1, "A", "zz"), rename(1, "zz", "ZZ"), rename(1, "has", "x")] {
+        lent.done(&renamed);
+        assert_eq!(lent.call(&modes(&[1], UNIT)), [0, 3, 24, 0]);
+        assert_eq!(lent.call(&modes(&[1], HAS)), [0, 0, 1, 0]);
+        assert_eq!(lent.call(&modes(&[1], PART)), [0, 31, 31, 0]);
+    }
+}
+
+/// Whatever the source has, and whatever there was before.
+#[test]
+fn imported_with_all_modes() {
+    let mut lent = some_base();
+    lent.done(&unapply_link(1, "has", "unit"));
+    for fewer in [set_modes(1, "unit", 0, 4), set_modes(1, "has", 1, 0), set_modes(1, "sees", 0, 0)] {
+        lent.done(&fewer);
+    }
+    for imported in [import(2, 1, "unit", "u", ""), import(2, 1, "of", "", ""), import(2, 1, "sees", "", "")] {
+        lent.done(&imported);
+    }
+    for ty in [UNIT, HAS, 6, 4] {
+        assert_eq!(lent.call(&modes(&[2], ty)), [0, 31, 31, 0]);
+    }
+    assert_eq!(lent.call(&modes(&[1], 6)), [0, 1, 0, 0]);
+    for call in
+        [remove_type(1, "of"), import(1, 2, "has", "", ""), remove_type(1, "sees"), import(1, 2, "sees", "", "")]
+    {
+        lent.done(&call);
+    }
+    for ty in [HAS, 6, 4] {
+        assert_eq!(lent.call(&modes(&[1], ty)), [0, 31, 31, 0]);
+    }
+    assert_eq!(lent.call(&modes(&[1], UNIT)), [0, 0, 4, 0]);
+}
+
+#[test]
+fn traits_of_modes() {
+    let (mut lent, mut gone) = (some_base(), Gone::default());
+    let mut has_traits = |call: Call, expected: &[&str]| {
+        let before = from_bytes(&lent.0).unwrap();
+        let (mut traits, going) = (Traits::of(&call), Gone::going(&before, &call));
+        modes::add_traits(&mut traits, &before, &gone, &call);
+        let answer = lent.call(&call);
+        if answer[0] == 0 && !call.asks() {
+            gone.keep(&from_bytes(&lent.0).unwrap(), going);
+        }
+        let name = CALLS[call.index()].name;
+        let expected: Vec<String> = expected.iter().map(|what| format!("{name} {what}")).collect();
+        assert_eq!(traits.answered(answer).collect::<Vec<_>>(), expected, "{call:?}");
+    };
+    has_traits(set_modes(16, "unit", 0, 0), &["2"]);
+    has_traits(set_modes(0, "unit", 0, 32), &["3", "3, before 19"]);
+    has_traits(set_modes(1, "0", 32, 32), &["4", "4, before 19"]);
+    has_traits(set_modes(1, "unit", 32, 0), &["19", "19, by usage alone", "19, by 32"]);
+    let by_high_bytes = "19, by its high bytes alone";
+    has_traits(set_modes(1, "u", 0, 257), &["19", "19, by definition alone", by_high_bytes, "19, before 6"]);
+    has_traits(set_modes(1, "thing", 0, 31), &["6", "6, borne in another SDS"]);
+    has_traits(set_modes(1, "part", 31, 31), &["0", "0, an object type", "0, to what it was"]);
+    let pair = ["0", "0, a pair by its reverse name", "0, a pair in rows apart"];
+    has_traits(set_modes(1, "of", 4, 31), &[&pair[..], &["0, usage alone"]].concat());
+    let empty = ["0", "0, an attribute type", "0, to the empty set", "0, to both empty", "0, not in another SDS"];
+    has_traits(set_modes(2, "unit", 0, 0), &empty);
+    has_traits(modes(&[], UNIT), &["6", "6, an empty list"]);
+    has_traits(modes(&[2, 2], UNIT), &["6", "6, in SDSs not listed", "6, before 8"]);
+    has_traits(modes(&[1, 1], UNIT), &["8"]);
+    let more = ["0, both empty", "0, in one of several listed", "0, more in an SDS not listed"];
+    has_traits(modes(&[2, 3], SIZE), &[&["0", "0, an attribute type"], &more[..]].concat());
+    let more = ["0, in two or more listed", "0, more than the first listed"];
+    has_traits(modes(&[2, 1], SIZE), &[&["0", "0, an attribute type"], &more[..]].concat());
+    has_traits(set_modes(1, "size", 1, 2), &["0", "0, an attribute type", "0, not in another SDS"]);
+    has_traits(set_modes(2, "unit", 2, 2), &["0", "0, an attribute type", "0, not in another SDS"]);
+    let more = ["0, in two or more listed", "0, a usage more than each", "0, more than the first listed"];
+    has_traits(modes(&[2, 1], SIZE), &[&["0", "0, an attribute type"], &more[..]].concat());
+    has_traits(import(3, 1, "has", "", ""), &["0, of fewer", "0, of a pair of fewer"]);
+    has_traits(rename(1, "has", "hat"), &["0, of fewer", "0, of one of a pair of fewer"]);
+    has_traits(rename(2, "unit", "a"), &["0, of fewer", "0, of fewer, to another row"]);
+    has_traits(remove_type(2, "a"), &["0, of fewer"]);
+    has_traits(import(2, 1, "size", "", ""), &["0, of fewer", "0, where there were fewer"]);
+    has_traits(remove_type(2, "size"), &[]);
+    has_traits(import(2, 1, "size", "", ""), &["0, of fewer"]);
+}
+
 // The base in bytes.
 
 #[test]
 fn layout() {
     let starts = [SDSS, TYPES, PRESENCES, APPLICATIONS, ENDS].map(|table| table.start);
-    assert_eq!((starts, LENGTH), ([0, 256, 1280, 10496, 11264], 13312));
+    assert_eq!((starts, LENGTH), ([0, 256, 1280, 11520, 12288], 14336));
     let mut fresh = vec![0; LENGTH];
     fresh[..6].copy_from_slice(b"system");
     fresh[256] = 1;
     fresh[1281..1287].copy_from_slice(b"object");
+    fresh[1298..1300].copy_from_slice(&[31, 31]);
     assert!(Lent::fresh().0 == fresh);
 
     let base = some_base().0;
@@ -1378,6 +1591,7 @@ fn layout() {
     assert!(names.eq(expected.map(str::as_bytes)));
     assert!(presences.iter().map(|row| row.0).eq([0, 1, 1, 1, 1, 1, 1, 1, 2, 2, 0]));
     assert!(presences.iter().map(|row| row.2).eq([0, 5, 0, 6, 2, 4, 3, 1, 0, 3, 0]));
+    assert!(PRESENCES.rows(&base).map(|row| &row[18..]).eq([[31; 2]; 10].into_iter().chain([[0; 2]; 502])));
     assert!(APPLICATIONS.rows(&base).take(2).eq([&[1, 1, 3][..], &[0, 0, 0]]));
     assert!(ENDS.rows(&base).take(3).eq([&[1, 5, 0, 1][..], &[1, 6, 1, 1], &[0, 0, 0, 0]]));
 }
@@ -1404,33 +1618,45 @@ fn each_sentence_of_soundness() {
     assert!(is_sound_after(|s| one(s).name = Name::new("ONE")));
     assert!(is_sound_after(|s| {
         one(s).presences.remove(&Name::new("part"));
-        one(s).presences.insert(Name::new("paRt"), PART);
+        one(s).presences.insert(Name::new("paRt"), Presence::of(PART));
     }));
-    let faults: [fn(&mut Schema); 48] = [
+    // Other modes are none, where a pair has the same; in each SDS they may be others.
+    assert!(is_sound_after(|s| one(s).set_modes(&[0, UNIT, SIZE, 4], Modes::NONE)));
+    assert!(is_sound_after(|s| one(s).set_modes(&[HAS, 6], Modes { usage: 0, definition: 31 })));
+    let faults: [fn(&mut Schema); 57] = [
+        |s| s.sdss.get_mut(&0).unwrap().set_modes(&[0], Modes { usage: 30, ..Modes::ALL }),
+        |s| s.sdss.get_mut(&0).unwrap().set_modes(&[0], Modes { definition: 15, ..Modes::ALL }),
+        |s| one(s).set_modes(&[UNIT], Modes { usage: 32, ..Modes::ALL }),
+        |s| one(s).set_modes(&[UNIT], Modes { definition: 32, ..Modes::ALL }),
+        |s| one(s).set_modes(&[HAS, 6], Modes { usage: 255, ..Modes::ALL }),
+        |s| one(s).set_modes(&[HAS], Modes { usage: 30, ..Modes::ALL }),
+        |s| one(s).set_modes(&[HAS], Modes { definition: 30, ..Modes::ALL }),
+        |s| one(s).set_modes(&[6], Modes { usage: 15, ..Modes::ALL }),
+        |s| one(s).set_modes(&[6], Modes { definition: 0, ..Modes::ALL }),
         |s| one(s).name = Name::new("two"),
         |s| one(s).name = Name::new("twO"),
         |s| one(s).name = Name::new("System"),
         |s| {
             one(s).presences.remove(&Name::new("part"));
-            one(s).presences.insert(Name::new("Unit"), PART);
+            one(s).presences.insert(Name::new("Unit"), Presence::of(PART));
         },
         |s| {
             one(s).presences.remove(&Name::new("part"));
-            one(s).presences.insert(Name::new("uniT"), PART);
+            one(s).presences.insert(Name::new("uniT"), Presence::of(PART));
         },
         |s| s.sdss.get_mut(&0).unwrap().name = Name::new("System"),
-        |s| s.sdss.get_mut(&0).unwrap().presences = [(Name::new("Object"), 0)].into(),
+        |s| s.sdss.get_mut(&0).unwrap().presences = [(Name::new("Object"), Presence::of(0))].into(),
         |s| one(s).name = Name::new("o ne"),
         |s| {
             one(s).presences.remove(&Name::new("part"));
-            one(s).presences.insert(Name::new("pa rt"), PART);
+            one(s).presences.insert(Name::new("pa rt"), Presence::of(PART));
         },
-        |s| _ = one(s).presences.insert(Name::new("again"), SIZE),
-        |s| _ = one(s).presences.insert(Name::new("unused"), 7),
-        |s| _ = one(s).presences.insert(Name::new("unused"), 128),
-        |s| _ = s.sdss.get_mut(&0).unwrap().presences.insert(Name::new("size"), SIZE),
+        |s| _ = one(s).presences.insert(Name::new("again"), Presence::of(SIZE)),
+        |s| _ = one(s).presences.insert(Name::new("unused"), Presence::of(7)),
+        |s| _ = one(s).presences.insert(Name::new("unused"), Presence::of(128)),
+        |s| _ = s.sdss.get_mut(&0).unwrap().presences.insert(Name::new("size"), Presence::of(SIZE)),
         |s| s.sdss.get_mut(&0).unwrap().name = Name::new("systems"),
-        |s| s.sdss.get_mut(&0).unwrap().presences = [(Name::new("thing"), 0)].into(),
+        |s| s.sdss.get_mut(&0).unwrap().presences = [(Name::new("thing"), Presence::of(0))].into(),
         |s| _ = s.sdss.remove(&0),
         |s| _ = s.types.insert(0, Type::Attribute { value_kind: 0 }),
         |s| _ = s.types.insert(0, object(&[UNIT])),
@@ -1496,6 +1722,12 @@ fn each_rule_of_the_layout() {
     // Rows that are not rising, and rows behind a gap.
     assert!(!spoilt(presence(1) + 1, b"p\0\0"));
     assert!(!spoilt(presence(11) + 17, &[1]));
+    // Modes, and some of an unused row.
+    assert!(spoilt(presence(5) + 18, &[0, 31]));
+    assert!(!spoilt(presence(5) + 18, &[32, 31]));
+    assert!(!spoilt(presence(5) + 18, &[0, 32]));
+    assert!(!spoilt(presence(10) + 18, &[31]));
+    assert!(!spoilt(presence(511) + 19, &[1]));
     assert!(!spoilt(ENDS.start, &[1, 6, 1, 1, 1, 5, 0, 1]));
     assert!(!spoilt(ENDS.start + 4, &[1, 5, 0, 1]));
     assert!(!spoilt(ENDS.start + 8, &[0, 0, 0, 0, 1, 6, 1, 2]));
@@ -1511,7 +1743,7 @@ fn each_rule_of_the_layout() {
 fn every_way_of_spoiling() {
     let mut random = Random::new(1);
     let base = scanned_base().0;
-    for (name, way) in WAYS.iter().filter(|(name, _)| SPELLINGS.iter().all(|(spelling, _)| spelling != name)) {
+    for (name, way) in WAYS.iter().filter(|(name, _)| EXPECTED.iter().all(|(expected, _)| expected != name)) {
         let bases = (0..200).map(|_| spoiled(way, &mut random, &base));
         assert!(bases.filter(|spoiled| !is_sound(spoiled)).count() > 40, "{name}");
     }
@@ -1519,13 +1751,13 @@ fn every_way_of_spoiling() {
 
 /// Where there is something to spoil, a base stays sound or it doesn't, always.
 #[test]
-fn every_way_of_spoiling_spellings() {
+fn every_way_of_spoiling_spellings_or_modes() {
     let mut random = Random::new(1);
-    for (name, stays_sound) in SPELLINGS {
+    for (name, stays_sound) in EXPECTED {
         let (_, way) = WAYS.iter().find(|(way, _)| *way == name).expect("a way");
         let mut changed = 0;
         for _ in 0..200 {
-            let base = to_bytes(&spellings::draw(&mut random));
+            let base = to_bytes(&modes::draw(&mut random));
             let spoiled = spoiled(way, &mut random, &base);
             changed += usize::from(spoiled != base);
             assert_eq!(is_sound(&spoiled), stays_sound || spoiled == base, "{name}");
@@ -1555,6 +1787,9 @@ fn lines_of_the_cases() {
         ("remove_sds 1A", " = 2 0 0 0"),
         ("remove_sds 100000000000000000000001", " = 2 0 0 0"),
         ("depth G 0", " = 2 0 0 0"),
+        ("set_modes 1 unit 7", " = 0 0 0 0"),
+        ("modes 1 1", " = 0 7 0 0"),
+        ("set_modes 1 unit 4294967297 1", " = 19 0 0 0"),
         ("scan_object 1 0 1", " = 15 0 0 0"),
         ("scan_object 1 0 1 9999", " = 0 1 0 0 : 1"),
         ("output 2", " : 1 0"),
@@ -1563,9 +1798,9 @@ fn lines_of_the_cases() {
     ];
     let stdin = lines.map(|(line, _)| line).join("\n");
     let stdout = lines.map(|(line, behind)| format!("{line}{behind}\n")).concat();
-    assert_eq!(printed(stdin.as_bytes()), (stdout.clone().into_bytes(), 16));
+    assert_eq!(printed(stdin.as_bytes()), (stdout.clone().into_bytes(), 19));
     // Of a longer line no more is printed.
-    assert_eq!(printed((stdin + "aa\n").as_bytes()), (stdout.into_bytes(), 16));
+    assert_eq!(printed((stdin + "aa\n").as_bytes()), (stdout.into_bytes(), 19));
 }
 
 /// A run in each mode finds no fault. Where a table is to be full, it has none, one and two places left. Every code is
@@ -1596,8 +1831,8 @@ fn a_short_run() {
     // Codes known and unknown, lists and outputs.
     let kinds = asked.keys().map(|what| what.split(' ').next().unwrap_or_default());
     let count = |kind: &str| kinds.clone().filter(|found| *found == kind).count();
-    assert_eq!([count("scan_object,"), count("scan_link,"), count("output"), count("no")], [11, 7, 7, 9]);
-    assert_eq!(asked.len(), 11 + 7 + 7 + 9 + 6);
+    assert_eq!([count("scan_object,"), count("scan_link,"), count("output"), count("no")], [11, 7, 7, 10]);
+    assert_eq!(asked.len(), 11 + 7 + 7 + 10 + 6);
 }
 
 /// What was asked too seldom under an empty list is named.

@@ -5,7 +5,7 @@ use native.Mathlib.Omega.{arith}
 use mathlib.Core.Path.{sym, ap, _∙_}
 use mathlib.Core.Bool.{true≢false}
 use lib.ListN.{length}
-use borrow.Author.Tests.{not-true, not-false, ltb-true, ltb-false}
+use borrow.Author.Tests.{not-true, not-false, leb-true, leb-false}
 use Rattle.rules.specs.02-Limits.{limits}
 use Rattle.rules.specs.Read.{name-offset}
 use Rattle.name_fields.specs.Field.{name-field}
@@ -33,14 +33,33 @@ presence-type-requires : tie.Need-presence-type-requires
 presence-type-requires c κs = search needs
 
 returns-2 : tie.Need-returns-2
-returns-2 c =
-    let type = c .presence-type in record {
+returns-2 c = decides-no (λ q. omega (arith, c .before .presence-type .ensures .is, q .small, c .if2 .taken))
+
+presence-usage-requires : tie.Need-presence-usage-requires
+presence-usage-requires c κs = search needs
+
+returns-3 : tie.Need-returns-3
+returns-3 c = decides-no (λ q. omega (arith, c .before .presence-usage .ensures .is, q .known .usage, c .if3 .taken))
+
+presence-definition-requires : tie.Need-presence-definition-requires
+presence-definition-requires c κs = search needs
+
+returns-4 : tie.Need-returns-4
+returns-4 c =
+    let definition = c .presence-definition in
+    let usage = c .before .before .presence-usage in
+    let named = c .before .before .before .before .before in
+    let type = c .before .before .before .before .presence-type in record {
       holds = λ e. record {
-        named = ap name-field (sym (c .before .before .before .presence-field .ensures)) ∙ sym (c .before .before .is-name-field .ensures)
-            ∙ not-false _ (c .before .if1 .left);
-        small = omega (arith, type .ensures .is, ltb-true (type .result) 128 e);
+        named = ap name-field (sym (named .before .before .presence-field .ensures)) ∙ sym (named .before .is-name-field .ensures)
+            ∙ not-false _ (named .if1 .left);
+        small = omega (arith, type .ensures .is, c .before .before .before .if2 .left);
+        known = record {
+          usage = omega (arith, usage .ensures .is, c .before .if3 .left);
+          definition = omega (arith, definition .ensures .is, leb-true (definition .result) 31 e);
+        };
       };
-      fails = λ e q. omega (arith, type .ensures .is, q .small, ltb-false (type .result) 128 e);
+      fails = λ e q. omega (arith, definition .ensures .is, q .known .definition, leb-false (definition .result) 31 e);
     }
 
 pub presence-fine-spec : {M : Type 1} → statement M
@@ -51,4 +70,8 @@ presence-fine-spec =
     is-name-field-requires
     returns
     presence-type-requires
-    returns-2)
+    returns-2
+    presence-usage-requires
+    returns-3
+    presence-definition-requires
+    returns-4)

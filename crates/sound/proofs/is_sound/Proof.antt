@@ -3,6 +3,7 @@ use borrow.Author.Needs.{needs}
 use borrow.Author.Tests.{eqb-true, not-true, not-false}
 use mathlib.Core.Path.{refl}
 use Rattle.rows.proofs.Decides.{decides-no}
+use Rattle.check_presences.proofs.PresenceLaws.{fine-count}
 use Rattle.sound.proofs.Decided.{parental, decided-of, decided-sound}
 use Rattle.sound.proofs.is_sound.Statement.{statement}
 use Rattle.sound.proofs.is_sound.Tie as tie
@@ -22,6 +23,9 @@ to-types c = c .before .before .before .before
 
 abbrev to-acyclic : tie.Else6 → tie.Else5
 to-acyclic c = c .before .before .before .before
+
+abbrev to-applications : tie.Else7 → tie.Else6
+to-applications c = c .before .before .before .before .before .before
 
 returns : tie.Need-returns
 returns c = decides-no (λ s. c .if1 .taken (decided-of s .long))
@@ -112,8 +116,25 @@ ends-fine-requires c κs =
     )
 
 returns-7 : tie.Need-returns-7
-returns-7 c =
-    let x = c .before .before .before .before .before in
+returns-7 c = decides-no (λ s. c .before .before .ends-fine .ensures .fails (not-true _ (c .if7 .taken)) (decided-of s .ends))
+
+slice-aggregate-pairs-fine : tie.Need-slice-aggregate-pairs-fine
+slice-aggregate-pairs-fine c = search needs
+
+pairs-fine-requires : tie.Need-pairs-fine-requires
+pairs-fine-requires c κs =
+    let t = to-types (to-acyclic (to-applications (c .before))) in
+    let p = to-presences t in
+    let long = to-long (to-sdss p) .if1 .left in
+    let presences = p .before .before .presences-fine .ensures .fine .holds (not-false _ (p .if3 .left)) in (
+      record { long = long; presences = presences; types = t .before .types-fine .ensures .fine (t .if4 .left) },
+      (fine-count long (p .before .before .before .before .presences-halved .ensures) presences .is, refl),
+    )
+
+returns-8 : tie.Need-returns-8
+returns-8 c =
+    let z = c .before .before .before in
+    let x = to-applications z in
     let y = to-acyclic x in
     let t = to-types y in
     let p = to-presences t in
@@ -126,9 +147,10 @@ returns-7 c =
         types = t .before .types-fine .ensures .fine (t .if4 .left);
         acyclic = y .before .before .is-acyclic .ensures .holds (not-false _ (y .if5 .left));
         applications = x .before .applications-fine .ensures .holds (not-false _ (x .if6 .left));
-        ends = c .before .ends-fine .ensures .holds e;
+        ends = z .before .before .ends-fine .ensures .holds (not-false _ (z .if7 .left));
+        alike = c .before .pairs-fine .ensures .holds e;
       });
-      fails = λ e s. c .before .ends-fine .ensures .fails e (decided-of s .ends);
+      fails = λ e s. c .before .pairs-fine .ensures .fails e (decided-of s .alike);
     }
 
 pub is-sound-spec : {M : Type 1} → statement M
@@ -156,4 +178,7 @@ is-sound-spec =
     slice-aggregate-ends-fine
     slice-aggregate-ends-fine-2
     ends-fine-requires
-    returns-7)
+    returns-7
+    slice-aggregate-pairs-fine
+    pairs-fine-requires
+    returns-8)

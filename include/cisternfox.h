@@ -16,14 +16,19 @@
  * Names of SDSs and of types are 1 to 16 bytes, letters A to Z and a to z, digits and underscores, the first a letter.
  * They have a length and no byte 0 behind them. Case is ignored: Radio and radio are one name, wherever names are looked
  * for or compared. The spelling given is kept, and shown by cf_name. An empty name is malformed too, but for the new names
- * of cf_import. An SDS has a number from 0 to 15, a type one from 0 to 127. */
+ * of cf_import. An SDS has a number from 0 to 15, a type one from 0 to 127.
+ *
+ * A type that an SDS holds has a local name there, but that an object type can be nameless: so are the ancestors that
+ * cf_import brings. A name never means a nameless type, and two types of an SDS may both have none. Such a type is
+ * listed, asked about and counted as any other, and holds what it would hold with a name; cf_rename_number gives it one,
+ * and cf_remove_number takes it away. */
 #ifndef CISTERNFOX_H
 #define CISTERNFOX_H
 
 #include <stddef.h>
 #include <stdint.h>
 
-#define CF_VERSION "0.5.0"
+#define CF_VERSION "0.6.0"
 
 /* What a base has room for, and its length in bytes. tests/c/test.c holds these to the library. */
 #define CF_BASE_LENGTH 14336
@@ -63,7 +68,7 @@ enum cf_no {
     CF_WRONG_KIND = 7,      /* a type is of the wrong kind, or has no reverse to be named */
     CF_TWICE = 8,           /* a parent is named twice, or an SDS is listed twice */
     CF_ALREADY = 9,         /* it is there, applied or that end already */
-    CF_PARENT_MISSING = 10, /* a parent of the type is not in the target */
+    CF_PARENT_MISSING = 10, /* reserved: no call answers it, since cf_import brings the ancestors */
     CF_TAKEN = 11,          /* the name is taken, or the two names of a call are equal */
     CF_IN_USE = 12,         /* the SDS still holds a type; one: the lowest */
     CF_NOT_THERE = 13,      /* there is no such application or end to take away */
@@ -99,7 +104,7 @@ static inline const char *cf_words(size_t no)
     case CF_WRONG_KIND: return "a type is of the wrong kind, or has no reverse to be named";
     case CF_TWICE: return "a parent or an SDS is given twice";
     case CF_ALREADY: return "it is there already";
-    case CF_PARENT_MISSING: return "a parent of the type is missing in the target";
+    case CF_PARENT_MISSING: return "reserved: no call answers this";
     case CF_TAKEN: return "the name is taken";
     case CF_IN_USE: return "the SDS still holds a type";
     case CF_NOT_THERE: return "there is no such application or end";
@@ -157,13 +162,14 @@ cf_answer cf_new_designation(uint8_t *base, size_t base_len, size_t sds, const u
 cf_answer cf_new_pair(uint8_t *base, size_t base_len, size_t sds, const uint8_t *name, size_t name_len,
                       const uint8_t *reverse_name, size_t reverse_name_len, size_t category, size_t reverse_category);
 
-/* Puts a type of one SDS, by its local name there, into another too; a link type with its reverse. A new name of length
- * 0 means the name in the source, spelled as there. Applications and ends don't come along.
+/* Puts a type of one SDS, by its local name there, into another too; a link type with its reverse, an object type with
+ * those of its ancestors that the target lacks, each nameless and with all modes. A new name of length 0 means the name
+ * in the source, spelled as there. Applications and ends don't come along.
  * one: the type's number; two: that of its reverse, 0 where it has none.
  * 1: the base is not sound; 2: no SDS has a number; 3: the target is SDS 0; 4: a name is malformed; 6: no type bears
- * the name in the source; 7: a reverse name is given and the type has no reverse; 9: the type is in the target; 10: a
- * parent of it is not; 11: a type bears a new name in the target, or the two are equal; 14: there is no room for the
- * presences. */
+ * the name in the source; 7: a reverse name is given and the type has no reverse; 9: the type is in the target, with a
+ * name or without; 11: a type bears a new name in the target, or the two are equal; 14: there is no room for all the
+ * presences, those of the ancestors included. */
 cf_answer cf_import(uint8_t *base, size_t base_len, size_t target, size_t source, const uint8_t *name, size_t name_len,
                     const uint8_t *new_name, size_t new_name_len, const uint8_t *new_reverse_name,
                     size_t new_reverse_name_len);
@@ -212,11 +218,23 @@ cf_answer cf_remove_destination(uint8_t *base, size_t base_len, size_t sds, cons
  * end of; of a link type an object type that is an end of it or of its reverse. */
 cf_answer cf_remove_type(uint8_t *base, size_t base_len, size_t sds, const uint8_t *name, size_t name_len);
 
+/* The same by the number of the type, whether it has a name there or is nameless. one: that number. Ancestors stay,
+ * nameless ones too.
+ * 1: the base is not sound; 2: no SDS has the number; 3: it is SDS 0; 6: the type is not in that SDS; 16, 17, 18: as for
+ * cf_remove_type. */
+cf_answer cf_remove_number(uint8_t *base, size_t base_len, size_t sds, size_t type);
+
 /* Gives a type another local name in an SDS. Its own present name is accepted: it changes the spelling, or nothing.
  * 1: the base is not sound; 2: no SDS has the number; 3: it is SDS 0; 4: a name is malformed; 6: no type bears the name
  * in that SDS; 11: another type bears the new one there. */
 cf_answer cf_rename(uint8_t *base, size_t base_len, size_t sds, const uint8_t *name, size_t name_len,
                     const uint8_t *new_name, size_t new_name_len);
+
+/* The same by the number of the type, which may be nameless and has the name then; no call takes a name away.
+ * 1: the base is not sound; 2: no SDS has the number; 3: it is SDS 0; 4: the name is malformed; 6: the type is not in
+ * that SDS; 11: another type bears the new name there. */
+cf_answer cf_rename_number(uint8_t *base, size_t base_len, size_t sds, size_t type, const uint8_t *new_name,
+                           size_t new_name_len);
 
 /* Sets the two sets of modes of a type in an SDS, by its local name there; of a link type those of its reverse too. Each
  * is a sum of enum cf_mode, and may be empty. A type has all five of both where it is made or imported; a rename keeps
@@ -226,8 +244,9 @@ cf_answer cf_rename(uint8_t *base, size_t base_len, size_t sds, const uint8_t *n
 cf_answer cf_set_modes(uint8_t *base, size_t base_len, size_t sds, const uint8_t *name, size_t name_len, size_t usage,
                        size_t definition);
 
-/* Where the local name of a type in an SDS stands. one: its start in the base; two: its length. A later change of the
- * base may move it, and it lies in the base: copy it before it is handed to a call that changes that base.
+/* Where the local name of a type in an SDS stands. one: its start in the base; two: its length, 0 for a nameless type,
+ * where one is the start of the field that a name would have. A later change of the base may move it, and it lies in the
+ * base: copy it before it is handed to a call that changes that base.
  * 1: the base is not sound; 2: no SDS has the number; 6: the type is not in that SDS. */
 cf_answer cf_name(const uint8_t *base, size_t base_len, size_t sds, size_t type);
 

@@ -42,7 +42,9 @@ struct lent {
     CALL(add_destination, BASE, NUMBER(0), TEXT(0), TEXT(1)) \
     CALL(remove_destination, BASE, NUMBER(0), TEXT(0), TEXT(1)) \
     CALL(remove_type, BASE, NUMBER(0), TEXT(0)) \
+    CALL(remove_number, BASE, NUMBER(0), NUMBER(1)) \
     CALL(rename, BASE, NUMBER(0), TEXT(0), TEXT(1)) \
+    CALL(rename_number, BASE, NUMBER(0), NUMBER(1), TEXT(0)) \
     CALL(set_modes, BASE, NUMBER(0), TEXT(0), NUMBER(1), NUMBER(2)) \
     CALL(name, BASE, NUMBER(0), NUMBER(1)) \
     CALL(scan_object, BASE, TEXT(0), NUMBER(0), NUMBER(1), OUTPUT) \

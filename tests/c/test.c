@@ -77,6 +77,8 @@ static cf_answer name(size_t sds, size_t type) { return cf_name(base, LENGTH, sd
 #define REMOVE_DESTINATION(sds, link, object) cf_remove_destination(base, LENGTH, sds, TEXT(link), TEXT(object))
 #define ADD_DESTINATION(sds, link, object) cf_add_destination(base, LENGTH, sds, TEXT(link), TEXT(object))
 #define RENAME(sds, name, new_name) cf_rename(base, LENGTH, sds, TEXT(name), TEXT(new_name))
+#define REMOVE_NUMBER(sds, type) cf_remove_number(base, LENGTH, sds, type)
+#define RENAME_NUMBER(sds, type, new_name) cf_rename_number(base, LENGTH, sds, type, TEXT(new_name))
 #define SET_MODES(sds, name, usage, definition) cf_set_modes(base, LENGTH, sds, TEXT(name), usage, definition)
 
 /* The asking calls; a working schema is a string of bytes, written as SCHEMA("\1\2"). The output's length is the one
@@ -284,6 +286,16 @@ static void numbers_at_full_width(void)
     ANSWERS(remove_sds(((size_t)1 << 32) + 1), 2, 0, 0, 0);
     ANSWERS(name((size_t)1 << 32, 0), 2, 0, 0, 0);
     ANSWERS(name(0, 256), 6, 0, 0, 0);
+    IMPORT(1, 0, "object", "", "");
+    keep();
+    ANSWERS(RENAME_NUMBER(256 + 1, 0, "thing"), 2, 0, 0, 0);
+    ANSWERS(RENAME_NUMBER(1, 128, "thing"), 6, 0, 0, 0);
+    ANSWERS(RENAME_NUMBER(1, 256, "thing"), 6, 0, 0, 0);
+    ANSWERS(RENAME_NUMBER(1, (size_t)1 << 32, "thing"), 6, 0, 0, 0);
+    ANSWERS(REMOVE_NUMBER(((size_t)1 << 32) + 1, 0), 2, 0, 0, 0);
+    ANSWERS(REMOVE_NUMBER(1, 128), 6, 0, 0, 0);
+    ANSWERS(REMOVE_NUMBER(1, 256), 6, 0, 0, 0);
+    ANSWERS(REMOVE_NUMBER(1, (size_t)1 << 32), 6, 0, 0, 0);
     EXPECT(is_kept());
 }
 
@@ -445,7 +457,8 @@ static void pairs(void)
     ANSWERS(IMPORT(2, 1, "of", "", ""), 0, 7, 6, 0);
     EXPECT(is_named(2, 6, "has") && is_named(2, 7, "of"));
     ANSWERS(IMPORT(2, 1, "has", "of", ""), 9, 0, 0, 0);
-    ANSWERS(IMPORT(2, 1, "radio", "", ""), 10, 0, 0, 0);
+    ANSWERS(IMPORT(2, 1, "radio", "of", ""), 11, 0, 0, 0);
+    ANSWERS(name(2, UNIT), 6, 0, 0, 0);
     ANSWERS(IMPORT(2, 0, "object", "of", ""), 11, 0, 0, 0);
     ANSWERS(IMPORT(2, 0, "object", "", "of"), 7, 0, 0, 0);
     /* The pair stays where it was made, and goes from both together. */
@@ -709,6 +722,193 @@ static void what_holds_an_sds(void)
     EXPECT(is_guarded());
 }
 
+/* An import brings the ancestors that the target lacks, without a local name (02, Q-8). */
+static int is_nameless(size_t sds, size_t type)
+{
+    cf_answer found = name(sds, type);
+    for (size_t n = 0; n < 16; n++)
+        if (found.no != 0 || base[found.one + n] != 0)
+            return 0;
+    return found.two == 0 && found.three == 0 && base[found.one - 1] == sds && base[found.one + 16] == type;
+}
+
+static void ancestors_come_along(void)
+{
+    a_base_with_adc();
+    ANSWERS(SET_MODES(1, "unit", 1, 2), 0, 0, 0, 0);
+    ANSWERS(IMPORT(2, 1, "adc", "", ""), 0, ADC, 0, 0);
+    EXPECT(is_named(2, ADC, "adc"));
+    EXPECT(is_nameless(2, 0) && is_nameless(2, UNIT) && is_nameless(2, TEMPLATE) && is_nameless(2, RADIO)
+           && is_nameless(2, FIFO2));
+    /* by type, each once, and before the one that has a name */
+    size_t first = name(2, 0).one;
+    EXPECT(name(2, UNIT).one == first + 20 && name(2, TEMPLATE).one == first + 40 && name(2, RADIO).one == first + 60);
+    EXPECT(name(2, FIFO2).one == first + 80 && name(2, ADC).one == first + 100);
+    ANSWERS(MODES("\2", UNIT), 0, 31, 31, 0);
+    keep();
+    LISTS(SCAN_OBJECT("\2", ADC, 3), "\0\1\2\3\5", 5, 0, 0);
+    LISTS(SCAN_OBJECT("\2", 0, 0), "\1", 1, 0, 0);
+    LISTS(PROFILE("\2", FIFO2), "\0\1\2\3", 4, 0, 0);
+    ANSWERS(DEPTH("\2", ADC), 0, 4, 0, 0);
+    ANSWERS(DEPTH("\2", FIFO2), 0, 3, 0, 0);
+    ANSWERS(DESCENDANT_SET("\2", UNIT), 0, 0x3c, 0, 4);
+    /* they are there, and no name means them */
+    ANSWERS(IMPORT(2, 1, "radio", "", ""), 9, 0, 0, 0);
+    ANSWERS(IMPORT(2, 1, "radio", "adc", ""), 9, 0, 0, 0);
+    ANSWERS(IMPORT(2, 0, "object", "", ""), 9, 0, 0, 0);
+    ANSWERS(FIND("\2", "radio"), 6, 0, 0, 0);
+    ANSWERS(FIND("\2", ""), 4, 0, 0, 0);
+    ANSWERS(FIND("\2\1", "radio"), 0, RADIO, 0, 0);
+    ANSWERS(NEW_OBJECT(2, "unit", "radio"), 6, 0, 0, 0);
+    ANSWERS(NEW_OBJECT(2, "unit", "adc "), 4, 0, 0, 0);
+    ANSWERS(RENAME(2, "radio", "unit"), 6, 0, 0, 0);
+    ANSWERS(REMOVE_TYPE(2, "radio"), 6, 0, 0, 0);
+    ANSWERS(SET_MODES(2, "radio", 1, 1), 6, 0, 0, 0);
+    EXPECT(is_kept());
+    /* what is there stays as it is, and brings nothing that is above it */
+    a_base_with_adc();
+    ANSWERS(IMPORT(2, 1, "radio", "Unit", ""), 0, RADIO, 0, 0);
+    ANSWERS(SET_MODES(2, "unit", 1, 2), 0, 0, 0, 0);
+    ANSWERS(IMPORT(2, 1, "adc", "object", ""), 0, ADC, 0, 0);
+    EXPECT(is_named(2, RADIO, "Unit") && is_named(2, ADC, "object"));
+    EXPECT(is_nameless(2, 0) && is_nameless(2, UNIT) && is_nameless(2, TEMPLATE) && is_nameless(2, FIFO2));
+    ANSWERS(MODES("\2", RADIO), 0, 1, 2, 0);
+    ANSWERS(FIND("\2", "object"), 0, ADC, 0, 0);
+    EXPECT(is_guarded());
+}
+
+static void named_by_number(void)
+{
+    a_base_with_adc();
+    IMPORT(2, 1, "adc", "", "");
+    keep();
+    ANSWERS(RENAME_NUMBER(16, RADIO, "radio"), 2, 0, 0, 0);
+    ANSWERS(RENAME_NUMBER(0, 0, "object"), 3, 0, 0, 0);
+    ANSWERS(RENAME_NUMBER(2, RADIO, ""), 4, 0, 0, 0);
+    ANSWERS(RENAME_NUMBER(2, 6, "1"), 4, 0, 0, 0);
+    ANSWERS(RENAME_NUMBER(2, 6, "adc"), 6, 0, 0, 0);
+    ANSWERS(RENAME_NUMBER(2, RADIO, "ADC"), 11, 0, 0, 0);
+    ANSWERS(RENAME_NUMBER(2, ADC, "adc"), 0, 0, 0, 0);
+    EXPECT(is_kept());
+    /* it is found then; another that has none may not have the name */
+    ANSWERS(RENAME_NUMBER(2, RADIO, "Zig"), 0, 0, 0, 0);
+    EXPECT(is_named(2, RADIO, "Zig") && is_nameless(2, TEMPLATE) && is_nameless(2, FIFO2));
+    EXPECT(name(2, FIFO2).one == name(2, TEMPLATE).one + 20 && name(2, RADIO).one == name(2, ADC).one + 20);
+    ANSWERS(FIND("\2", "zig"), 0, RADIO, 0, 0);
+    ANSWERS(RENAME_NUMBER(2, TEMPLATE, "zig"), 11, 0, 0, 0);
+    ANSWERS(SET_MODES(2, "zig", 1, 2), 0, 0, 0, 0);
+    ANSWERS(RENAME_NUMBER(2, RADIO, "ZIG"), 0, 0, 0, 0);
+    ANSWERS(RENAME_NUMBER(2, RADIO, "aaa"), 0, 0, 0, 0);
+    EXPECT(is_named(2, RADIO, "aaa") && name(2, ADC).one == name(2, RADIO).one + 20);
+    ANSWERS(MODES("\2", RADIO), 0, 1, 2, 0);
+    /* any kind of type */
+    NEW_PAIR(2, "has", "of", 0, 3);
+    ANSWERS(RENAME_NUMBER(2, 7, "has"), 11, 0, 0, 0);
+    ANSWERS(RENAME_NUMBER(2, 7, "in"), 0, 0, 0, 0);
+    EXPECT(is_named(2, 6, "has") && is_named(2, 7, "in"));
+    EXPECT(is_guarded());
+}
+
+static void removed_by_number(void)
+{
+    a_base_with_links();
+    ANSWERS(REMOVE_NUMBER(16, TOP), 2, 0, 0, 0);
+    ANSWERS(REMOVE_NUMBER(0, 0), 3, 0, 0, 0);
+    ANSWERS(REMOVE_NUMBER(2, LOW), 6, 0, 0, 0);
+    ANSWERS(REMOVE_NUMBER(1, TOP), 16, LEFT, 0, 0);
+    ANSWERS(REMOVE_NUMBER(1, LOW), 17, FIVE, 0, 0);
+    ANSWERS(REMOVE_NUMBER(1, FIVE), 17, LOW, 0, 0);
+    ANSWERS(REMOVE_NUMBER(1, SEVEN), 18, LEFT, 0, 0);
+    ANSWERS(REMOVE_NUMBER(1, EIGHT), 18, LEFT, 0, 0);
+    EXPECT(is_kept());
+    ANSWERS(UNAPPLY_LINK(1, "seven", "left"), 0, 0, 0, 0);
+    ANSWERS(REMOVE_NUMBER(1, EIGHT), 0, EIGHT, 0, 0);
+    ANSWERS(name(1, SEVEN), 6, 0, 0, 0);
+    EXPECT(is_named(2, SEVEN, "seven"));
+    /* ancestors stay, and hold the SDS; they go from below */
+    a_base_with_adc();
+    IMPORT(2, 1, "adc", "", "");
+    ANSWERS(REMOVE_NUMBER(2, ADC), 0, ADC, 0, 0);
+    ANSWERS(remove_sds(2), 12, 0, 0, 0);
+    ANSWERS(REMOVE_NUMBER(2, 0), 16, UNIT, 0, 0);
+    ANSWERS(REMOVE_NUMBER(2, TEMPLATE), 16, FIFO2, 0, 0);
+    ANSWERS(RENAME_NUMBER(2, RADIO, "radio"), 0, 0, 0, 0);
+    ANSWERS(REMOVE_TYPE(2, "radio"), 16, FIFO2, 0, 0);
+    ANSWERS(REMOVE_NUMBER(2, FIFO2), 0, FIFO2, 0, 0);
+    ANSWERS(REMOVE_TYPE(2, "radio"), 0, RADIO, 0, 0);
+    ANSWERS(REMOVE_NUMBER(2, TEMPLATE), 0, TEMPLATE, 0, 0);
+    ANSWERS(REMOVE_NUMBER(2, UNIT), 0, UNIT, 0, 0);
+    ANSWERS(remove_sds(2), 12, 0, 0, 0);
+    ANSWERS(REMOVE_NUMBER(2, 0), 0, 0, 0, 0);
+    EXPECT(is_kept());
+    ANSWERS(remove_sds(2), 0, 0, 0, 0);
+    EXPECT(is_guarded());
+}
+
+/* Rows of SDS 1 that are nameless, or not, by type: 1 and 2 are object types, 3 an attribute type, 4 a link type. */
+static int is_sound_with_rows(const char *const *names, const char *types)
+{
+    begin("one", "two");
+    PUT_TYPE(1, 1, 0, 0, 1, 0);
+    PUT_TYPE(2, 1, 0, 0, 1, 0);
+    PUT_TYPE(3, 2, 0);
+    PUT_TYPE(4, 3, 4);
+    for (size_t n = 0; n < 5; n++)
+        put_presence(1, names[n], (uint8_t)types[n]);
+    keep();
+    cf_answer found = DEPTH("\0", 0);
+    EXPECT(same(found, (cf_answer){0, 0, 0, 0}) || same(found, (cf_answer){1, 0, 0, 0}));
+    EXPECT(same(REMOVE_NUMBER(16, 0), (cf_answer){found.no == 0 ? 2 : 1, 0, 0, 0}));
+    EXPECT(same(RENAME_NUMBER(16, 0, ""), (cf_answer){found.no == 0 ? 2 : 1, 0, 0, 0}));
+    EXPECT(is_kept());
+    return found.no == 0;
+}
+
+#define ROWS(...) ((const char *const[]){__VA_ARGS__})
+
+static void nameless_rows_spoiled(void)
+{
+    EXPECT(is_sound_with_rows(ROWS("a", "b", "c", "d", "e"), "\0\1\2\3\4"));
+    EXPECT(is_sound_with_rows(ROWS("", "b", "c", "d", "e"), "\2\1\0\3\4"));
+    EXPECT(is_sound_with_rows(ROWS("", "", "", "d", "e"), "\0\1\2\3\4"));
+    /* not by type, twice, behind a name, and of another kind */
+    EXPECT(!is_sound_with_rows(ROWS("", "", "", "d", "e"), "\0\2\1\3\4"));
+    EXPECT(!is_sound_with_rows(ROWS("", "", "c", "d", "e"), "\1\1\2\3\4"));
+    EXPECT(!is_sound_with_rows(ROWS("", "", "c", "d", "e"), "\0\1\1\3\4"));
+    EXPECT(!is_sound_with_rows(ROWS("a", "", "c", "d", "e"), "\0\1\2\3\4"));
+    EXPECT(!is_sound_with_rows(ROWS("", "b", "c", "d", "e"), "\3\0\1\2\4"));
+    EXPECT(!is_sound_with_rows(ROWS("", "b", "c", "d", "e"), "\4\0\1\2\3"));
+    EXPECT(!is_sound_with_rows(ROWS("", "b", "c", "d", "e"), "\1\2\2\3\4"));
+    /* any modes, an application and an end; a byte in the field of a name; an ancestor that is not there */
+    EXPECT(is_sound_with_rows(ROWS("", "", "", "d", "e"), "\0\1\2\3\4"));
+    size_t row = name(1, 1).one - 1;
+    base[row + 18] = 4, base[row + 19] = 0;
+    PUT_APPLICATION(1, 1, 3);
+    PUT_END(1, 4, 0, 1);
+    ANSWERS(MODES("\1", 1), 0, 4, 0, 0);
+    ANSWERS(REMOVE_TYPE(1, "d"), 17, 1, 0, 0);
+    ANSWERS(REMOVE_NUMBER(1, 1), 17, 3, 0, 0);
+    ANSWERS(REMOVE_TYPE(1, "e"), 18, 1, 0, 0);
+    ANSWERS(RENAME_NUMBER(1, 1, "unit"), 0, 0, 0, 0);
+    ANSWERS(MODES("\1", 1), 0, 4, 0, 0);
+    ANSWERS(UNAPPLY(1, "d", "unit"), 0, 0, 0, 0);
+    for (size_t n = 2; n <= 16; n++) {
+        is_sound_with_rows(ROWS("", "", "", "d", "e"), "\0\1\2\3\4");
+        base[row + n] = 'a';
+        ANSWERS(name(1, 1), 1, 0, 0, 0);
+    }
+    is_sound_with_rows(ROWS("", "", "", "d", "e"), "\0\1\2\3\4");
+    base[256 + 8 * 1 + 4] = 2, base[256 + 8 * 2 + 4] = 0;
+    ANSWERS(DEPTH("\1", 1), 0, 2, 0, 0);
+    memmove(base + row + 20, base + row + 40, 3 * 20);
+    ANSWERS(DEPTH("\1", 1), 1, 0, 0, 0);
+    /* SDS 0 has none */
+    fresh();
+    memset(base + 1281, 0, 6);
+    ANSWERS(name(0, 0), 1, 0, 0, 0);
+    EXPECT(is_guarded());
+}
+
 /* What is made or imported has all five modes; what is set is set in one SDS, of a pair for both (02, Q-2). */
 static void modes_are_set(void)
 {
@@ -858,6 +1058,8 @@ static void a_spoiled_base(void)
     ANSWERS(new_sds("bus"), 1, 0, 0, 0);
     ANSWERS(remove_sds(16), 1, 0, 0, 0);
     ANSWERS(RENAME(0, "object", "object"), 1, 0, 0, 0);
+    ANSWERS(REMOVE_NUMBER(16, 128), 1, 0, 0, 0);
+    ANSWERS(RENAME_NUMBER(16, 128, ""), 1, 0, 0, 0);
     ANSWERS(SET_MODES(16, "", 32, 32), 1, 0, 0, 0);
     ANSWERS(name(0, 0), 1, 0, 0, 0);
     EXPECT(is_kept());
@@ -1074,6 +1276,28 @@ static void the_limits(void)
             target++, type = 1;
     EXPECT(made == CF_PRESENCES && IMPORT(target, 1, numbered(type), "", "").no == CF_FULL);
 
+    /* Ancestors count: with two places free a type and two above it have no room, with three they have. */
+    fresh();
+    for (made = 1; new_sds(numbered(made)).no == CF_DONE; made++)
+        ;
+    IMPORT(1, 0, "object", "", "");
+    NEW_OBJECT(1, "unit", "object");
+    NEW_OBJECT(1, "leaf", "unit");
+    for (type = 1; type < 100; type++)
+        NEW_ATTRIBUTE(1, numbered(type), 0);
+    for (made = 103, target = 2, type = 1; made < CF_PRESENCES - 2; made++) {
+        ANSWERS(IMPORT(target, 1, numbered(type), "", ""), 0, type + 2, 0, 0);
+        if (++type == 100)
+            target++, type = 1;
+    }
+    keep();
+    ANSWERS(IMPORT(15, 1, "leaf", "", ""), 14, 0, 0, 0);
+    EXPECT(is_kept());
+    ANSWERS(REMOVE_NUMBER(2, 3), 0, 3, 0, 0);
+    ANSWERS(IMPORT(15, 1, "leaf", "", ""), 0, 2, 0, 0);
+    EXPECT(is_nameless(15, 0) && is_nameless(15, 1) && is_named(15, 2, "leaf"));
+    ANSWERS(IMPORT(2, 1, numbered(1), "", ""), 14, 0, 0, 0);
+
     fresh();
     new_sds("bus");
     IMPORT(1, 0, "object", "", "");
@@ -1154,7 +1378,9 @@ static void null_with_length_0(void)
     ALIKE(cf_add_destination(room, 0, 1, TEXT("nine"), TEXT("low")));
     ALIKE(cf_remove_destination(room, 0, 1, TEXT("nine"), TEXT("top")));
     ALIKE(cf_remove_type(room, 0, 1, TEXT("six")));
+    ALIKE(cf_remove_number(room, 0, 1, SIX));
     ALIKE(cf_rename(room, 0, 1, TEXT("six"), TEXT("ten")));
+    ALIKE(cf_rename_number(room, 0, 1, SIX, TEXT("ten")));
     ALIKE(cf_set_modes(room, 0, 1, TEXT("six"), 1, 2));
     ALIKE(cf_name(none, 0, 1, TOP));
     ALIKE(cf_scan_object(none, 0, SCHEMA("\1"), TOP, 0, output, OUTPUT));
@@ -1191,6 +1417,7 @@ static void null_with_length_0(void)
     ALIKE(cf_remove_type(base, LENGTH, 1, none, 0));
     ALIKE(cf_rename(base, LENGTH, 1, none, 0, TEXT("ten")));
     ALIKE(cf_rename(base, LENGTH, 1, TEXT("six"), none, 0));
+    ALIKE(cf_rename_number(base, LENGTH, 1, SIX, none, 0));
     ALIKE(cf_set_modes(base, LENGTH, 1, none, 0, 1, 2));
     ALIKE(cf_find(base, LENGTH, SCHEMA("\1"), none, 0));
 
@@ -1249,6 +1476,10 @@ int main(void)
     spellings_spoiled();
     what_holds_a_type();
     what_holds_an_sds();
+    ancestors_come_along();
+    named_by_number();
+    removed_by_number();
+    nameless_rows_spoiled();
     modes_are_set();
     modes_refused();
     modes_kept_and_given();

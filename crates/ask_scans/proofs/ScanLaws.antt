@@ -18,7 +18,7 @@ use Rattle.rules.proofs.01-Lists.{any-at, any-where}
 use Rattle.rules.proofs.05-Descent.{members-in, members-of, members-among, descends-sound}
 use Rattle.rules.proofs.08-Working.{ancestors-visible}
 use Rattle.kin.specs.Kin.{parents-of, children-of, ancestors-of, descendants-of, with-descendants}
-use Rattle.kin.proofs.KinLaws.{parent-is}
+use Rattle.kin.proofs.KinLaws.{parent-is, one-member, above}
 use Rattle.visible.specs.Shown.{gathered, held-in}
 use Rattle.visible.proofs.Rules.{visible-are, attributes-are, links-are, objects-are, attributes-seen, links-seen, objects-seen}
 use Rattle.ask_scans.specs.Scans.{object-scan, link-scan, sources, Scanned}
@@ -56,27 +56,15 @@ beside false v y seen = refl
 -- ---- a set of one type
 
 module _ (p : ℕ → Bool) (t : ℕ) (small : t < 128) (is : (k : ℕ) → p k ≡ eqb k t) where
-  one-member : (f : ℕ → Bool) → any f (members p) ≡ f t
-  one-member f =
-      same-test (any f (members p)) (f t)
-      (λ e.
-      let (x, i, h) = any-where f (members p) e in
-      ap f (sym (eqb-true x t (sym (is x) ∙ members-in p x i .1))) ∙ h)
-      (λ e. any-at f (members-of p t small (is t ∙ eq-eqb t t refl)) e)
-
   pub one-among : (k : ℕ) → p k ≡ among (t ∷ []) k
   unfolding any
   one-among k = is k ∙ sym (or-false (eqb k t))
 
   module _ (s : Schema) where
-    above : (k : ℕ) → ancestors-of s p k ≡ descends s t k
-    unfolding ancestors-of
-    above k = one-member (λ u. descends s u k)
-
     module _ (sdss r : ℕ → Bool) (code : ℕ) where
       pub child-scan : code ≡ 0 → ((k : ℕ) → r k ≡ held-in s sdss k && children-of s p k) → Scanned s sdss (λ w. object-scan s w t code) r
       unfolding children-of
-      child-scan e made = record { is = λ w listed k. rw e (made k ∙ ap₂ _&&_ (visible-are s w sdss listed k) (one-member (is-parent s k))) }
+      child-scan e made = record { is = λ w listed k. rw e (made k ∙ ap₂ _&&_ (visible-are s w sdss listed k) (one-member p t small is (is-parent s k))) }
 
       module _ (good : Good s) where
         -- the type itself is no descendant
@@ -85,7 +73,7 @@ module _ (p : ℕ → Bool) (t : ℕ) (small : t < 128) (is : (k : ℕ) → p k 
         unfolding with-descendants descendants-of
         descendant-scan e made = record {
           is = λ w listed k.
-              rw e (made k ∙ ap₂ (λ (x y : Bool). (x || y) && not (eqb k t)) (is k) (ap₂ _&&_ (visible-are s w sdss listed k) (one-member (descends s k)))
+              rw e (made k ∙ ap₂ (λ (x y : Bool). (x || y) && not (eqb k t)) (is k) (ap₂ _&&_ (visible-are s w sdss listed k) (one-member p t small is (descends s k)))
               ∙ but-itself w k (eqb k t) refl);
         }
           where
@@ -105,12 +93,12 @@ module _ (p : ℕ → Bool) (t : ℕ) (small : t < 128) (is : (k : ℕ) → p k 
           unfolding parents-of
           parent-scan e made = record {
             is = λ w listed k.
-                rw e (all-seen (made k ∙ one-member (λ u. is-parent s u k)) (λ g. seen-above w listed k (by-parent (parent-is s t k g))));
+                rw e (all-seen (made k ∙ one-member p t small is (λ u. is-parent s u k)) (λ g. seen-above w listed k (by-parent (parent-is s t k g))));
           }
 
           pub ancestor-scan : code ≡ 3 → ((k : ℕ) → r k ≡ ancestors-of s p k) → Scanned s sdss (λ w. object-scan s w t code) r
           ancestor-scan e made = record {
-            is = λ w listed k. rw e (all-seen (made k ∙ above k) (λ g. seen-above w listed k (descends-sound good t k g)));
+            is = λ w listed k. rw e (all-seen (made k ∙ above p t small is s k) (λ g. seen-above w listed k (descends-sound good t k g)));
           }
 
     -- the type alone, and with its ancestors
@@ -122,7 +110,7 @@ module _ (p : ℕ → Bool) (t : ℕ) (small : t < 128) (is : (k : ℕ) → p k 
         → ((k : ℕ) → r k ≡ p k || q k) → (k : ℕ) → r k ≡ among (sources s all t) k
     unfolding upward any
     source-all true e q r up past made k =
-        made k ∙ ap₂ _||_ (is k) (up k ∙ above k ∙ sym (members-among (descends s t) k (λ h. sym (up k ∙ above k) ∙ past k h)))
+        made k ∙ ap₂ _||_ (is k) (up k ∙ above p t small is s k ∙ sym (members-among (descends s t) k (λ h. sym (up k ∙ above p t small is s k) ∙ past k h)))
     source-all false e q r up past made k = absurd (true≢false e)
 
 -- ---- a code without "all", and the next with it

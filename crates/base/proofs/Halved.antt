@@ -10,7 +10,10 @@ use Rattle.rows.specs.Rows.{Parted, Halved, Counted}
 use Rattle.rows.proofs.Rows.{part-byte}
 use Rattle.rows.proofs.Scan.{counted}
 use Rattle.rows.proofs.TableLaws.{row-fits}
-use Rattle.base.specs.Tables.{Table, at, row-of, used-rows, Blank-from}
+use Rattle.rules.specs.02-Limits.{limits}
+use Rattle.base.specs.Tables.{Table, at, row-of, used-rows, Blank-from, Presences-halved, presences}
+use Rattle.base.specs.Rows.{presence-at}
+use Rattle.base.specs.Back.{presence-count}
 use Rattle.base.proofs.Back.{rows-few}
 
 take-zeros : (w k : ℕ) → w ≤ k → take w (replicate {A = ℕ} k 0) ≡ replicate {A = ℕ} w 0
@@ -57,3 +60,23 @@ module _ {A : Type 0} (t : Table A) (b : List ℕ) where
         used = λ i h e. used i h (ap (λ (m : ℕ). getD b m 0) (omega arith) ∙ e);
         free = λ i l h. ap (λ (m : ℕ). getD b m 0) (omega arith) ∙ blank-byte (used-rows t b) i f blank l h k;
       }
+
+-- the presences: the first is used, and none behind it is in SDS 0
+pub presences-right : (b : List ℕ) (n : ℕ) → Presences-halved b n → 0 < presence-count b
+    → ((i : ℕ) → 0 < i → i < presence-count b → getD b (presence-at i) 0 ≡ 0 → ⊥) → Blank-from presences (presence-count b) b
+    → Counted (presence-count b) (limits .presences) n
+presences-right b n found some used blank =
+    let count = presence-count b in
+    let behind : found .behind ≡ count - 1 = found .halved .is (count - 1) parted in
+    record { is = omega (arith, found .is); fits = omega (arith, found .is, found .halved .fits) }
+  where
+    next : (i : ℕ) → presence-at 1 + i * presences .width ≡ presence-at (suc i)
+    next i = omega arith
+
+    parted : Parted b (presence-at 1) (presences .width) (limits .presences - 1) (presence-count b - 1)
+    parted = record {
+      fits = omega (arith, rows-few presences b);
+      used = λ i h e. used (suc i) (omega arith) (omega arith) (ap (λ (m : ℕ). getD b m 0) (sym (next i)) ∙ e);
+      free = λ i l h.
+          ap (λ (m : ℕ). getD b m 0) (omega (arith, next i)) ∙ blank-byte presences b (presence-count b) (suc i) 0 blank (omega arith) (omega arith) (omega arith);
+    }

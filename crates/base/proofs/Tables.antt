@@ -15,7 +15,7 @@ use Rattle.rules.specs.04-Schema.{Schema, Presence, with-sdss, with-types, with
 use Rattle.rules.specs.06-Good.{presence-before, application-before, end-before}
 use Rattle.rules.specs.07-Picture.{pad, presence-row, application-row, end-row, type-table, presence-table, application-table, end-table, picture}
 use Rattle.rules.specs.02-Limits.{limits}
-use Rattle.rules.proofs.03-Names.{spelled-before, pad-before}
+use Rattle.rules.proofs.03-Names.{spelled-before, pad-before, name-fits}
 use Rattle.rules.proofs.07-Picture.{length-pad, length-table, wide-sds, wide-type, wide-presence, wide-application, wide-end, behind-name, presence-back}
 use Rattle.rules.proofs.07-Picture.{application-back, end-back}
 use Rattle.rows.specs.Order.{ranked, row-before}
@@ -114,7 +114,7 @@ presence-order p q f g =
     ap₂ bytes-before (presence-ranked p) (presence-ranked q)
     ∙ ap (λ (t : Bool). ltb (p .sds) (q .sds) || (eqb (p .sds) (q .sds) && t))
     (spelled-before (pad w (p .name)) (pad w (q .name)) (behind-name p) (behind-name q) (length-pad w (p .name) ∙ sym (length-pad w (q .name)))
-    ∙ rw (pad-before (p .name) (q .name) f g, pad-before (q .name) (p .name) g f, last-byte (p .definition) (q .definition)))
+    ∙ rw (pad-before (name-fits (p .name) f) (name-fits (q .name) g), pad-before (name-fits (q .name) g) (name-fits (p .name) f), last-byte (p .definition) (q .definition)))
 
 pub presences-sort : Sorts by-name
 unfolding presence-row

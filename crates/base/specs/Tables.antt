@@ -1,17 +1,17 @@
 -- The tables of a base, each a value: nothing else says where a row starts, how wide it is, or how its bytes are read. (docs/LAYOUT.md)
-use Prim.Native.Nat.{ℕ, _+_, _*_, _-_, _<_}
+use Prim.Native.Nat.{ℕ, suc, _+_, _*_, _-_, _<_}
 use mathlib.Core.Path.{_≡_}
 use mathlib.Core.List.{List}
-use mathlib.Core.Bool.{Bool, true}
+use mathlib.Core.Bool.{Bool, true, _||_}
 use lib.ListN.{drop, replicate}
 use Rattle.rules.specs.02-Limits.{limits}
-use Rattle.rules.specs.03-Names.{Name, well-formed}
+use Rattle.rules.specs.03-Names.{Name, blank, well-formed}
 use Rattle.rules.specs.04-Schema.{Kind, Presence, Application, End}
 use Rattle.rules.specs.06-Good.{presence-before, application-before, end-before}
 use Rattle.rules.specs.07-Picture.{sds-width, sds-row, type-width, type-row, presence-width, presence-row, application-width, application-row}
 use Rattle.rules.specs.07-Picture.{end-width, end-row, table}
 use Rattle.rules.specs.Read.{strip, read-kind, read-presence, read-application, read-end}
-use Rattle.rows.specs.Rows.{part, rows, filled, Rising}
+use Rattle.rows.specs.Rows.{part, rows, filled, Halved, Rising}
 use Rattle.rows.specs.Order.{ranked}
 
 -- where its first row starts, how wide a row is, how many there is room for; the bytes of a thing, and what bytes show
@@ -80,6 +80,12 @@ applications =
 abbrev pub ends : Table End
 ends = record { start = end applications; width = end-width; room = limits .ends; row = end-row; read = read-end }
 
+-- r is the count of presences, if the first is used and of those behind it the used ones, none of them in SDS 0, stand before the others
+pub record Presences-halved (b : List ℕ) (r : ℕ) : Type 0 where
+  pub behind : ℕ
+  pub is : r ≡ suc behind
+  pub halved : Halved b (at presences 1) (presences .width) (limits .presences - 1) behind
+
 -- ---- the three whose rows rise
 
 -- its things stand in this order, and so do their rows, the SDS first, then a name of `named` bytes; a thing that is fit is read back from
@@ -91,7 +97,7 @@ pub record Sorted {A : Type 0} (t : Table A) : Type 1 where
   pub Fit : A → Type 0
 
 abbrev pub by-name : Sorted presences
-by-name = record { before = presence-before; sds = λ p. p .sds; named = limits .name; Fit = λ p. well-formed (p .name) ≡ true }
+by-name = record { before = presence-before; sds = λ p. p .sds; named = limits .name; Fit = λ p. blank (p .name) || well-formed (p .name) ≡ true }
 
 abbrev pub by-application : Sorted applications
 by-application = record { before = application-before; sds = λ x. x .sds; named = 0; Fit = λ x. Unit {0} }

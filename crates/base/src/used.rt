@@ -2,14 +2,13 @@
 use super::Base;
 use rules::Limits;
 ghost use mathlib.Core.Path.{_≡_};
-ghost use Prim.Native.Nat.{_+_, _≤_};
+ghost use Prim.Native.Nat.{_≤_};
 ghost use lib.ListN.{length};
 ghost use Rattle.rules.specs.02-Limits.{limits};
 ghost use Rattle.rules.specs.07-Picture.{base-length};
-ghost use Rattle.rules.specs.Read.{name-offset};
 ghost use Rattle.rows.specs.Rows.{Counted, Halved};
 ghost use Rattle.rows.specs.Decides.{Decides};
-ghost use Rattle.base.specs.Tables.{Blank-from, presences, applications, ends};
+ghost use Rattle.base.specs.Tables.{Blank-from, Presences-halved, presences, applications, ends};
 ghost use Rattle.base.specs.Back.{presence-count, application-count, end-count};
 
 pub fn presence_count(base: &[u8]) -> usize
@@ -74,17 +73,18 @@ pub fn no_end_from(base: &[u8], n: usize) -> bool
 
 // ---- the same by halving, where the used rows stand before the others, for a check that sees to it
 
-// By the first byte of the name, which a presence has.
+// The first presence, and by the SDS those behind it: none of them is in SDS 0.
 pub fn presences_halved(base: &[u8]) -> usize
     requires { ⌜ length (now base) ≡ base-length ⌝ }
-    ensures { λ r. ⌜ Halved (now (base .entry)) (presences .start + name-offset) (presences .width) (limits .presences) r ⌝ }
+    ensures { λ r. ⌜ Presences-halved (now (base .entry)) r ⌝ }
 {
-    rows::used::halved(
-        base,
-        Base::PRESENCES_AT + Base::NAME_OFFSET,
-        Base::PRESENCE_WIDTH,
-        Limits::PRESENCES,
-    )
+    1
+        + rows::used::halved(
+            base,
+            Base::PRESENCES_AT + Base::PRESENCE_WIDTH,
+            Base::PRESENCE_WIDTH,
+            Limits::PRESENCES - 1,
+        )
 }
 
 // By the SDS, which is never SDS 0.

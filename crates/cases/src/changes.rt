@@ -29,6 +29,25 @@ fn import(base: &mut [u8], line: &[u8]) -> Answer {
     )
 }
 
+// By the number of a type.
+
+fn rename_number(base: &mut [u8], line: &[u8]) -> Answer {
+    change_presences::rename::rename_number(
+        base,
+        read::number_at(line, 1),
+        read::number_at(line, 2),
+        read::name_at(line, 3),
+    )
+}
+
+fn remove_number(base: &mut [u8], line: &[u8]) -> Answer {
+    change_presences::remove::remove_number(
+        base,
+        read::number_at(line, 1),
+        read::number_at(line, 2),
+    )
+}
+
 pub fn other(base: &mut [u8], line: &[u8]) -> Answer {
     if read::begins(line, b"fresh") {
         return change_sdss::fresh(base);
@@ -44,6 +63,12 @@ pub fn other(base: &mut [u8], line: &[u8]) -> Answer {
     }
     if read::begins(line, b"import") {
         return import(base, line);
+    }
+    if read::begins(line, b"rename_number") {
+        return rename_number(base, line);
+    }
+    if read::begins(line, b"remove_number") {
+        return remove_number(base, line);
     }
     read::no_call()
 }

@@ -2,26 +2,31 @@
 use Prim.Native.Nat.{ℕ, _+_, _-_, _≤_, _<_}
 use native.Mathlib.Omega.{arith}
 use mathlib.Core.Path.{_≡_, refl, sym, ap, _∙_}
-use mathlib.Core.List.{List, [], _∷_, map, append-nil}
-use mathlib.Core.Bool.{Bool, true, false, not, cond, _&&_, _||_, true≢false}
+use mathlib.Core.Logic.{⊎-elim}
+use mathlib.Core.List.{List, [], _∷_, _++_, map, append-nil}
+use mathlib.Core.Bool.{Bool, true, false, not, cond, _&&_, _||_, and-false, true≢false}
 use lib.Dec.{leb, ltb, eqb}
 use lib.ListN.{length, getD, take, replicate}
-use borrow.Author.Tests.{eq-eqb, ne-eqb, ltb-true, ltb-false, lt-ltb, le-ltb, le-leb, lt-leb, leb-false}
+use borrow.Author.Tests.{eq-eqb, ne-eqb, ltb-true, ltb-false, lt-ltb, le-ltb, le-leb, lt-leb, leb-false, not-true}
 use Rattle.rules.specs.02-Limits.{limits}
 use Rattle.rules.specs.declared.Answer.{Answer}
-use Rattle.rules.specs.01-Lists.{all, first, put, put-all}
+use Rattle.rules.specs.01-Lists.{all, put, put-all}
 use Rattle.rules.specs.03-Names.{Name, well-formed, blank, same-name}
-use Rattle.rules.specs.04-Schema.{Schema, Presence, new-presence, nowhere, used-sds, reverse, holds-type, holds-name, present, bears}
-use Rattle.rules.specs.04-Schema.{type-named, local-name, with-presences}
+use Rattle.rules.specs.04-Schema.{Schema, Presence, new-presence, used-sds, kind-of, is-object, reverse, holds-type, holds-name, present, bears}
+use Rattle.rules.specs.04-Schema.{type-named, type-presence, local-name, with-presences}
+use Rattle.rules.specs.04-Schema.Kind.{paired}
+use Rattle.rules.specs.05-Descent.{descends, members}
 use Rattle.rules.specs.06-Good.{presence-before, Good}
 use Rattle.rules.specs.07-Picture.{Sound, pad, picture, base-length}
-use Rattle.rules.specs.09-Refusals.{_when_, Outcome, verdict, unknown-sds, malformed, malformed-new, idle-reverse-name, names-taken, presences-full}
+use Rattle.rules.specs.09-Refusals.{Outcome, verdict, unknown-sds, malformed, malformed-new, idle-reverse-name, not-present, presences-full}
 use Rattle.rules.specs.09-Refusals.Outcome.{done}
-use Rattle.rules.specs.10-Changes.{filled, imported, import}
+use Rattle.rules.specs.10-Changes.{filled, imported, missing, nameless, incoming, import}
 use Rattle.rules.specs.12-Contracts.{Kept}
-use Rattle.rules.proofs.Bools.{and-rest, or-neither}
-use Rattle.rules.proofs.Edits.{put-long, put-none, first-in}
-use Rattle.rules.proofs.03-Names.{formed-long}
+use Rattle.rules.proofs.Bools.{and-rest, and-both, or-neither, or-cases, fails}
+use Rattle.rules.proofs.01-Lists.{numbers-none}
+use Rattle.rules.proofs.05-Descent.{descendant-object, descends-sound}
+use Rattle.rules.proofs.Edits.{put-long, put-none}
+use Rattle.rules.proofs.03-Names.{formed-long, formed-named, formed-fits}
 use Rattle.rules.proofs.07-Picture.{strip-pad}
 use Rattle.rules.specs.Read.{strip, name-offset}
 use Rattle.rules.proofs.09-Refusals.{Left}
@@ -37,16 +42,17 @@ use Rattle.base.proofs.Back.{sound-good}
 use Rattle.base.proofs.Kept.{sound-long, kept-like}
 use Rattle.lookup.proofs.SdsShown.{known, unknown}
 use Rattle.base.proofs.Shown.{presences-long}
-use Rattle.base.proofs.StoredLaws.{shows-schema, shows-next}
+use Rattle.base.proofs.StoredLaws.{shows-schema, shows-next, shows-has}
 use Rattle.lookup.proofs.Walked.{row-below, row-name}
 use Rattle.name_fields.specs.Field.{Stripped}
 use Rattle.conditions.specs.Reverse.{one-or-none, Reverse-of}
 use Rattle.conditions.specs.Aimed.{With-reverse, Refused-or}
 use Rattle.conditions.proofs.ReverseLaws.{one-is, none-is}
 use Rattle.base.proofs.TestedLaws.{tested-sound, tested-passes}
-use Rattle.conditions.proofs.AimedLaws.{system-not, name-borne, all-passed}
-use Rattle.rules.proofs.08-Working.{named-present}
-use Rattle.change_imports.specs.Import.{first-refusals, enter-refusals, enter}
+use Rattle.conditions.proofs.AimedLaws.{system-not, formed as name-formed, name-borne, all-passed}
+use Rattle.rules.proofs.08-Working.{named-present, holder, bearer-named, other-named}
+use Rattle.type_set.proofs.Members.{members-alike}
+use Rattle.change_imports.specs.Import.{first-refusals, enter-refusals, enter, nameless-of, brought, Lacking, Missing}
 
 -- ---- the tests of the SDSs, of the names and of the reverse
 
@@ -112,18 +118,19 @@ given-formed n e h = go (well-formed n) (and-rest (not (blank n)) (not (well-for
 pub given-long : (n : Name) → malformed-new n ≡ false → (length n ≡ 0 → ⊥) → length n ≤ 16
 given-long n e h = formed-long n (given-formed n e h) .1
 
-local-formed : {s : Schema} → Good s → (d t : ℕ) → present s d t ≡ true → well-formed (local-name s d t) ≡ true
-unfolding present local-name
-local-formed {s} good d t e =
-    let (i, h) = first-in (holds-type d t) nowhere (s .presences) e in
-    good .presence-named (first (holds-type d t) nowhere (s .presences)) i
+local-formed : {s : Schema} → Good s → (d t : ℕ) → present s d t ≡ true → blank (local-name s d t) ≡ false → well-formed (local-name s d t) ≡ true
+unfolding local-name
+local-formed {s} good d t e named =
+    let p = type-presence s d t in
+    ⊎-elim (λ b. absurd (true≢false (sym b ∙ named))) (λ w. w)
+    (or-cases (blank (p .name)) (well-formed (p .name)) (good .presence-named p (holder s d t e .0)))
 
-pub filled-formed : {s : Schema} → Good s → (d t : ℕ) (new : Name) → present s d t ≡ true → malformed-new new ≡ false
-    → well-formed (filled s d t new) ≡ true
-filled-formed {s} good d t new e f = go (blank new) refl
+pub filled-formed : {s : Schema} → Good s → (d t : ℕ) (new : Name) → present s d t ≡ true → blank (local-name s d t) ≡ false
+    → malformed-new new ≡ false → well-formed (filled s d t new) ≡ true
+filled-formed {s} good d t new e named f = go (blank new) refl
   where
     go : (x : Bool) → blank new ≡ x → well-formed (cond x (local-name s d t) new) ≡ true
-    go true q = local-formed good d t e
+    go true q = local-formed good d t e named
     go false q = given-formed new f (λ z. true≢false (sym (eq-eqb (length new) 0 z) ∙ q))
 
 -- a name written into a field of zeros is the name in it
@@ -131,7 +138,7 @@ pub given-filled : (s : Schema) (d t : ℕ) (n field : Name) → malformed-new n
     → field ≡ written (replicate 16 0) 0 n → strip field ≡ filled s d t n
 given-filled s d t n field e h w =
     ap strip (w ∙ field-written [] [] n (limits .name) 0 refl (given-long n e h) ∙ append-nil (pad (limits .name) n))
-    ∙ strip-pad n (given-formed n e h) ∙ rw (ne-eqb (length n) 0 h)
+    ∙ strip-pad (formed-fits n (given-formed n e h)) ∙ rw (ne-eqb (length n) 0 h)
 
 module _ {b : List ℕ} {d t r : ℕ} (found : Presence-row b (presence-count b) d t r) (s : Sound b) (e : present (schema-of b) d t ≡ true) where
   pub row-room : r < limits .presences
@@ -160,16 +167,31 @@ module _ (b : List ℕ) (more : ℕ) where
 
 -- ---- presences put in
 
-pub enter-left : (d : ℕ) (ps : List Presence) (t r : ℕ) (s : Schema)
-    → Left (enter d ps t r s) (enter-refusals d ps s) (done t r 0 (with-presences s (put-all presence-before ps (s .presences))))
+pub enter-left : (d : ℕ) (named others : List Presence) (t r : ℕ) (s : Schema) → Left (enter d named others t r s) (enter-refusals d named others s)
+    (done t r 0 (with-presences s (put-all presence-before (named ++ others) (s .presences))))
 unfolding enter
-enter-left d ps t r s = record { is = refl }
+enter-left d named others t r s = record { is = refl }
 
 module _ (b : List ℕ) (d : ℕ) (n : Name) (t : ℕ) {b₁ : List ℕ}
     (out : Shows b₁ (with-presences (schema-of b) (put presence-before (new-presence d n t) ((schema-of b) .presences)))) where
-  pub entered-one : b₁ ≡ picture (with-presences (schema-of b) (put-all presence-before (new-presence d n t ∷ []) ((schema-of b) .presences)))
-  unfolding put-all
-  entered-one = out .shown
+  -- there is room for its ancestors that are missing, and they still are: it is none of them
+  pub lacking : Good (schema-of b) → (types : ℕ → Bool) → Missing d t types (schema-of b)
+      → presence-count b + 1 + length (members types) ≤ limits .presences → Lacking d types (schema-of b₁)
+  unfolding not-present present
+  lacking good types missing h =
+      shows-has (Lacking d types) out (record {
+        room = omega (arith, put-long presence-before (new-presence d n t) ((schema-of b) .presences), presences-long b);
+        lacked = λ k e.
+            let (above, out) = and-both (descends (schema-of b) t k) (not (present (schema-of b) d k)) (sym (missing .are k) ∙ e) in
+            put-none presence-before (holds-type d k) (new-presence d n t) ((schema-of b) .presences)
+            (rw (ne-eqb t k (λ same. good .acyclic t (descends-sound good t t (ap (descends (schema-of b) t) same ∙ above)))) (and-false (eqb d d)))
+            (not-true (present (schema-of b) d k) out);
+      })
+
+  pub entered-one : (types : ℕ → Bool) {b₂ : List ℕ} → Shows b₂ (brought d types (schema-of b₁))
+      → b₂ ≡ picture (with-presences (schema-of b) (put-all presence-before (new-presence d n t ∷ nameless-of d types) ((schema-of b) .presences)))
+  unfolding put-all brought
+  entered-one types out₂ = shows-next (brought d types) out out₂ .shown
 
   -- there is room for a second, and its name is still free
   pub room-second : presence-count b + 2 ≤ limits .presences → length ((schema-of b₁) .presences) < limits .presences
@@ -195,17 +217,24 @@ module _ (b : List ℕ) (d : ℕ) (n : Name) (t : ℕ) {b₁ : List ℕ}
 
 -- ---- the rule
 
+-- a link type has no ancestors
+none-missing : {s : Schema} → Good s → (target t : ℕ) {c r : ℕ} → kind-of s t ≡ paired c r → missing target t s ≡ []
+unfolding missing members
+none-missing {s} good target t pair =
+    numbers-none (λ a. descends s t a && not-present s target a) 0 128 (λ a l u.
+    ap (λ (x : Bool). x && not-present s target a)
+    (fails (descends s t a) (λ d. true≢false (sym (descendant-object (descends-sound good t a d)) ∙ ap is-object pair))))
+
 -- what follows the first refusals; rs is the reverse of t, if it has one
 abbrev rest-of : ℕ → ℕ → Name → Name → Schema → ℕ → List ℕ → Outcome Schema
 rest-of target source new new-reverse s t rs =
-    let ps : List Presence = new-presence target (filled s source t new) t ∷ map (λ r. new-presence target (filled s source r new-reverse) r) rs in
-    verdict ((11 when names-taken s target (map (λ p. p .name) ps)) ∷ (14 when presences-full s (length (t ∷ rs))) ∷ [])
-    (done t (getD rs 0 0) 0 (with-presences s (put-all presence-before ps (s .presences))))
+    enter target (new-presence target (filled s source t new) t ∷ map (λ r. new-presence target (filled s source r new-reverse) r) rs)
+    (map (nameless target) (missing target t s)) t (getD rs 0 0) s
 
 pub import-left : (target source : ℕ) (n new new-reverse : Name) (s : Schema) → Left (import target source n new new-reverse s)
     (first-refusals target source n new new-reverse s)
     (rest-of target source new new-reverse s (type-named s source n) (reverse s (type-named s source n)))
-unfolding import imported verdict
+unfolding import imported incoming enter verdict
 import-left target source n new new-reverse s = record { is = refl }
 
 -- what is so where none of the first refusals holds: t is the type that is named, u its reverse, 128 where it has none
@@ -215,6 +244,8 @@ pub record Importable (b : List ℕ) (target source : ℕ) (n new new-reverse : 
   pub outside : target ≡ 0 → ⊥
   pub below : t < 128
   pub there : present (schema-of b) source t ≡ true
+  pub named : blank (local-name (schema-of b) source t) ≡ false
+  pub lacks : present (schema-of b) target t ≡ false
   pub reversed : Reverse-of (schema-of b) t u
   pub formed : malformed-new new ≡ false
   pub formed-reverse : malformed-new new-reverse ≡ false
@@ -231,12 +262,16 @@ importable {b} {target} {source} {n} {new} {new-reverse} {t = t} told z =
     let found = told .so z in
     let named = found .type .named in
     let (formed, formed-reverse) = new-formed n new new-reverse (passed .fails 4) in
+    let borne = name-borne s source n (passed .fails 6) in
+    let given : blank n ≡ false = formed-named n (name-formed n (or-neither (malformed n) (malformed-new new || malformed-new new-reverse) (passed .fails 4) .0)) in
     record {
       sound = sound;
       small = first-below s target source (passed .fails 2);
       outside = system-not target (passed .fails 3);
       below = found .type .below;
-      there = named-present s source n (name-borne s source n (passed .fails 6)) named;
+      there = named-present s source n borne named;
+      named = ap (λ (u : ℕ). blank (local-name s source u)) named ∙ bearer-named (sound-good sound) source n given borne;
+      lacks = ap (present s target) named ∙ passed .fails 9;
       reversed = found .pair;
       formed = formed;
       formed-reverse = formed-reverse;
@@ -246,14 +281,17 @@ importable {b} {target} {source} {n} {new} {new-reverse} {t = t} told z =
     }
 
 module _ {b : List ℕ} {target source : ℕ} {n new new-reverse : Name} {t u : ℕ} (i : Importable b target source n new new-reverse t u) where
-  -- it has no reverse
-  pub import-one : u ≡ 128 → {name after : List ℕ} {a : Answer} → name ≡ filled (schema-of b) source t new
-      → Kept b (enter target (new-presence target name t ∷ []) t 0) a after → Kept b (import target source n new new-reverse) a after
-  unfolding enter
-  import-one e {name} q k =
+  -- it has no reverse: its ancestors that are missing come with it
+  pub import-one : u ≡ 128 → {name after : List ℕ} {a : Answer} {types : ℕ → Bool} → name ≡ filled (schema-of b) source t new
+      → ((k : ℕ) → types k ≡ descends (schema-of b) t k && not-present (schema-of b) target k)
+      → Kept b (enter target (new-presence target name t ∷ []) (nameless-of target types) t 0) a after
+      → Kept b (import target source n new new-reverse) a after
+  unfolding missing
+  import-one e {name} {types = types} q are k =
       let s = schema-of b in
+      let same = members-alike (λ a. descends s t a && not-present s target a) types (λ k h. sym (are k)) in
       kept-like (i .rule ∙ ap (rest-of target source new new-reverse s t) (none-is {r = u} (omega arith))
-      ∙ ap (λ (x : Name). enter target (new-presence target x t ∷ []) t 0 s) (sym q)) k
+      ∙ (λ j. enter target (new-presence target (sym q j) t ∷ []) (map (nameless target) (same j)) t 0 s)) k
 
   module _ (e : u ≡ 128 → ⊥) where
     pub reverse-below : u < 128
@@ -264,16 +302,24 @@ module _ {b : List ℕ} {target source : ℕ} {n new new-reverse : Name} {t u : 
         let (c, pair) = i .reversed .pair reverse-below in
         sound-good (i .sound) .reverse-present source t c u (i .there) pair
 
+    pub reverse-named : blank (local-name (schema-of b) source u) ≡ false
+    reverse-named =
+        let good = sound-good (i .sound) in
+        let (c, pair) = i .reversed .pair reverse-below in
+        let (c′, back) = good .reverse-in-turn t c u pair in
+        other-named good source u reverse-there (ap is-object back)
+
     -- its reverse comes with it
     pub import-both : {name other after : List ℕ} {a : Answer} → name ≡ filled (schema-of b) source t new
         → other ≡ filled (schema-of b) source u new-reverse
-        → Kept b (enter target (new-presence target name t ∷ new-presence target other u ∷ []) t u) a after
+        → Kept b (enter target (new-presence target name t ∷ new-presence target other u ∷ []) [] t u) a after
         → Kept b (import target source n new new-reverse) a after
-    unfolding enter
     import-both {name} {other} q w k =
         let s = schema-of b in
+        let (c, pair) = i .reversed .pair reverse-below in
+        let none = none-missing (sound-good (i .sound)) target t pair in
         kept-like (i .rule ∙ ap (rest-of target source new new-reverse s t) (one-is reverse-below)
-        ∙ (λ j. enter target (new-presence target (sym q j) t ∷ new-presence target (sym w j) u ∷ []) t u s)) k
+        ∙ (λ j. enter target (new-presence target (sym q j) t ∷ new-presence target (sym w j) u ∷ []) (map (nameless target) (none j)) t u s)) k
 
 -- the part of a field before its first zero
 pub cut-is : {field : List ℕ} {k : ℕ} → Stripped field k → take (k - 0) field ≡ strip field

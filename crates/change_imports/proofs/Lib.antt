@@ -1,1 +1,2 @@
 pub mod ImportLaws
+pub mod AncestorLaws

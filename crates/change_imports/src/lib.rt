@@ -1,7 +1,10 @@
-// A type of one SDS gets a presence in another, and its reverse with it.
+// A type of one SDS gets a presence in another, and its reverse with it, or its ancestors that are missing there.
+pub mod ancestors;
+
 use conditions::aimed::Told;
 use rules::Answer;
 use rules::Limits;
+use type_set::TypeSet;
 ghost use mathlib.Core.Path.{_≡_};
 ghost use mathlib.Core.List.{[], _∷_};
 ghost use mathlib.Core.Bool.{true, false, not, _&&_, _||_};
@@ -17,7 +20,8 @@ ghost use Rattle.rules.specs.Read.{strip};
 ghost use Rattle.base.specs.Back.{schema-of};
 ghost use Rattle.conditions.specs.Reverse.{one-or-none};
 ghost use Rattle.conditions.specs.Aimed.{With-reverse, Refused-or};
-ghost use Rattle.change_imports.specs.Import.{first-refusals, Enters, enter};
+ghost use Rattle.type_set.specs.Set.{has};
+ghost use Rattle.change_imports.specs.Import.{first-refusals, Enters, enter, Missing, nameless-of};
 
 // ---- what is tested before the names are filled in
 
@@ -99,9 +103,6 @@ fn named_by(
     if conditions::is_present(base, target, t) {
         return Told::refused(9);
     }
-    if conditions::is_parent_missing(base, target, t) {
-        return Told::refused(10);
-    }
     Told {
         no: 0,
         one: t,
@@ -130,19 +131,22 @@ fn filled(base: &[u8], source: usize, t: usize, new: &[u8]) -> [u8; Limits::NAME
 
 // ---- the presences
 
-// Type t comes into SDS d.
-fn enter_one(base: &mut [u8], d: usize, name: &[u8], t: usize) -> Answer
+// Type t comes into SDS d, and with it its ancestors that are missing there.
+fn enter_one(base: &mut [u8], d: usize, name: &[u8], t: usize, above: TypeSet) -> Answer
     requires { ⌜ Sound (now base) ⌝ }
     requires { ⌜ Enters d (now name) t ⌝ }
-    ensures { λ a. ⌜ Kept (now (base .entry)) (enter d (new-presence d (now (name .entry)) t ∷ []) t 0) a (now (base .exit)) ⌝ }
+    requires { ⌜ Missing d t (has above) (schema-of (now base)) ⌝ }
+    ensures { λ a. ⌜ Kept (now (base .entry))
+        (enter d (new-presence d (now (name .entry)) t ∷ []) (nameless-of d (has above)) t 0) a (now (base .exit)) ⌝ }
 {
     if lookup::named::type_in(base, d, name) != Limits::TYPES {
         return Answer::refused(11);
     }
-    if Limits::PRESENCES <= base::used::presence_count(base) {
+    if Limits::PRESENCES < base::used::presence_count(base) + 1 + above.count() {
         return Answer::refused(14);
     }
     edit::put_presence(base, d, name, t);
+    ancestors::bring(base, d, above);
     Answer::done(t, 0, 0)
 }
 
@@ -152,7 +156,7 @@ fn enter_both(base: &mut [u8], d: usize, name: &[u8], t: usize, other: &[u8], r:
     requires { ⌜ Enters d (now name) t ⌝ }
     requires { ⌜ Enters d (now other) r ⌝ }
     ensures { λ a. ⌜ Kept (now (base .entry))
-        (enter d (new-presence d (now (name .entry)) t ∷ new-presence d (now (other .entry)) r ∷ []) t r) a (now (base .exit)) ⌝ }
+        (enter d (new-presence d (now (name .entry)) t ∷ new-presence d (now (other .entry)) r ∷ []) [] t r) a (now (base .exit)) ⌝ }
 {
     if conditions::aimed::are_taken(base, d, name, other) {
         return Answer::refused(11);
@@ -183,7 +187,8 @@ pub fn import(
     let first = filled(base, source, named.one, new);
     let n = name_fields::name_length(&first);
     if named.two == Limits::TYPES {
-        return enter_one(base, target, &first[0..n], named.one);
+        let above = ancestors::missing(base, target, named.one);
+        return enter_one(base, target, &first[0..n], named.one, above);
     }
     let second = filled(base, source, named.two, new_reverse);
     let m = name_fields::name_length(&second);

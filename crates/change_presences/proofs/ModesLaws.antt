@@ -74,7 +74,7 @@ module _ (f : Presence → Presence) where
     pub changed-rise : {s : Schema} → Good s → (i : ℕ) → rising presence-before (changed-to f i (s .presences)) ≡ true
     changed-rise {s} good i =
         modes-rise nowhere (s .presences) (changed-to f i (s .presences)) (changed-long i (s .presences)) (λ j _. changed-same i j (s .presences))
-        (good .local-names-unique) (good .presences-rising)
+        (good .one-presence) (good .presences-rising)
 
 -- ---- one row
 

@@ -8,16 +8,18 @@ use lib.Dec.{eqb}
 use borrow.Author.Tests.{eqb-true}
 use Rattle.rules.specs.01-Lists.{_∈_, any, all, among, without}
 use Rattle.rules.specs.03-Names.{Name}
-use Rattle.rules.specs.04-Schema.{Schema, Presence, with-reverse, holds-type, present, type-named, with-presences}
+use Rattle.rules.specs.04-Schema.{Schema, Presence, holds-type, present, type-named, with-presences}
 use Rattle.rules.specs.04-Schema.Kind.{unused}
 use Rattle.rules.specs.06-Good.{Good}
 use Rattle.rules.specs.07-Picture.{Sound, picture}
 use Rattle.rules.specs.09-Refusals.{Outcome, Refusals}
 use Rattle.rules.specs.09-Refusals.Outcome.{done}
-use Rattle.rules.specs.10-Changes.{less-gone, obstacles, remove-type, remove-type-refusals}
+use Rattle.rules.specs.10-Changes.{less-gone, less-type, obstacles, remove-type, remove-type-refusals, remove-number, remove-number-refusals}
 use Rattle.rules.proofs.Bools.{and-both}
 use Rattle.rules.proofs.01-Lists.{any-at, any-where}
 use Rattle.rules.proofs.Edits.{without-in, without-keeps, without-same, without-twice}
+use Rattle.rules.proofs.NameTests.{type-present}
+use Rattle.rules.proofs.08-Working.{named-present}
 use Rattle.rules.proofs.09-Refusals.{Left}
 use Rattle.base.specs.Back.{schema-of}
 use Rattle.base.specs.Stored.{Shows, Stored, Becomes}
@@ -25,12 +27,12 @@ use Rattle.base.specs.Tested.{Tested}
 use Rattle.base.proofs.Back.{sound-good}
 use Rattle.base.proofs.StoredLaws.{shows-next, shows-has}
 use Rattle.base.proofs.TestedLaws.{Come, come-rest, tested-sound, tested-passes}
-use Rattle.conditions.specs.Aimed.{With-reverse, Refused-or}
+use Rattle.conditions.specs.Aimed.{Type-of, With-reverse, Refused-or}
 use Rattle.conditions.specs.Reverse.{Reverse-of}
 use Rattle.conditions.proofs.AimedLaws.{all-passed, name-borne}
 use Rattle.conditions.proofs.ReverseLaws.{one-is, none-is}
-use Rattle.change_presences.specs.Remove.{Held-once, less-presence, Refused-telling}
-use Rattle.change_presences.proofs.HeldLaws.{held, held-named}
+use Rattle.change_presences.specs.Remove.{Held-once, less-presence, Refused-telling, Unheld}
+use Rattle.change_presences.proofs.HeldLaws.{held}
 
 -- ---- the reverse
 
@@ -71,21 +73,23 @@ module _ (b : List ℕ) (t : ℕ) where
   unfolding less-gone
   gone e out = rw e out
 
--- ---- the rule
+-- ---- the rules
 
 -- the types ts gone from SDS d
 abbrev cleared : ℕ → List ℕ → Schema → Schema
 cleared d ts s = less-gone ts (with-presences s (without (λ p. eqb (p .sds) d && among ts (p .type)) (s .presences)))
 
-abbrev pub removed : ℕ → ℕ → Schema → Schema
-removed d t s = cleared d (with-reverse s t) s
+-- a removal of type t from SDS d that nothing stands in the way of
+abbrev removal : ℕ → ℕ → Schema → Outcome Schema
+removal d t s = done t 0 0 (less-type d t s)
 
-abbrev pub remove-effect : ℕ → Name → Schema → Outcome Schema
-remove-effect d n s = done (type-named s d n) 0 0 (removed d (type-named s d n) s)
-
-pub remove-left : (d : ℕ) (n : Name) (s : Schema) → Left (remove-type d n s) (remove-type-refusals d n s) (remove-effect d n s)
+pub remove-left : (d : ℕ) (n : Name) (s : Schema) → Left (remove-type d n s) (remove-type-refusals d n s) (removal d (type-named s d n) s)
 unfolding remove-type
 remove-left d n s = record { is = refl }
+
+pub number-left : (d t : ℕ) (s : Schema) → Left (remove-number d t s) (remove-number-refusals d t s) (removal d t s)
+unfolding remove-number
+number-left d t s = record { is = refl }
 
 -- refused for its name, or for an obstacle; or not
 module _ {b : List ℕ} {rs : Refusals} {So : Type 0} where
@@ -103,34 +107,55 @@ module _ {b : List ℕ} {rs : Refusals} {So : Type 0} where
     so = λ _. x;
   }
 
--- the obstacles of the type named
-pub named-obstacles : {b : List ℕ} {whole : Refusals} (d : ℕ) (n : Name) {t no one : ℕ}
-    → Come b whole (obstacles d (type-named (schema-of b) d n) (schema-of b)) → t ≡ type-named (schema-of b) d n
-    → Tested b (obstacles d t (schema-of b)) no one → Tested b whole no one
-named-obstacles {b} d n {no = k} {one = v} come e t = come-rest come (subst (λ (y : ℕ). Tested b (obstacles d y (schema-of b)) k v) e t)
+-- what is told of the obstacles of type t is told of a call that tests them last
+pub obstacles-told : {b : List ℕ} {whole : Refusals} (d : ℕ) {t u no one two : ℕ} {So : Type 0} → Come b whole (obstacles d u (schema-of b)) → t ≡ u
+    → (Unheld b t one two → So) → Refused-telling b (obstacles d t (schema-of b)) no one (Unheld b t one two) → Refused-telling b whole no one So
+obstacles-told {b} d {no = k} come e f r = record {
+  value = r .value;
+  told = come-rest come (subst (λ (y : ℕ). Tested b (obstacles d y (schema-of b)) k (r .value)) e (r .told));
+  tells = r .tells;
+  so = λ z. f (r .so z);
+}
 
--- what the call goes on with where nothing refuses
-pub record Through (b : List ℕ) (d : ℕ) (n : Name) (t r : ℕ) : Type 0 where
+-- the type that was named, and its reverse
+pub named-unheld : {b : List ℕ} {d : ℕ} {n : Name} {t one two : ℕ} → Type-of b d n t → Unheld b t one two → With-reverse b d n one two
+named-unheld {b} {d} {n} {two = r} found u = record {
+  type = subst (λ (x : ℕ). Type-of b d n x) (sym (u .type)) found;
+  pair = subst (λ (x : ℕ). Reverse-of (schema-of b) x r) (sym (u .type)) (u .pair);
+}
+
+-- what a call goes on with where nothing refuses
+pub record Through (b : List ℕ) (d t r : ℕ) (rule : Schema → Outcome Schema) : Type 0 where
   pub sound : Sound b
-  pub below : t < 128
-  pub once : Held-once (schema-of b) d t
+  pub there : present (schema-of b) d t ≡ true
   pub pair : Reverse-of (schema-of b) t r
-  pub rule : remove-type d n (schema-of b) ≡ done t 0 0 (removed d t (schema-of b))
+  pub done-so : rule (schema-of b) ≡ removal d t (schema-of b)
 
-pub goes-through : {b : List ℕ} {d : ℕ} {n : Name} {no t r : ℕ}
-    → Refused-telling b (remove-type-refusals d n (schema-of b)) no t (With-reverse b d n t r) → no ≡ 0 → Through b d n t r
-unfolding all
-goes-through {b} {d} {n} told z =
-    let s = tested-sound (told .told) z in
-    let found = told .so z in
-    record {
-      sound = s;
-      below = found .type .below;
-      once = held-named (sound-good s) n (name-borne (schema-of b) d n (all-passed (told .told) z refl .fails 6)) (found .type .named);
-      pair = found .pair;
-      rule = tested-passes (told .told) z refl (remove-left d n (schema-of b))
-          ∙ ap (λ (y : ℕ). done y 0 0 (removed d y (schema-of b))) (sym (found .type .named));
-    }
+module _ {b : List ℕ} {d no one two : ℕ} where
+  pub goes-through : {n : Name} → Refused-telling b (remove-type-refusals d n (schema-of b)) no one (With-reverse b d n one two) → no ≡ 0
+      → Through b d one two (remove-type d n)
+  unfolding all
+  goes-through {n} told z =
+      let s = schema-of b in
+      let found = told .so z in record {
+        sound = tested-sound (told .told) z;
+        there = named-present s d n (name-borne s d n (all-passed (told .told) z refl .fails 6)) (found .type .named);
+        pair = found .pair;
+        done-so = tested-passes (told .told) z refl (remove-left d n s) ∙ ap (λ (y : ℕ). removal d y s) (sym (found .type .named));
+      }
+
+  pub number-through : {t : ℕ} → Refused-telling b (remove-number-refusals d t (schema-of b)) no one (Unheld b t one two) → no ≡ 0
+      → Through b d one two (remove-number d t)
+  unfolding all
+  number-through {t} told z =
+      let s = schema-of b in
+      let found = told .so z in
+      subst (λ (x : ℕ). Through b d x two (remove-number d t)) (sym (found .type)) (record {
+        sound = tested-sound (told .told) z;
+        there = type-present s d t (all-passed (told .told) z refl .fails 6);
+        pair = found .pair;
+        done-so = tested-passes (told .told) z refl (number-left d t s);
+      })
 
 one-out : (d t : ℕ) (ps : List Presence) → without (holds-type d t) ps ≡ without (λ p. eqb (p .sds) d && among (t ∷ []) (p .type)) ps
 unfolding any
@@ -156,14 +181,14 @@ module _ (b : List ℕ) (d : ℕ) {b₁ : List ℕ} {t r : ℕ} (rev : Reverse-o
   pub reverse-held : Sound b → Held-once (schema-of b) d t → r < 128 → Held-once (schema-of b₁) d r
   reverse-held s once h = shows-has (λ x. Held-once x d r) out (held-reverse (sound-good s) once rev h)
 
-  pub removed-one : r ≡ 128 → {b₂ : List ℕ} → Shows b₂ (less-gone (t ∷ []) (schema-of b₁)) → b₂ ≡ picture (removed d t (schema-of b))
+  pub removed-one : r ≡ 128 → {b₂ : List ℕ} → Shows b₂ (less-gone (t ∷ []) (schema-of b₁)) → b₂ ≡ picture (less-type d t (schema-of b))
   removed-one e out₂ =
       shows-next (less-gone (t ∷ [])) out out₂ .shown
       ∙ ap (λ (ps : List Presence). picture (less-gone (t ∷ []) (with-presences (schema-of b) ps))) (one-out d t ((schema-of b) .presences))
       ∙ ap (λ (ts : List ℕ). picture (cleared d (t ∷ ts) (schema-of b))) (sym (rev .is ∙ none-is {r = r} (omega arith)))
 
   pub removed-two : r < 128 → {b₂ b₃ b₄ : List ℕ} → Shows b₂ (less-presence d r (schema-of b₁)) → Shows b₃ (less-gone (t ∷ []) (schema-of b₂))
-      → Shows b₄ (less-gone (r ∷ []) (schema-of b₃)) → b₄ ≡ picture (removed d t (schema-of b))
+      → Shows b₄ (less-gone (r ∷ []) (schema-of b₃)) → b₄ ≡ picture (less-type d t (schema-of b))
   unfolding less-gone
   removed-two h out₂ out₃ out₄ =
       shows-next (less-gone (r ∷ [])) (shows-next (less-gone (t ∷ [])) (shows-next (less-presence d r) out out₂) out₃) out₄ .shown

@@ -1,2 +1,3 @@
 pub mod Remove
 pub mod Modes
+pub mod Rename

@@ -6,7 +6,9 @@ use mathlib.Core.Bool.{true}
 use Rattle.rules.specs.01-Lists.{_∈_, without}
 use Rattle.rules.specs.04-Schema.{Schema, Presence, holds-type, present, with-presences}
 use Rattle.rules.specs.09-Refusals.{Refusals}
+use Rattle.base.specs.Back.{schema-of}
 use Rattle.base.specs.Tested.{Tested}
+use Rattle.conditions.specs.Reverse.{Reverse-of}
 
 -- type t is in SDS d by one presence: the base is not sound any more when the second type of a pair is taken out
 pub record Held-once (s : Schema) (d t : ℕ) : Type 0 where
@@ -23,3 +25,8 @@ pub record Refused-telling (b : List ℕ) (rs : Refusals) (no one : ℕ) (So : T
   pub told : Tested b rs no value
   pub tells : (no ≡ 0 → ⊥) → one ≡ value
   pub so : no ≡ 0 → So
+
+-- one is type t, and two its reverse, 128 where it has none
+pub record Unheld (b : List ℕ) (t one two : ℕ) : Type 0 where
+  pub type : one ≡ t
+  pub pair : Reverse-of (schema-of b) t two

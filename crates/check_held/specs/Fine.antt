@@ -8,7 +8,7 @@ use Rattle.rules.specs.01-Lists.{_∈_}
 use Rattle.rules.specs.02-Limits.{limits}
 use Rattle.rules.specs.04-Schema.{Presence}
 use Rattle.rules.specs.07-Picture.{base-length}
-use Rattle.rules.specs.Parts.{Sdss, Kinds, Parents, Reverses, Presence-rows, Once, Typed, Closed, Somewhere, Application-rows, Applications-fit}
+use Rattle.rules.specs.Parts.{Sdss, Kinds, Parents, Reverses, Presence-rows, Once, Typed, Nameless, Closed, Somewhere, Application-rows, Applications-fit}
 use Rattle.rules.specs.Parts.{End-rows, Ends-fit, Ends-mirrored}
 use Rattle.base.specs.Tables.{Blank-from, Written, sdss, types, presences, applications, ends}
 use Rattle.base.specs.Back.{presence-count, application-count, end-count, schema-of}
@@ -18,12 +18,13 @@ pub record Sdss-fine (b : List ℕ) : Type 0 where
   pub sds-fields : Written sdss (limits .sdss) b
   pub sdss : Sdss ((schema-of b) .sdss)
 
--- types are asked for their numbers alone
+-- types are asked for their numbers alone, and those of nameless presences for their kind
 pub record Presences-fine (b : List ℕ) : Type 0 where
   pub presence-rows : Written presences (presence-count b) b
   pub presence-rest : Blank-from presences (presence-count b) b
   pub rows : Presence-rows ((schema-of b) .sdss) ((schema-of b) .presences)
   pub once : Once ((schema-of b) .presences)
+  pub nameless : Nameless ((schema-of b) .types) ((schema-of b) .presences)
   pub small : (p : Presence) → p ∈ (schema-of b) .presences → p .type < limits .types
 
 -- all but that no type is its own ancestor; with what the SDSs hold of each

@@ -1,9 +1,10 @@
 -- What the loop over the presences keeps of the rows passed, and what its tests say of the next one. Assumes nothing.
-use Prim.Native.Nat.{ℕ, _+_, _≤_, _<_}
+use Prim.Native.Nat.{ℕ, _+_, _<_}
 use native.Mathlib.Omega.{arith}
 use mathlib.Core.Path.{_≡_, refl, sym, ap, ap₂, _∙_, subst}
+use mathlib.Core.Logic.{inl}
 use mathlib.Core.List.{List}
-use mathlib.Core.Bool.{Bool, true, false, true≢false, false≢true}
+use mathlib.Core.Bool.{Bool, true, false, not, _&&_, _||_, true≢false, false≢true}
 use lib.Dec.{ltb}
 use lib.ListN.{length, getD, set, replicate}
 use borrow.Author.Count.{below-none, below-more}
@@ -22,9 +23,10 @@ use Rattle.rows.proofs.Scan.{rising-one, rising-more, rising-not}
 use Rattle.base.specs.Rows.{presence-at}
 use Rattle.base.specs.Back.{schema-of}
 use Rattle.check_held.specs.Held.{marked}
-use Rattle.check_presences.specs.Rows.{Row-fine, System-first, Rows-fine}
+use Rattle.check_presences.specs.Rows.{Row-fine, System-first, tag, told-apart, Rows-fine}
 use Rattle.check_presences.specs.Gathered.{Gathers, Rows-gathered}
 use Rattle.check_presences.proofs.GatherLaws.{gathers-first, gathers-more}
+use Rattle.check_presences.proofs.OrderLaws.{told-rows}
 use Rattle.check_presences.proofs.RowLaws.{object-named}
 
 -- the rows up to row k are fine and gathered, and the key is that of row k
@@ -42,12 +44,12 @@ passed-first {b} held s u e key = record {
   key = key;
   fine = record {
     each = below-more _ 0 (below-none _) (record {
-      named = object-named _ (s .name);
+      named = inl (object-named _ (s .name));
       small = omega (arith, s .type);
       known = record { usage = omega (arith, s .usage); definition = omega (arith, s .definition) };
     });
     in-used = below-more _ 0 (below-none _) (ap (used-sds (schema-of b)) (s .sds) ∙ u);
-    rise = rising-one (λ i. front b (presence-at i));
+    rise = rising-one (told-apart b);
     once = λ i j l h. absurd (omega arith);
   };
   gathers = gathers-first b held e (s .type) (s .sds);
@@ -64,27 +66,26 @@ passed-all {b} {held} p e =
 
 -- ---- the next row
 
+-- two rows stand by their keys, and where these are the same by their tags
+pub keys-before : (b : List ℕ) {i j : ℕ} {row next : Key} → length b ≡ base-length → ((k : ℕ) → getD b k 0 < 256) → i < limits .presences
+    → j < limits .presences → Keyed b (presence-at i) row → Keyed b (presence-at j) next → bytes-before (told-apart b i) (told-apart b j)
+    ≡ (bytes-before (numbers-of row) (numbers-of next) || (not (bytes-before (numbers-of next) (numbers-of row)) && ltb (tag b i) (tag b j)))
+keys-before b {i} {j} {row} {next} long bytes h k x y =
+    told-rows b long i j h k ∙ (λ z. keys h k x y z || (not (keys k h y x z) && ltb (tag b i) (tag b j)))
+  where
+    keys : {i j : ℕ} {row next : Key} → i < limits .presences → j < limits .presences → Keyed b (presence-at i) row → Keyed b (presence-at j) next
+        → bytes-before (front b (presence-at i)) (front b (presence-at j)) ≡ bytes-before (numbers-of row) (numbers-of next)
+    keys {i} {j} {row} {next} h k x y = keyed-before b (presence-at i) (presence-at j) row next bytes (omega arith) (omega arith) x y
+
 -- the rows up to row k are passed, there is a next one, and `next` is its key
 pub record Next (b : List ℕ) (n k : ℕ) (row : Key) (held : List ℕ) (next : Key) : Type 0 where
-  pub long : length b ≡ base-length
-  pub few : n ≤ limits .presences
-  pub bytes : (j : ℕ) → getD b j 0 < 256
   pub passed : Passed b k row held
   pub below : k + 1 < n
   pub key : Keyed b (presence-at (k + 1)) next
 
 module _ {b held : List ℕ} {n k : ℕ} {row next : Key} (x : Next b n k row held next) where
-  -- the test of the keys of two rows
-  keys : {r : Bool} → r ≡ bytes-before (numbers-of row) (numbers-of next)
-      → bytes-before (front b (presence-at k)) (front b (presence-at (k + 1))) ≡ r
-  keys e =
-      keyed-before b (presence-at k) (presence-at (k + 1)) row next (x .bytes) (omega (arith, x .long, x .few, x .below))
-      (omega (arith, x .long, x .few, x .below)) (x .passed .key) (x .key)
-      ∙ sym e
-
-  pub not-rising : {r : Bool} → r ≡ bytes-before (numbers-of row) (numbers-of next) → r ≡ false → Rows-fine b n → ⊥
-  not-rising e f fine =
-      rising-not (λ i. front b (presence-at i)) k n (omega (arith, x .below)) (keys e ∙ f) (fine .rise)
+  pub not-rising : {r : Bool} → r ≡ bytes-before (told-apart b k) (told-apart b (k + 1)) → r ≡ false → Rows-fine b n → ⊥
+  not-rising e f fine = rising-not (told-apart b) k n (omega (arith, x .below)) (sym e ∙ f) (fine .rise)
 
   module _ (t d : ℕ) (is-t : t ≡ getD b (presence-at (k + 1) + type-offset) 0) (is-d : d ≡ next .sds) (ht : t < 128) (hd : d < 16) where
     -- a bit that is there already: an SDS holds a type twice
@@ -93,14 +94,14 @@ module _ {b held : List ℕ} {n k : ℕ} {row next : Key} (x : Next b n k row he
         let (i, h, s, e) = x .passed .gathers .marks t d ht hd q in
         fine .once i (k + 1) h (x .below) (s ∙ is-d ∙ x .key .sds) (e ∙ is-t)
 
-    pub passed-more : {r : Bool} → r ≡ bytes-before (numbers-of row) (numbers-of next) → r ≡ true → used-sds (schema-of b) d ≡ true
+    pub passed-more : {r : Bool} → r ≡ bytes-before (told-apart b k) (told-apart b (k + 1)) → r ≡ true → used-sds (schema-of b) d ≡ true
         → Row-fine b (k + 1) → bit (getD held t 0) d ≡ false → Passed b (k + 1) next (marked held t d)
     passed-more e f used fine new = record {
       key = x .key;
       fine = record {
         each = below-more _ (k + 1) (x .passed .fine .each) fine;
         in-used = below-more _ (k + 1) (x .passed .fine .in-used) (ap (used-sds (schema-of b)) (sym (x .key .sds) ∙ sym is-d) ∙ used);
-        rise = rising-more (λ i. front b (presence-at i)) k (x .passed .fine .rise) (keys e ∙ f);
+        rise = rising-more (told-apart b) k (x .passed .fine .rise) (sym e ∙ f);
         once = λ i j l h s y. go i j l h s y (ltb j (k + 1)) refl;
       };
       gathers = gathers-more (x .passed .gathers) t d is-t (is-d ∙ x .key .sds) ht hd;

@@ -2,12 +2,12 @@
 use Prim.Native.Nat.{ℕ, zero, suc, _+_, _<_}
 use native.Mathlib.Omega.{arith}
 use mathlib.Core.Path.{_≡_, refl, sym, ap, ap₂, _∙_}
-use mathlib.Core.List.{List}
-use mathlib.Core.Bool.{Bool, true, false, true≢false, false≢true}
-use lib.ListN.{length, getD}
+use mathlib.Core.List.{List, [], _∷_, _++_}
+use mathlib.Core.Bool.{Bool, true, false, _||_, true≢false, false≢true}
+use lib.ListN.{length, getD, replicate}
 use Rattle.rules.specs.01-Lists.{_∈_}
 use Rattle.rules.specs.02-Limits.{limits}
-use Rattle.rules.specs.03-Names.{well-formed}
+use Rattle.rules.specs.03-Names.{blank, well-formed}
 use Rattle.rules.specs.04-Schema.{Presence, system-presence, used-sds, present}
 use Rattle.rules.specs.Parts.{of-presences, Once}
 use Rattle.rules.specs.07-Picture.{pad, base-length}
@@ -16,26 +16,25 @@ use Rattle.rules.proofs.Bools.{same-test}
 use Rattle.rules.proofs.Parts.{presence-of, present-each}
 use Rattle.rules.proofs.Parts as part
 use Rattle.type_set.specs.Set.{bit}
-use Rattle.name_fields.specs.Field.{name-field}
-use Rattle.name_fields.proofs.NamedFields.{name-field-formed, name-field-padded}
-use Rattle.rows.specs.Rows.{part, Counted, Halved, Level}
+use Rattle.name_fields.proofs.NamedFields.{name-field-formed}
+use Rattle.rows.specs.Rows.{part, Counted, Level}
 use Rattle.rows.specs.Order.{folded}
 use Rattle.rows.proofs.Decides.{decides-no, decides-iff}
-use Rattle.rows.proofs.Scan.{rising-level}
-use Rattle.base.specs.Tables.{Blank-from, presences, Written}
+use Rattle.rows.proofs.Scan.{rising-level, first-used}
+use Rattle.base.specs.Tables.{Blank-from, Presences-halved, presences, row-of, Written}
 use Rattle.base.specs.Rows.{presence-at}
 use Rattle.base.specs.Back.{schema-of, presence-count, presence-shown}
-use Rattle.base.proofs.Halved.{confirmed, halved-right}
+use Rattle.base.proofs.Halved.{confirmed}
 use Rattle.base.proofs.Shown.{presences-long, presence-in, presence-there}
-use Rattle.lookup.proofs.RowBytes.{name-first}
+use Rattle.lookup.proofs.RowBytes.{halved-counted}
 use Rattle.lookup.proofs.SdsShown.{used-below}
 use Rattle.check_held.specs.Held.{Holds}
 use Rattle.check_held.specs.Fine.{Presences-fine}
 use Rattle.check_held.proofs.HeldLaws.{present-shown}
-use Rattle.check_presences.specs.Rows.{System-first, Names-rise, Rows-fine}
+use Rattle.check_presences.specs.Rows.{Named-fine, System-first, tag, Names-rise, Rows-fine}
 use Rattle.check_presences.specs.Gathered.{Gathers, Rows-gathered, Gathered}
-use Rattle.check_presences.proofs.RowLaws.{named-written, written-named, name-used}
-use Rattle.check_presences.proofs.OrderLaws.{equal, row-once, rise-presences, rise-unique, presences-rise}
+use Rattle.check_presences.proofs.RowLaws.{fine-name, fine-nameless, named-written, written-named, name-used, object-named}
+use Rattle.check_presences.proofs.OrderLaws.{equal, row-field, row-once, rise-presences, rise-unique, presences-rise}
 
 record Found (b : List ℕ) (n : ℕ) : Type 0 where
   rows : Rows-fine b n
@@ -48,7 +47,23 @@ unfolding pad strip
 first-shown b n s = λ i. record { sds = s .sds i; name = (ap strip (s .name)) i; type = s .type i; usage = s .usage i; definition = s .definition i }
 
 level : (b : List ℕ) (n : ℕ) → Names-rise b n → Level b (presences .start) (presences .width) n
-level b n r = rising-level b (presences .start) (presences .width) n (λ i. folded (part b (presence-at i + name-offset) (limits .name))) r
+level b n r = rising-level b (presences .start) (presences .width) n (λ i. folded (part b (presence-at i + name-offset) (limits .name)) ++ (tag b i ∷ [])) r
+
+module _ {b : List ℕ} {n : ℕ} (f : Found b n) where
+  -- a presence in SDS 0 is the first
+  alone : (i : ℕ) → i < n → getD b (presence-at i) 0 ≡ 0 → i ≡ 0
+  alone zero h e = refl
+  alone (suc zero) h e = absurd (f .system .next h e)
+  alone (suc (suc i)) h e =
+      let le = level b n (f .rows .rise) 1 (suc (suc i)) (omega arith) h in
+      absurd (f .system .next (omega arith) (omega arith))
+
+  -- the first has a name, and the others are in SDSs that are not 0
+  used : (i : ℕ) → i < n → row-of presences b i ≡ replicate (presences .width) 0 → ⊥
+  used zero h =
+      name-used b 0 (name-field-formed (part b (presence-at 0 + name-offset) (limits .name))
+      (object-named (part b (presence-at 0 + name-offset) (limits .name)) (f .system .name)))
+  used (suc i) h = first-used b (presence-at (suc i)) (presences .width) (omega arith) (λ e. omega (arith, alone (suc i) h e))
 
 module _ (b : List ℕ) {n : ℕ} (long : length b ≡ base-length) (count : Counted (presence-count b) (limits .presences) n) where
   counted : (i : ℕ) → i < presence-count b → i < n
@@ -63,19 +78,11 @@ module _ (b : List ℕ) {n : ℕ} (long : length b ≡ base-length) (count : Cou
     written : Written presences (presence-count b) b
     written i h = named-written b long i (small i h) (f .rows .each i (counted i h) .named)
 
-    named : (i : ℕ) → i < presence-count b → well-formed ((presence-shown b i) .name) ≡ true
-    named i h = name-field-formed (part b (presence-at i + name-offset) (limits .name)) (f .rows .each i (counted i h) .named)
+    named : (i : ℕ) → i < presence-count b → blank ((presence-shown b i) .name) || well-formed ((presence-shown b i) .name) ≡ true
+    named i h = fine-name b i (f .rows .each i (counted i h) .named)
 
     rises : Names-rise b (presence-count b)
     rises = rw (count .is) at (f .rows .rise)
-
-    -- a presence in SDS 0 is the first
-    alone : (i : ℕ) → i < n → getD b (presence-at i) 0 ≡ 0 → i ≡ 0
-    alone zero h e = refl
-    alone (suc zero) h e = absurd (f .system .next h e)
-    alone (suc (suc i)) h e =
-        let le = level b n (f .rows .rise) 1 (suc (suc i)) (omega arith) h in
-        absurd (f .system .next (omega arith) (omega arith))
 
     once : Once ((schema-of b) .presences)
     once p q m o s e =
@@ -96,15 +103,16 @@ module _ (b : List ℕ) {n : ℕ} (long : length b ≡ base-length) (count : Cou
         in-used = λ p m. let (i, h, e) = presence-in b p m in rw e (f .rows .in-used i (counted i h));
         named = λ p m. let (i, h, e) = presence-in b p m in rw e (named i h);
         known = λ p m. let (i, h, e) = presence-in b p m in rw e (f .rows .each i (counted i h) .known);
-        unique = rise-unique b written named rises;
+        unique = rise-unique b long written named rises;
         system = rw (first-shown b n (f .system)) at (presence-there b 0 (omega (arith, count .is, f .system .some)));
         system-alone = λ p m z.
             let (i, h, e) = presence-in b p m in
-            let same : i ≡ 0 = alone i (counted i h) (sym (ap (λ (q : Presence). q .sds) e) ∙ z) in
+            let same : i ≡ 0 = alone f i (counted i h) (sym (ap (λ (q : Presence). q .sds) e) ∙ z) in
             e ∙ ap (presence-shown b) same ∙ first-shown b n (f .system);
-        rises = rise-presences b written named rises;
+        rises = rise-presences b long written named rises;
       };
       once = once;
+      nameless = λ p m. let (i, h, e) = presence-in b p m in rw e (fine-nameless b i (f .rows .each i (counted i h) .named));
       small = λ p m. let (i, h, e) = presence-in b p m in rw e (f .rows .each i (counted i h) .small);
     }
 
@@ -114,11 +122,11 @@ module _ (b : List ℕ) {n : ℕ} (long : length b ≡ base-length) (count : Cou
     there : (i : ℕ) → i < n → presence-shown b i ∈ (schema-of b) .presences
     there i h = presence-there b i (omega (arith, count .is))
 
-    named-of : (i : ℕ) → i < presence-count b → well-formed ((presence-shown b i) .name) ≡ true
+    named-of : (i : ℕ) → i < presence-count b → blank ((presence-shown b i) .name) || well-formed ((presence-shown b i) .name) ≡ true
     named-of i h = p .rows .named (presence-shown b i) (presence-there b i h)
 
     rising : Names-rise b (presence-count b)
-    rising = presences-rise b (p .presence-rows) named-of (p .rows .rises) (p .rows .unique)
+    rising = presences-rise b long (p .presence-rows) named-of (p .rows .rises) (p .rows .unique) (p .once)
 
     -- some row is that of a fresh base, so row 0 is in SDS 0, and so is that row
     first-sds : (0 < n) × (getD b (presence-at 0) 0 ≡ 0)
@@ -136,8 +144,10 @@ module _ (b : List ℕ) {n : ℕ} (long : length b ≡ base-length) (count : Cou
     zero-row : (i : ℕ) → i < n → getD b (presence-at i) 0 ≡ 0 → presence-shown b i ≡ system-presence
     zero-row i h e = p .rows .system-alone (presence-shown b i) (there i h) e
 
-    field : (i : ℕ) → i < n → name-field (part b (presence-at i + name-offset) (limits .name)) ≡ true
-    field i h = written-named b long i (omega (arith, count .fits)) (named-of i (omega (arith, count .is))) (p .presence-rows i (omega (arith, count .is)))
+    field : (i : ℕ) → i < n → Named-fine b i
+    field i h =
+        let k : i < presence-count b = omega (arith, count .is) in
+        written-named b long i (omega (arith, count .fits)) (named-of i k) (p .nameless (presence-shown b i) (there i h)) (p .presence-rows i k)
 
     presences-found : Found b n
     unfolding pad used-sds
@@ -159,7 +169,7 @@ module _ (b : List ℕ) {n : ℕ} (long : length b ≡ base-length) (count : Cou
             some = some;
             sds = zero-sds;
             type = ap (λ (q : Presence). q .type) one;
-            name = sym (name-field-padded (part b (presence-at 0 + name-offset) (limits .name)) (field 0 some))
+            name = row-field b 0 (p .presence-rows 0 (omega (arith, count .is)))
                 ∙ ap (λ (q : Presence). pad (limits .name) (q .name)) one;
             usage = ap (λ (q : Presence). q .usage) one;
             definition = ap (λ (q : Presence). q .definition) one;
@@ -169,7 +179,7 @@ module _ (b : List ℕ) {n : ℕ} (long : length b ≡ base-length) (count : Cou
       where
         twice : (i j : ℕ) → i < j → j < n → presence-shown b i ≡ presence-shown b j → ⊥
         twice i j l h e =
-            let same : i ≡ j = row-once b (p .presence-rows) named-of rising i j (omega (arith, count .is)) (omega (arith, count .is)) e in
+            let same : i ≡ j = row-once b long (p .presence-rows) named-of rising i j (omega (arith, count .is)) (omega (arith, count .is)) e in
             omega arith
 
         no-second : 1 < n → getD b (presence-at 1) 0 ≡ 0 → presence-shown b 0 ≡ system-presence → ⊥
@@ -208,20 +218,14 @@ module _ {b held : List ℕ} {n : ℕ} (long : length b ≡ base-length) (p : Pr
 
 -- ---- a count by halving
 
-module _ {b : List ℕ} {n : ℕ} (long : length b ≡ base-length) (half : Halved b (presences .start + name-offset) (presences .width) (limits .presences) n) where
+module _ {b : List ℕ} {n : ℕ} (long : length b ≡ base-length) (half : Presences-halved b n) where
   -- the rows that are fine confirm it
   found-count : Found b n → Counted (presence-count b) (limits .presences) n
-  found-count f =
-      confirmed presences b n (half .fits)
-      (λ i h. name-used b i (name-field-formed (part b (presence-at i + name-offset) (limits .name)) (f .rows .each i h .named)))
-      (f .rest)
+  found-count f = confirmed presences b n (omega (arith, half .is, half .halved .fits)) (used f) (f .rest)
 
   -- if the presences are fine, it is right
   pub fine-count : Presences-fine b → Counted (presence-count b) (limits .presences) n
-  fine-count p =
-      halved-right presences b name-offset n (omega arith) half
-      (λ i h. name-first b i (p .rows .named (presence-shown b i) (presence-there b i h)))
-      (p .presence-rest)
+  fine-count p = halved-counted b (p .rows .system) (p .rows .system-alone) (p .rows .rises) (p .presence-rest) half
 
   found-of : Presences-fine b → Found b n
   found-of p = presences-found b long (fine-count p) p

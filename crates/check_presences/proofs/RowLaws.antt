@@ -1,29 +1,52 @@
 -- A presence as its row is written. Assumes nothing.
-use Prim.Native.Nat.{ℕ, suc, _+_, _<_}
+use Prim.Native.Nat.{ℕ, suc, _+_, _-_, _<_}
 use native.Mathlib.Omega.{arith}
-use mathlib.Core.Path.{_≡_, refl, sym, ap, _∙_}
+use mathlib.Core.Path.{_≡_, refl, sym, ap, _∙_, subst}
+use mathlib.Core.Logic.{inl, inr, ⊎-elim}
 use mathlib.Core.List.{List, _∷_, _++_, tail-eq-of-cons-eq, append-cancel-right}
-use mathlib.Core.Bool.{true}
+use mathlib.Core.Bool.{Bool, true, cond, _||_}
+use lib.Dec.{eqb}
 use lib.ListN.{length, getD, take, drop, replicate}
 use lib.Seq.{drop-drop, take-add}
+use borrow.Author.Tests.{eqb-true}
 use Rattle.rules.specs.01-Lists.{same-bytes, all}
 use Rattle.rules.specs.02-Limits.{limits}
-use Rattle.rules.specs.03-Names.{letter, letter-or-digit, well-formed}
-use Rattle.rules.specs.04-Schema.{system-presence}
+use Rattle.rules.specs.03-Names.{blank, letter, letter-or-digit, well-formed}
+use Rattle.rules.specs.04-Schema.{system-presence, kind-of, is-object}
 use Rattle.rules.specs.07-Picture.{pad, presence-row, base-length, presence-width}
+use Rattle.rules.proofs.Bools.{or-cases, or-right}
 use Rattle.rules.proofs.01-Lists.{same-bytes-is, same-bytes-refl}
+use Rattle.rules.proofs.03-Names.{blank-is, formed-long}
 use Rattle.rules.proofs.07-Picture.{behind-name}
 use Rattle.rules.specs.Read.{strip, name-offset, type-offset, usage-offset, definition-offset}
-use Rattle.name_fields.specs.Field.{name-field}
-use Rattle.name_fields.proofs.NamedFields.{name-field-of, name-field-padded}
+use Rattle.name_fields.specs.Field.{name-field, blank-field}
+use Rattle.name_fields.proofs.NamedFields.{name-field-of, name-field-formed, name-field-padded, formed-first}
 use Rattle.rows.specs.Rows.{part}
-use Rattle.rows.proofs.Rows.{part-byte}
-use Rattle.rows.proofs.Scan.{part-cons}
+use Rattle.rows.specs.Decides.{Decides}
+use Rattle.rows.proofs.Rows.{part-part}
+use Rattle.rows.proofs.Scan.{length-part, part-cons, zeros-blank}
 use Rattle.base.specs.Tables.{presences, row-of, shown}
 use Rattle.base.specs.Rows.{presence-at}
-use Rattle.base.specs.Back.{presence-shown}
+use Rattle.base.specs.Back.{schema-of, presence-shown}
 use Rattle.base.proofs.Shown.{presence-read}
-use Rattle.lookup.proofs.RowBytes.{name-first}
+use Rattle.check_presences.specs.Rows.{Named-fine, tag}
+
+-- what `Named-fine` says of the field, of the name and, where there is none, of the type
+module _ (b : List ℕ) (i : ℕ) (e : Named-fine b i) where
+  fine-padded : pad (limits .name) (strip (part b (presence-at i + name-offset) (limits .name))) ≡ part b (presence-at i + name-offset) (limits .name)
+  unfolding pad strip
+  fine-padded = ⊎-elim (name-field-padded (part b (presence-at i + name-offset) (limits .name))) (λ z. rw (z .0)) e
+
+  pub fine-name : blank ((presence-shown b i) .name) || well-formed ((presence-shown b i) .name) ≡ true
+  unfolding strip
+  fine-name =
+      let f = part b (presence-at i + name-offset) (limits .name) in
+      ⊎-elim (λ n. or-right (blank (strip f)) (well-formed (strip f)) (name-field-formed f n)) (λ z. rw (z .0)) e
+
+  pub fine-nameless : blank ((presence-shown b i) .name) ≡ true → is-object (kind-of (schema-of b) (getD b (presence-at i + type-offset) 0)) ≡ true
+  fine-nameless none =
+      let f = part b (presence-at i + name-offset) (limits .name) in
+      ⊎-elim (λ n. absurd (omega (arith, formed-long (strip f) (name-field-formed f n), eqb-true (length (strip f)) 0 none))) (λ z. z .1) e
 
 module _ (b : List ℕ) (long : length b ≡ base-length) (i : ℕ) (h : i < limits .presences) where
   -- a row is its SDS, its field, and its type and modes
@@ -49,23 +72,47 @@ module _ (b : List ℕ) (long : length b ≡ base-length) (i : ℕ) (h : i < lim
           (from type-offset 2 (omega arith) ∙ ap (λ (l : List ℕ). getD b (presence-at i + type-offset) 0 ∷ l)
           (from usage-offset 1 (omega arith) ∙ ap (λ (l : List ℕ). getD b (presence-at i + usage-offset) 0 ∷ l) (from definition-offset 0 (omega arith))))
 
-  pub named-written : name-field (part b (presence-at i + name-offset) (limits .name)) ≡ true → presence-row (shown presences b i) ≡ row-of presences b i
-  unfolding presence-row
-  named-written e = ap presence-row (presence-read b i) ∙ rw (name-field-padded (part b (presence-at i + name-offset) (limits .name)) e) (sym row-parts)
+  -- whether its field is blank
+  pub zeros-decided : {r : Bool} → r ≡ blank-field (part b (presence-at i + name-offset) (limits .name))
+      → Decides (part b (presence-at i + name-offset) (limits .name) ≡ replicate (limits .name) 0) r
+  zeros-decided {r} =
+      let at = presence-at i + name-offset in
+      let same : at + limits .name - at ≡ limits .name = omega arith in
+      subst (λ (w : ℕ). r ≡ blank-field (part b at w) → Decides (part b at w ≡ replicate w 0) r) same
+      (zeros-blank b at (at + limits .name) r (omega arith) (omega arith))
 
-  pub written-named : well-formed ((presence-shown b i) .name) ≡ true → presence-row (shown presences b i) ≡ row-of presences b i
-      → name-field (part b (presence-at i + name-offset) (limits .name)) ≡ true
+  pub named-written : Named-fine b i → presence-row (shown presences b i) ≡ row-of presences b i
   unfolding presence-row
-  written-named w e =
+  named-written e = ap presence-row (presence-read b i) ∙ rw (fine-padded b i e) (sym row-parts)
+
+  pub written-named : blank ((presence-shown b i) .name) || well-formed ((presence-shown b i) .name) ≡ true
+      → (blank ((presence-shown b i) .name) ≡ true → is-object (kind-of (schema-of b) (getD b (presence-at i + type-offset) 0)) ≡ true)
+      → presence-row (shown presences b i) ≡ row-of presences b i → Named-fine b i
+  unfolding presence-row pad
+  written-named w object e =
       let f = part b (presence-at i + name-offset) (limits .name) in
       let last = behind-name (presence-shown b i) in
       let rest : pad (limits .name) (strip f) ++ last ≡ f ++ last = tail-eq-of-cons-eq (sym (ap presence-row (presence-read b i)) ∙ e ∙ row-parts) in
-      name-field-of f w (append-cancel-right (pad (limits .name) (strip f)) f last rest)
+      let padded : pad (limits .name) (strip f) ≡ f = append-cancel-right (pad (limits .name) (strip f)) f last rest in
+      ⊎-elim (λ z. inr (sym padded ∙ ap (pad (limits .name)) (blank-is (strip f) z), object z)) (λ formed. inl (name-field-of f formed padded))
+      (or-cases (blank (strip f)) (well-formed (strip f)) w)
 
 -- a row with a name is not blank
 pub name-used : (b : List ℕ) (i : ℕ) → well-formed ((presence-shown b i) .name) ≡ true → row-of presences b i ≡ replicate (presences .width) 0 → ⊥
 name-used b i w e =
-    name-first b i w (sym (part-byte b (presence-at i) (presences .width) name-offset (omega arith)) ∙ ap (λ (l : List ℕ). getD l name-offset 0) e)
+    let field : part b (presence-at i + name-offset) (limits .name) ≡ part (replicate (presences .width) 0) name-offset (limits .name)
+    = sym (part-part b (presence-at i) (presences .width) name-offset (limits .name) (omega arith))
+    ∙ ap (λ (l : List ℕ). part l name-offset (limits .name)) e in
+    formed-first (part b (presence-at i + name-offset) (limits .name)) w (ap (λ (l : List ℕ). getD l 0 0) field)
+
+-- its tag, by whether its field is blank
+pub tag-is : (b : List ℕ) (i : ℕ) {r : Bool} → r ≡ blank-field (part b (presence-at i + name-offset) (limits .name)) → (t : Bool) → r ≡ t
+    → cond t (getD b (presence-at i + type-offset) 0) 0 ≡ tag b i
+tag-is b i e t f = ap (λ (u : Bool). cond u (getD b (presence-at i + type-offset) 0) 0) (sym f ∙ e)
+
+pub field-long : (b : List ℕ) (i : ℕ) {f : List ℕ} → length b ≡ base-length → i < limits .presences
+    → f ≡ part b (presence-at i + name-offset) (limits .name) → length f ≡ limits .name
+field-long b i long h e = ap length e ∙ length-part b (presence-at i + name-offset) (limits .name) (omega arith)
 
 -- ---- the field of the name that a fresh base has
 

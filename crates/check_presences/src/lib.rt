@@ -1,20 +1,22 @@
-// Whether the presences are as they would be written, in order, each in an SDS and with a name, and none twice: in one pass, in which is
-// gathered which SDSs hold each type.
+// Whether the presences are as they would be written, in order, each in an SDS and with a name, or of an object type, and none twice: in
+// one pass, in which is gathered which SDSs hold each type.
 use base::Base;
+use rows::order::Key;
 use rules::Limits;
 ghost use mathlib.Core.Path.{_≡_};
 ghost use mathlib.Core.Bool.{true};
-ghost use Prim.Native.Nat.{_+_, _≤_, _<_};
+ghost use Prim.Native.Nat.{_≤_, _<_};
 ghost use lib.ListN.{length, replicate};
+ghost use Rattle.rules.specs.01-Lists.{bytes-before};
 ghost use Rattle.rules.specs.02-Limits.{limits};
 ghost use Rattle.rules.specs.04-Schema.{used-sds};
 ghost use Rattle.rules.specs.07-Picture.{base-length};
-ghost use Rattle.rules.specs.Read.{name-offset};
-ghost use Rattle.rows.specs.Rows.{Halved};
+ghost use Rattle.rows.specs.Order.{Keyed};
 ghost use Rattle.rows.specs.Decides.{Decides};
-ghost use Rattle.base.specs.Tables.{presences};
+ghost use Rattle.base.specs.Tables.{Presences-halved};
+ghost use Rattle.base.specs.Rows.{presence-at};
 ghost use Rattle.base.specs.Back.{schema-of};
-ghost use Rattle.check_presences.specs.Rows.{Row-fine, System-first};
+ghost use Rattle.check_presences.specs.Rows.{Named-fine, Row-fine, System-first, tag, told-apart};
 ghost use Rattle.check_presences.specs.Gathered.{Rows-gathered, Gathered};
 
 // Whether the first of n presences is that of a fresh base, and no other is in SDS 0.
@@ -46,12 +48,27 @@ fn system_first(base: &[u8], n: usize) -> bool
     base::presence_sds(base, 1) != 0
 }
 
-// Whether row i has a name, a type that there can be, and modes that are some of the five.
+// Whether row i has a name, or none and an object type.
+fn named_fine(base: &[u8], i: usize) -> bool
+    requires { ⌜ (length (now base) ≡ base-length) × (i < limits .presences) ⌝ }
+    ensures { λ r. ⌜ Decides (Named-fine (now (base .entry)) i) r ⌝ }
+{
+    let field = base::presence_field(base, i);
+    if name_fields::is_name_field(field) {
+        return true;
+    }
+    if !name_fields::is_nameless_field(field) {
+        return false;
+    }
+    lookup::types::is_kind(base, base::presence_type(base, i), Base::OBJECT)
+}
+
+// Whether row i has that, a type that there can be, and modes that are some of the five.
 fn presence_fine(base: &[u8], i: usize) -> bool
     requires { ⌜ (length (now base) ≡ base-length) × (i < limits .presences) ⌝ }
     ensures { λ r. ⌜ Decides (Row-fine (now (base .entry)) i) r ⌝ }
 {
-    if !name_fields::is_name_field(base::presence_field(base, i)) {
+    if !named_fine(base, i) {
         return false;
     }
     if base::presence_type(base, i) >= Limits::TYPES {
@@ -74,6 +91,32 @@ fn sds_fine(base: &[u8], last: usize, d: usize) -> bool
     lookup::sdss::is_sds(base, d)
 }
 
+// What nameless rows of an SDS are told apart by: the type, and 0 where row i has a name.
+fn tag(base: &[u8], i: usize) -> usize
+    requires { ⌜ (length (now base) ≡ base-length) × (i < limits .presences) ⌝ }
+    ensures { λ r. ⌜ r ≡ tag (now (base .entry)) i ⌝ }
+{
+    if !name_fields::is_nameless_field(base::presence_field(base, i)) {
+        return 0;
+    }
+    base::presence_type(base, i)
+}
+
+// Whether row `last` stands before row i, by their keys and, where these are the same, their tags.
+fn in_order(base: &[u8], last: usize, i: usize, row: Key, next: Key) -> bool
+    requires { ⌜ (length (now base) ≡ base-length) × ((last < limits .presences) × (i < limits .presences)) ⌝ }
+    requires { ⌜ Keyed (now base) (presence-at last) row × Keyed (now base) (presence-at i) next ⌝ }
+    ensures { λ r. ⌜ r ≡ bytes-before (told-apart (now (base .entry)) last) (told-apart (now (base .entry)) i) ⌝ }
+{
+    if rows::order::key_before(row, next) {
+        return true;
+    }
+    if rows::order::key_before(next, row) {
+        return false;
+    }
+    tag(base, last) < tag(base, i)
+}
+
 // Whether n rows, of which the first is that of a fresh base, are fine. The words are 0 before. A row's key is kept for the comparison
 // with the next one.
 fn rows_fine(base: &[u8], n: usize, held: &mut [u16]) -> bool
@@ -88,7 +131,7 @@ fn rows_fine(base: &[u8], n: usize, held: &mut [u16]) -> bool
     while last + 1 < n {
         let i = last + 1;
         let next = base::order::presence_key(base, i);
-        if !rows::order::key_before(row, next) {
+        if !in_order(base, last, i, row, next) {
             return false;
         }
         let d = next.sds as usize;
@@ -113,7 +156,7 @@ fn rows_fine(base: &[u8], n: usize, held: &mut [u16]) -> bool
 // The count n was found by halving: it is right if nothing stands behind n rows that are fine. The words are 0 before.
 pub fn presences_fine(base: &[u8], n: usize, held: &mut [u16]) -> bool
     requires { ⌜ length (now base) ≡ base-length ⌝ }
-    requires { ⌜ Halved (now base) (presences .start + name-offset) (presences .width) (limits .presences) n ⌝ }
+    requires { ⌜ Presences-halved (now base) n ⌝ }
     requires { ⌜ now held ≡ replicate (limits .types) 0 ⌝ }
     ensures { λ r. ⌜ Gathered (now (base .entry)) (now (held .exit)) r ⌝ }
 {

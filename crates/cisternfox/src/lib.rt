@@ -3,7 +3,8 @@
 use base::Base;
 use rules::Answer;
 ghost use Rattle.rules.specs.10-Changes.{new-sds, remove-sds, new-object, new-attribute, new-designation, new-pair, import, apply, unapply};
-ghost use Rattle.rules.specs.10-Changes.{apply-link, unapply-link, add-destination, remove-destination, remove-type, rename, set-modes};
+ghost use Rattle.rules.specs.10-Changes.{apply-link, unapply-link, add-destination, remove-destination, remove-type, remove-number, rename};
+ghost use Rattle.rules.specs.10-Changes.{rename-number, set-modes};
 ghost use Rattle.rules.specs.11-Asks.{scan-object, scan-link, profile, find, depth-of, name, descendant-set, modes-of};
 ghost use Rattle.rules.specs.07-Picture.{base-length};
 ghost use Rattle.rules.specs.12-Contracts.{room, Kept, Listed, Answered, Freshened};
@@ -146,10 +147,24 @@ pub extern "C" fn cf_remove_type(base: &mut [u8], sds: usize, name: &[u8]) -> An
 }
 
 #[no_mangle]
+pub extern "C" fn cf_remove_number(base: &mut [u8], sds: usize, t: usize) -> Answer
+    ensures { λ r. ⌜ Kept (now (base .entry)) (remove-number sds t) r (now (base .exit)) ⌝ }
+{
+    change_presences::remove::remove_number(base, sds, t)
+}
+
+#[no_mangle]
 pub extern "C" fn cf_rename(base: &mut [u8], sds: usize, name: &[u8], new: &[u8]) -> Answer
     ensures { λ r. ⌜ Kept (now (base .entry)) (rename sds (now (name .entry)) (now (new .entry))) r (now (base .exit)) ⌝ }
 {
     change_presences::rename::rename(base, sds, name, new)
+}
+
+#[no_mangle]
+pub extern "C" fn cf_rename_number(base: &mut [u8], sds: usize, t: usize, new: &[u8]) -> Answer
+    ensures { λ r. ⌜ Kept (now (base .entry)) (rename-number sds t (now (new .entry))) r (now (base .exit)) ⌝ }
+{
+    change_presences::rename::rename_number(base, sds, t, new)
 }
 
 #[no_mangle]

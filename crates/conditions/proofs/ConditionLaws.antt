@@ -10,7 +10,6 @@ use borrow.Author.Tests.{ltb-true, ltb-false, eq-eqb, ne-eqb}
 use Rattle.rules.specs.01-Lists.{any}
 use Rattle.rules.specs.04-Schema.{Side, parents, is-parent, holds-type, present, is-application, applied, is-end, has-end}
 use Rattle.rules.specs.07-Picture.{Sound}
-use Rattle.rules.specs.09-Refusals.{not-present, missing-parent}
 use Rattle.rules.specs.Read.{count-offset, parents-offset}
 use Rattle.rules.proofs.01-Lists.{any-at, any-there, any-nowhere}
 use Rattle.base.specs.Rows.{type-at}
@@ -43,15 +42,6 @@ module _ {b : List ℕ} (s : Sound b) {t n : ℕ} (h : t < 128) (count : n ≡ g
   pub parent-nowhere : ((i : ℕ) → i < n → getD b (type-at t + parents-offset + i) 0 ≡ a → ⊥) → false ≡ is-parent (schema-of b) t a
   unfolding is-parent
   parent-nowhere none = no-parent s h count (eqb a) (λ i u. ne-eqb a (getD b (type-at t + parents-offset + i) 0) (λ q. none i u (sym q)))
-
-  pub missing-here : (i : ℕ) → i < n → present (schema-of b) a (getD b (type-at t + parents-offset + i) 0) ≡ false → true ≡ missing-parent (schema-of b) a t
-  unfolding missing-parent not-present
-  missing-here i u e = some-parent s h count (not-present (schema-of b) a) i u (ap not e)
-
-  pub missing-nowhere : ((i : ℕ) → i < n → present (schema-of b) a (getD b (type-at t + parents-offset + i) 0) ≡ true)
-      → false ≡ missing-parent (schema-of b) a t
-  unfolding missing-parent not-present
-  missing-nowhere none = no-parent s h count (not-present (schema-of b) a) (λ i u. ap not (none i u))
 
 -- ---- presences
 

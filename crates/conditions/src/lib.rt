@@ -11,7 +11,6 @@ ghost use Rattle.rules.specs.01-Lists.{any};
 ghost use Rattle.rules.specs.02-Limits.{limits};
 ghost use Rattle.rules.specs.04-Schema.{present, is-parent, applied, has-end};
 ghost use Rattle.rules.specs.07-Picture.{Sound, base-length};
-ghost use Rattle.rules.specs.09-Refusals.{missing-parent};
 ghost use Rattle.rules.specs.Read.{read-side};
 ghost use Rattle.base.specs.Back.{schema-of};
 ghost use Rattle.conditions.specs.Reverse.{Reverse-of};
@@ -67,22 +66,6 @@ pub fn is_elsewhere(base: &[u8], t: usize) -> bool
     let mut i = 0;
     while i < n {
         if base::presence_type(base, i) == t {
-            return true;
-        }
-        i += 1;
-    }
-    false
-}
-
-// Whether some parent of type t is not in the target.
-pub fn is_parent_missing(base: &[u8], target: usize, t: usize) -> bool
-    requires { ⌜ Sound (now base) × (t < limits .types) ⌝ }
-    ensures { λ r. ⌜ r ≡ missing-parent (schema-of (now (base .entry))) target t ⌝ }
-{
-    let n = base::parent_count(base, t);
-    let mut i = 0;
-    while i < n {
-        if !is_present(base, target, base::parent(base, t, i)) {
             return true;
         }
         i += 1;

@@ -2,6 +2,7 @@
 use Prim.Native.Nat.{ℕ, zero, suc, _+_, _*_, _%_, _≤_, _<_}
 use native.Mathlib.Omega.{arith}
 use mathlib.Core.Path.{_≡_, refl, sym, ap, _∙_}
+use mathlib.Core.Logic.{_⊎_, ⊎-elim}
 use mathlib.Core.List.{List, [], _∷_, _++_}
 use mathlib.Core.Bool.{Bool, true, false, _&&_, true≢false}
 use lib.Dec.{eqb}
@@ -11,7 +12,7 @@ use Rattle.rules.specs.01-Lists.{any, put}
 use Rattle.rules.specs.02-Limits.{limits}
 use Rattle.rules.specs.03-Names.{same-name}
 use Rattle.rules.specs.04-Schema.{new-presence, with-modes}
-use Rattle.rules.specs.04-Schema.{Schema, Presence, Application, End, holds-name, bears, is-application, applied, is-end, has-end, side-code}
+use Rattle.rules.specs.04-Schema.{Schema, Presence, Application, End, holds-type, present, holds-name, bears, is-application, applied, is-end, has-end, side-code}
 use Rattle.rules.specs.07-Picture.{presence-width, presence-row, application-row, end-row}
 use Rattle.rules.specs.Read.{name-offset, type-offset, usage-offset, definition-offset, read-side}
 use Rattle.rules.proofs.Bools.{and-of}
@@ -77,11 +78,16 @@ presence-built d t u f n y h m e =
     let f-is : f % 256 ≡ f = omega arith in
     e ∙ rw (d-is, t-is, u-is, f-is) (field-written (d ∷ []) (t ∷ u ∷ f ∷ []) n (limits .name) name-offset refl (h .1 .1))
 
-pub presence-unlike : {s : Schema} → Storable s → (a : Presence) → by-name .Fit a → bears s (a .sds) (a .name) ≡ false → Unlike presences a (s .presences)
-unfolding bears
-presence-unlike st a fit e =
-    unlike presences-sort (st .presences) (holds-name (a .sds) (a .name)) a fit
-    (and-of (eqb (a .sds) (a .sds)) (same-name (a .name) (a .name)) (eq-eqb (a .sds) (a .sds) refl) (same-name-refl (a .name))) e
+pub presence-unlike : {s : Schema} → Storable s → (a : Presence) → by-name .Fit a
+    → (bears s (a .sds) (a .name) ≡ false) ⊎ (present s (a .sds) (a .type) ≡ false) → Unlike presences a (s .presences)
+unfolding bears present
+presence-unlike st a fit =
+    let in-sds = eq-eqb (a .sds) (a .sds) refl in
+    ⊎-elim
+    (unlike presences-sort (st .presences) (holds-name (a .sds) (a .name)) a fit
+    (and-of (eqb (a .sds) (a .sds)) (same-name (a .name) (a .name)) in-sds (same-name-refl (a .name))))
+    (unlike presences-sort (st .presences) (holds-type (a .sds) (a .type)) a fit
+    (and-of (eqb (a .sds) (a .sds)) (eqb (a .type) (a .type)) in-sds (eq-eqb (a .type) (a .type) refl)))
 
 -- ---- applications
 

@@ -3,15 +3,17 @@
 use base::Base;
 use rules::Limits;
 ghost use mathlib.Core.Path.{_≡_};
-ghost use mathlib.Core.Bool.{true, false};
+ghost use mathlib.Core.Logic.{_⊎_};
+ghost use mathlib.Core.Bool.{true, false, _||_};
 ghost use Prim.Native.Nat.{_≤_, _<_};
 ghost use lib.ListN.{length, getD};
 ghost use Rattle.rules.specs.01-Lists.{put, rising};
 ghost use Rattle.rules.specs.02-Limits.{limits};
-ghost use Rattle.rules.specs.03-Names.{well-formed};
-ghost use Rattle.rules.specs.04-Schema.{new-presence, with-modes, bears, applied, has-end, with-presences, with-applications, with-ends};
+ghost use Rattle.rules.specs.03-Names.{blank, well-formed};
+ghost use Rattle.rules.specs.04-Schema.{new-presence, with-modes, present, bears, applied, has-end, with-presences, with-applications, with-ends};
 ghost use Rattle.rules.specs.06-Good.{presence-before, application-before, end-before};
 ghost use Rattle.rules.specs.07-Picture.{presence-row, sds-row, base-length};
+ghost use Rattle.rules.specs.10-Changes.{nameless};
 ghost use Rattle.rules.specs.Read.{read-side};
 ghost use Rattle.base.specs.Back.{schema-of, presence-count, application-count, end-count};
 ghost use Rattle.base.specs.Stored.{Stored, Shows, less-row, modes-row, Type-written, type-fields};
@@ -54,7 +56,7 @@ fn presence_bytes(
     row
 }
 
-// Type t gets a presence in SDS d, under a name that is free there, with these modes.
+// Type t gets a presence in SDS d with these modes, under a name that is free there, or where it is not there already.
 pub fn put_with_modes(
     base: &mut [u8],
     d: usize,
@@ -65,9 +67,9 @@ pub fn put_with_modes(
 )
     requires { ⌜ Stored (now base) ⌝ }
     requires { ⌜ (d ≡ 0 → ⊥) × ((d < 256) × (t < 256)) ⌝ }
-    requires { ⌜ well-formed (now name) ≡ true ⌝ }
+    requires { ⌜ blank (now name) || well-formed (now name) ≡ true ⌝ }
     requires { ⌜ length ((schema-of (now base)) .presences) < limits .presences ⌝ }
-    requires { ⌜ bears (schema-of (now base)) d (now name) ≡ false ⌝ }
+    requires { ⌜ (bears (schema-of (now base)) d (now name) ≡ false) ⊎ (present (schema-of (now base)) d t ≡ false) ⌝ }
     requires { ⌜ (usage < 256) × (definition < 256) ⌝ }
     ensures { λ _. ⌜ (let s = schema-of (now (base .entry)) in let p = with-modes usage definition (new-presence d (now (name .entry)) t) in
         Shows (now (base .exit)) (with-presences s (put presence-before p (s .presences)))) ⌝ }
@@ -88,6 +90,18 @@ pub fn put_presence(base: &mut [u8], d: usize, name: &[u8], t: usize)
         Shows (now (base .exit)) (with-presences s (put presence-before (new-presence d (now (name .entry)) t) (s .presences)))) ⌝ }
 {
     put_with_modes(base, d, name, t, Base::ALL_MODES, Base::ALL_MODES);
+}
+
+// Without a name, where it is not there already.
+pub fn put_nameless(base: &mut [u8], d: usize, t: usize)
+    requires { ⌜ Stored (now base) ⌝ }
+    requires { ⌜ (d ≡ 0 → ⊥) × ((d < 256) × (t < 256)) ⌝ }
+    requires { ⌜ length ((schema-of (now base)) .presences) < limits .presences ⌝ }
+    requires { ⌜ present (schema-of (now base)) d t ≡ false ⌝ }
+    ensures { λ _. ⌜ (let s = schema-of (now (base .entry)) in
+        Shows (now (base .exit)) (with-presences s (put presence-before (nameless d t) (s .presences)))) ⌝ }
+{
+    put_with_modes(base, d, b"", t, Base::ALL_MODES, Base::ALL_MODES);
 }
 
 // Row i, of another SDS than SDS 0, gets these modes, with which the rows still rise.

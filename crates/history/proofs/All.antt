@@ -6,7 +6,8 @@ use Rattle.rules.specs.04-Schema.Side.{origin, destination}
 use Rattle.rules.specs.06-Good.{Good}
 use Rattle.rules.specs.13-History.{Change, Call, change-rule, next, after, after-all}
 use Rattle.rules.specs.13-History.Change.{new-sds, remove-sds, new-object, new-attribute, new-designation, new-pair, import, apply, unapply}
-use Rattle.rules.specs.13-History.Change.{apply-link, unapply-link, add-destination, remove-destination, remove-type, rename, set-modes}
+use Rattle.rules.specs.13-History.Change.{apply-link, unapply-link, add-destination, remove-destination, remove-type, remove-number, rename, rename-number}
+use Rattle.rules.specs.13-History.Change.{set-modes}
 use Rattle.rules.specs.13-History.Call.{begin-fresh, change, ask}
 use Rattle.rules.proofs.06-Good.{fresh-good}
 use Rattle.history.proofs.Applications.{apply-keeps, unapply-keeps}
@@ -15,8 +16,8 @@ use Rattle.history.proofs.SdsChanges.{new-sds-keeps, remove-sds-keeps}
 use Rattle.history.proofs.NewTypes.{new-object-keeps, new-attribute-keeps, new-designation-keeps}
 use Rattle.history.proofs.NewPair.{new-pair-keeps}
 use Rattle.history.proofs.Imports.{import-keeps}
-use Rattle.history.proofs.Removals.{remove-type-keeps}
-use Rattle.history.proofs.Renames.{rename-keeps}
+use Rattle.history.proofs.Removals.{remove-type-keeps, remove-number-keeps}
+use Rattle.history.proofs.Renames.{rename-keeps, rename-number-keeps}
 use Rattle.history.proofs.Modes.{set-modes-keeps}
 
 pub every-change-keeps : (c : Change) (s : Schema) → Good s → Good (next s (change-rule c s))
@@ -34,7 +35,9 @@ every-change-keeps (unapply-link d n m) = remove-end-keeps origin d n m
 every-change-keeps (add-destination d n m) = add-end-keeps destination d n m
 every-change-keeps (remove-destination d n m) = remove-end-keeps destination d n m
 every-change-keeps (remove-type d n) = remove-type-keeps d n
+every-change-keeps (remove-number d t) = remove-number-keeps d t
 every-change-keeps (rename d n new) = rename-keeps d n new
+every-change-keeps (rename-number d t new) = rename-number-keeps d t new
 every-change-keeps (set-modes d n usage definition) = set-modes-keeps d n usage definition
 
 -- an ask changes nothing

@@ -9,7 +9,7 @@ use lib.Dec.{ltb}
 use lib.ListN.{length}
 use Rattle.rules.specs.01-Lists.{_∈_, rising}
 use Rattle.rules.specs.02-Limits.{limits}
-use Rattle.rules.specs.03-Names.{Name}
+use Rattle.rules.specs.03-Names.{Name, blank}
 use Rattle.rules.specs.04-Schema.{Schema, Kind, Presence, kind-of, is-used, is-object, parents, parents-in, present, with-types, with-presences}
 use Rattle.rules.specs.04-Schema.Kind.{unused, object, attribute, designation, paired}
 use Rattle.rules.specs.05-Descent.{Parent, Descends}
@@ -19,7 +19,7 @@ use Rattle.rules.specs.Parts.{of-types, of-presences, Types, Presences}
 use Rattle.rules.proofs.Bools.{fails}
 use Rattle.rules.proofs.05-Descent.{object-used}
 use Rattle.rules.proofs.Parts.{presence-there, parts-of, whole}
-use Rattle.history.proofs.Parts.{Rows, Placed, Full, placed-at, presences-of, stayed, alike-still, applications-over, ends-over}
+use Rattle.history.proofs.Parts.{Rows, Placed, Full, placed-at, stayed, presences-still, applications-over, ends-over}
 use Rattle.history.proofs.Rows.{present-over}
 
 -- "An object type has 1 to 4 different parents, all object types", present in that SDS
@@ -56,8 +56,8 @@ pub record Grown (ks ks′ : List Kind) (ps ps′ : List Presence) (d : ℕ) : T
   pub room : length ks′ ≡ limits .types
   pub each : (t : ℕ) → (kind-of (of-types ks′) t ≡ kind-of (of-types ks) t) ⊎ New ks ks′ ps ps′ d t
   pub old-rows : (p : Presence) → p ∈ ps → p ∈ ps′
-  -- a row that was not there is in that SDS, of a type that was not there, and has all modes
-  pub rows : (p : Presence) → p ∈ ps′ → (p ∈ ps) ⊎ ((p .sds ≡ d) × New ks ks′ ps ps′ d (p .type) × Full p)
+  -- a row that was not there is in that SDS, of a type that was not there, and has all modes and a name
+  pub rows : (p : Presence) → p ∈ ps′ → (p ∈ ps) ⊎ ((p .sds ≡ d) × New ks ks′ ps ps′ d (p .type) × Full p × (blank (p .name) ≡ false))
 
 module _ (ks ks′ : List Kind) (ps ps′ : List Presence) (d : ℕ) where
   abbrev Kind-fits : ℕ → Kind → Type 0
@@ -179,15 +179,16 @@ module _ (ks ks′ : List Kind) (ps ps′ : List Presence) (d : ℕ) where
 
     pub presences-grown : {ns : List Name} → Types ks → Presences ns ks ps → Rows ns ps′ → Presences ns ks′ ps′
     presences-grown types old rs =
-        presences-of rs
+        presences-still old (types-grown types .reverses)
+        (λ p i. ⊎-elim
+        (λ j. inl (stayed j (kept (p .type) (old .typed p j))))
+        (λ n. inr (record { lacked = lacked (p .sds) (p .type) (n .1 .was); nameless = λ e. absurd (true≢false (sym e ∙ n .3)); modes = n .2 }))
+        (g .rows p i))
+        rs
         (λ p i. ⊎-elim
         (λ j. placed-old (placed-at old (p .sds) (p .type) (presence-there j)))
         (λ n. subst (λ (x : ℕ). Placed ks′ ps′ x (p .type)) (sym (n .0)) (placed-new (n .1)))
         (g .rows p i))
-        (alike-still old (types-grown types .reverses) (λ p i. ⊎-elim
-        (λ j. inl (stayed j (kept (p .type) (old .typed p j))))
-        (λ n. inr (record { lacked = lacked (p .sds) (p .type) (n .1 .was); modes = n .2 }))
-        (g .rows p i)))
         (λ t u. ⊎-elim (λ h. let (e, q) = old .somewhere t (ap is-used (sym h) ∙ u) in (e, still e t q)) (λ n. (d, n .there)) (g .each t))
       where
         lacked : (e t : ℕ) → is-used (kind-of (of-types ks) t) ≡ false → present (of-presences ps) e t ≡ false

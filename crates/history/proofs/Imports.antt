@@ -1,157 +1,63 @@
--- An import keeps a schema good: the type comes with its reverse, its parents are there, and no name is borne twice. Assumes nothing.
-use Prim.Native.Nat.{ℕ, _+_, _≤_}
-use native.Mathlib.Omega.{arith}
-use mathlib.Core.Path.{_≡_, refl, sym, ap, _∙_}
-use mathlib.Core.Logic.{_⊎_, inl, inr, ⊎-elim}
-use mathlib.Core.List.{List, [], _∷_, map, List·Memᴰ·not-nil}
-use mathlib.Core.Bool.{Bool, true, false, not, cond, _&&_, _||_, true≢false}
+-- An import keeps a schema good: the type comes with its reverse and with the ancestors that the target lacks, each once, and no name is
+-- borne twice. Assumes nothing.
+use Prim.Native.Nat.{ℕ}
+use mathlib.Core.Path.{_≡_, refl, sym, ap, _∙_, subst}
+use mathlib.Core.Logic.{inl, inr, ⊎-elim}
+use mathlib.Core.List.{List, [], _∷_, map, Memᴰ·append-left, Memᴰ·append-right, List·Memᴰ·append-cases, List·Memᴰ·cases-cons}
+use mathlib.Core.List.List·Memᴰ.{List·Memᴰ·head, List·Memᴰ·tail}
+use mathlib.Core.Bool.{Bool, true, false, not, cond, _&&_, _||_, true≢false, false≢true}
 use lib.ListN.{length, getD}
-use borrow.Author.Tests.{not-false, eq-eqb, ne-eqb}
-use Rattle.rules.specs.01-Lists.{first, put, put-all}
-use Rattle.rules.specs.02-Limits.{limits}
-use Rattle.rules.specs.03-Names.{Name, well-formed, blank, same-name}
-use Rattle.rules.specs.04-Schema.{Schema, Kind, Presence, kind-of, is-used, reverse-in, reverse, with-reverse, parents, holds-type, present, bears}
-use Rattle.rules.specs.04-Schema.{new-presence, nowhere, type-named, local-name, with-presences}
+use borrow.Author.Tests.{not-true, not-false}
+use Rattle.rules.specs.01-Lists.{_∈_, put-all}
+use Rattle.rules.specs.03-Names.{Name, well-formed, blank}
+use Rattle.rules.specs.04-Schema.{Schema, Presence, kind-of, is-used, is-object, reverse-in, reverse, with-reverse, present, bears, type-named, local-name}
+use Rattle.rules.specs.04-Schema.{new-presence, type-presence, with-presences}
 use Rattle.rules.specs.06-Good.{presence-before, Good}
 use Rattle.rules.specs.04-Schema.Kind.{paired}
-use Rattle.rules.specs.05-Descent.{Parent}
-use Rattle.rules.specs.09-Refusals.{unknown-sds, system-sds, malformed, malformed-new, not-present, missing-parent, names-taken, presences-full}
+use Rattle.rules.specs.05-Descent.{Parent, Descends, descends}
+use Rattle.rules.specs.05-Descent.Descends.{by-parent}
+use Rattle.rules.specs.09-Refusals.{unknown-sds, system-sds, malformed, malformed-new, not-present, no-such-name, names-taken, presences-full}
 use Rattle.rules.specs.09-Refusals.Outcome.{done}
-use Rattle.rules.specs.10-Changes.{filled, imported, import, import-refusals}
+use Rattle.rules.specs.10-Changes.{filled, imported, missing, nameless, incoming, import, import-refusals}
 use Rattle.rules.specs.13-History.{next}
-use Rattle.rules.specs.Parts.{of-types, of-presences}
-use Rattle.rules.proofs.Bools.{or-neither, fails}
-use Rattle.rules.proofs.01-Lists.{none-at}
-use Rattle.rules.proofs.Edits.{put-long, put-each, first-in}
+use Rattle.rules.specs.Parts.{of-presences}
+use Rattle.rules.proofs.Bools.{or-cases, or-neither, and-both, and-of, fails}
+use Rattle.rules.proofs.01-Lists.{Different, rising-different, map-in}
+use Rattle.rules.proofs.03-Names.{formed-named, formed-allowed}
+use Rattle.rules.proofs.05-Descent.{members-in, members-of, members-rising, object-used, object-below, past, child-object, descendant-object}
+use Rattle.rules.proofs.05-Descent.{ancestor-object, descends-sound, descends-full}
+use Rattle.rules.proofs.Edits.{map-of, put-all-in, put-all-old, put-all-new}
+use Rattle.rules.proofs.08-Working.{holder, bearer-named, other-named, present-used}
 use Rattle.rules.proofs.09-Refusals.{verdict-keeps}
-use Rattle.rules.proofs.Parts.{parts-of}
-use Rattle.history.proofs.KindLaws.{alone-or-pair, no-pair, one-reverse}
-use Rattle.history.proofs.Parts.{Rows, Placed, Stayed, Came, rows-of, placed-at, full, stayed}
-use Rattle.history.proofs.Passed.{formed, named-present, one-free, both-free, presences-room}
-use Rattle.history.proofs.Rows.{present-still, present-new, row-fits, fits-still, rows-more, with-more-good}
-
--- a link type has no parents
-pair-no-parent : (ks : List Kind) (t c r a : ℕ) → kind-of (of-types ks) t ≡ paired c r → Parent (of-types ks) t a → ⊥
-unfolding parents
-pair-no-parent ks t c r a e by = List·Memᴰ·not-nil (rw e at (by .listed))
+use Rattle.rules.proofs.Parts.{presence-there, parent-of, parts-of}
+use Rattle.history.proofs.KindLaws.{alone-or-pair, one-reverse, is-reverse, has-reverse}
+use Rattle.history.proofs.Parts.{Placed, Came, rows-of, full, stayed, reverse-each}
+use Rattle.history.proofs.Passed.{formed, named-present, names-free, both-free, presences-room}
+use Rattle.history.proofs.Rows.{present-over, Row-fits, row-fits, Other, others, Apart, rows-all, with-more-good}
 
 module _ (s : Schema) (g : Good s) where
-  -- the name in the source is well formed, and so is one that is given
-  filled-formed : (source u : ℕ) (new : Name) → present s source u ≡ true → malformed-new new ≡ false → well-formed (filled s source u new) ≡ true
-  unfolding present local-name malformed-new
-  filled-formed source u new there e = go (blank new) e
+  -- the name in the source is well formed where there is one, and so is one that is given
+  filled-formed : (source u : ℕ) (new : Name) → present s source u ≡ true → blank (local-name s source u) ≡ false → malformed-new new ≡ false
+      → well-formed (filled s source u new) ≡ true
+  unfolding local-name malformed-new
+  filled-formed source u new there named e = go (blank new) e
     where
       go : (b : Bool) → not b && malformed new ≡ false → well-formed (cond b (local-name s source u) new) ≡ true
       go true e =
-          let p = first (holds-type source u) nowhere (s .presences) in
-          g .presence-named p (first-in (holds-type source u) nowhere (s .presences) there .0)
+          let p = type-presence s source u in
+          ⊎-elim (λ b. absurd (true≢false (sym b ∙ named))) (λ w. w)
+          (or-cases (blank (p .name)) (well-formed (p .name)) (g .presence-named p (holder s source u there .0)))
       go false e = formed new e
 
-  abbrev Old-or-new : List Presence → Presence → Type 0
-  Old-or-new ps q = Stayed (s .types) (s .types) (s .presences) q ⊎ (Came (s .presences) q × Placed (s .types) ps (q .sds) (q .type))
-
   -- an SDS that lacks a type lacks its reverse
-  pub pair-lacks : (d t c r : ℕ) → kind-of s t ≡ paired c r → present s d t ≡ false → present s d r ≡ false
+  pair-lacks : (d t c r : ℕ) → kind-of s t ≡ paired c r → present s d t ≡ false → present s d r ≡ false
   pair-lacks d t c r k lacks =
       let (c′, back) = g .reverse-in-turn t c r k in
       fails (present s d r) (λ e. true≢false (sym (g .reverse-present d r c′ t e back) ∙ lacks))
 
-  came : (d t : ℕ) (n : Name) → present s d t ≡ false → Came (s .presences) (new-presence d n t)
-  unfolding present
-  came d t n lacks = record { lacked = lacks; modes = full }
+-- ---- the presences that come
 
-  module _ (target source : ℕ) (known : unknown-sds s target ≡ false) (outside : system-sds target ≡ false)
-      (t : ℕ) (n : Name) (there : present s source t ≡ true) (lacks : present s target t ≡ false) (lineage : missing-parent s target t ≡ false)
-      (well : well-formed n ≡ true) where
-    abbrev x : Presence
-    x = new-presence target n t
-
-    type-used : is-used (kind-of s t) ≡ true
-    unfolding present
-    type-used = placed-at (parts-of g .presences) source t there .used
-
-    parent-there : (a : ℕ) → Parent (of-types (s .types)) t a → present s target a ≡ true
-    unfolding missing-parent not-present parents
-    parent-there a by = not-false (present s target a) (none-at (not-present s target) lineage (by .listed))
-
-    -- one presence more
-    alone-comes : reverse-in (kind-of s t) ≡ [] → bears s target n ≡ false → length (s .presences) + 1 ≤ limits .presences
-        → Good (with-presences s (put presence-before x (s .presences)))
-    unfolding present
-    alone-comes none free room =
-        with-more-good g
-        (rows-more (rows-of (parts-of g .presences)) x room (row-fits s target t n known outside well free lacks))
-        (present-still x (s .presences))
-        (λ p i. put-each presence-before i (Old-or-new (put presence-before x (s .presences)))
-        (inr (
-          came target t n lacks,
-          record {
-            used = type-used;
-            closed = record {
-              parents = λ a by. present-still x (s .presences) target a (parent-there a by);
-              reverse = λ c r k. absurd (no-pair (kind-of s t) none c r k);
-            };
-          },
-        ))
-        (λ j. inl (stayed j refl)))
-
-    -- two, each the other's reverse
-    module _ (c r : ℕ) (pair : kind-of s t ≡ paired c r) (m : Name) where
-      abbrev y : Presence
-      y = new-presence target m r
-
-      abbrev with-x : List Presence
-      with-x = put presence-before x (s .presences)
-
-      abbrev with-both : List Presence
-      with-both = put presence-before y with-x
-
-      still : (d u : ℕ) → present (of-presences (s .presences)) d u ≡ true → present (of-presences with-both) d u ≡ true
-      still d u e = present-still y with-x d u (present-still x (s .presences) d u e)
-
-      reverse-lacks : present s target r ≡ false
-      reverse-lacks = pair-lacks target t c r pair lacks
-
-      placed-x : Placed (s .types) with-both target t
-      unfolding present
-      placed-x = record {
-        used = type-used;
-        closed = record {
-          parents = λ a by. still target a (parent-there a by);
-          reverse = λ c′ r′ k. rw (one-reverse k pair) (present-new y with-x);
-        };
-      }
-
-      placed-y : Placed (s .types) with-both target r
-      placed-y =
-          let (c′, back) = g .reverse-in-turn t c r pair in
-          record {
-            used = ap is-used back;
-            closed = record {
-              parents = λ a by. absurd (pair-no-parent (s .types) r c′ t a back by);
-              reverse = λ c″ t′ k. rw (one-reverse k back) (present-still y with-x target t (present-new x (s .presences)));
-            };
-          }
-
-      rows : well-formed m ≡ true → bears s target n ≡ false → bears s target m ≡ false → same-name n m ≡ false
-          → length (s .presences) + 2 ≤ limits .presences → Rows (s .sdss) with-both
-      rows well′ free free′ differ room =
-          rows-more
-          (rows-more (rows-of (parts-of g .presences)) x (omega arith) (row-fits s target t n known outside well free lacks))
-          y (omega (arith, put-long presence-before x (s .presences)))
-          (fits-still x (row-fits s target r m known outside well′ free′ reverse-lacks)
-          (rw (eq-eqb target target refl) differ)
-          (rw (eq-eqb target target refl) (ne-eqb t r (λ e. g .reverse-different t c r pair (sym e)))))
-
-      pair-comes : well-formed m ≡ true → bears s target n ≡ false → bears s target m ≡ false → same-name n m ≡ false
-          → length (s .presences) + 2 ≤ limits .presences → Good (with-presences s with-both)
-      pair-comes well′ free free′ differ room =
-          with-more-good g (rows well′ free free′ differ room) still
-          (λ p i. put-each presence-before i (Old-or-new with-both) (inr (came target r m reverse-lacks, placed-y))
-          (λ j. put-each presence-before j (Old-or-new with-both) (inr (came target t n lacks, placed-x))
-          (λ k. inl (stayed k refl))))
-
--- the presences that come in, in the two cases
+-- in the two cases those that have a name
 imported-alone : (target source t : ℕ) (new new-reverse : Name) (s : Schema) → reverse-in (kind-of s t) ≡ []
     → imported target source t new new-reverse s ≡ new-presence target (filled s source t new) t ∷ []
 unfolding imported reverse
@@ -163,45 +69,185 @@ imported-pair : (target source t : ℕ) (new new-reverse : Name) (s : Schema) (c
 unfolding imported reverse
 imported-pair target source t new new-reverse s c r e = rw e
 
-module _ (target source t : ℕ) (new new-reverse : Name) (s : Schema) (g : Good s) where
-  comes : unknown-sds s target ≡ false → system-sds target ≡ false → malformed-new new ≡ false → malformed-new new-reverse ≡ false
-      → present s source t ≡ true → present s target t ≡ false → missing-parent s target t ≡ false
-      → names-taken s target (map (λ p. p .name) (imported target source t new new-reverse s)) ≡ false
-      → presences-full s (length (with-reverse s t)) ≡ false
-      → Good (with-presences s (put-all presence-before (imported target source t new new-reverse s) (s .presences)))
-  unfolding put-all reverse
-  comes known outside well well′ there lacks lineage names room =
-      let n = filled s source t new in
-      let formed-n = filled-formed s g source t new there well in
+-- nameless ones, of other types
+others-nameless : (d u : ℕ) (n : Name) (ts : List ℕ) → (u ∈ ts → ⊥) → (y : Presence) → y ∈ map (nameless d) ts → Other (new-presence d n u) y
+others-nameless d u n ts lacks y i =
+    let (a, j, e) = map-in (nameless d) ts i in
+    subst (Other (new-presence d n u)) (sym e) (others d (λ same. lacks (rw same j)) (λ b. absurd (true≢false b)))
+
+nameless-apart : (d : ℕ) (ts : List ℕ) → Different ts → Apart (map (nameless d) ts)
+nameless-apart d [] different = tt
+nameless-apart d (t ∷ ts) different = (others-nameless d t [] ts (different .0), nameless-apart d ts (different .1))
+
+module _ (target source t : ℕ) (new new-reverse : Name) (s : Schema) where
+  -- they, and the schema with them
+  abbrev coming : List Presence
+  coming = incoming target source t new new-reverse s
+
+  abbrev pub after : Schema
+  after = with-presences s (put-all presence-before coming (s .presences))
+
+  -- what holds of the type, of its reverse and of each ancestor that is missing holds of all that come
+  incoming-each : (P : Presence → Type 0) → P (new-presence target (filled s source t new) t)
+      → ((c r : ℕ) → kind-of s t ≡ paired c r → P (new-presence target (filled s source r new-reverse) r))
+      → ((a : ℕ) → a ∈ missing target t s → P (nameless target a))
+      → (p : Presence) → p ∈ coming → P p
+  unfolding incoming imported reverse
+  incoming-each P one other ancestor p i =
       ⊎-elim
-      (λ e.
-      let names′ : names-taken s target (n ∷ []) ≡ false = rw (imported-alone target source t new new-reverse s e) at names in
-      let long : length (with-reverse s t) ≡ 1 = rw e in
-      rw (imported-alone target source t new new-reverse s e)
-      (alone-comes s g target source known outside t n there lacks lineage formed-n e (one-free s target n names′)
-      (presences-room s 1 (rw long at room))))
-      (λ (c, r, e).
-      let m = filled s source r new-reverse in
-      let names′ : names-taken s target (n ∷ m ∷ []) ≡ false = rw (imported-pair target source t new new-reverse s c r e) at names in
-      let long : length (with-reverse s t) ≡ 2 = rw e in
-      let formed-m = filled-formed s g source r new-reverse (g .reverse-present source t c r there e) well′ in
-      let (free, free′, differ) = both-free s target n m names′ in
-      rw (imported-pair target source t new new-reverse s c r e)
-      (pair-comes s g target source known outside t n there lacks lineage formed-n c r e m formed-m free free′ differ
-      (presences-room s 2 (rw long at room))))
-      (alone-or-pair (kind-of s t))
+      (λ j. ⊎-elim
+      (λ e. subst P (sym e) one)
+      (λ k. let (r, l, e) = map-in _ (reverse-in (kind-of s t)) k in
+      let (c, pair) = has-reverse (kind-of s t) r l in
+      subst P (sym e) (other c r pair))
+      (List·Memᴰ·cases-cons j))
+      (λ j. let (a, k, e) = map-in (nameless target) (missing target t s) j in subst P (sym e) (ancestor a k))
+      (List·Memᴰ·append-cases (imported target source t new new-reverse s) i)
+
+  -- the type and its reverse are among them, and so is each ancestor that is missing
+  pub type-comes : (u : ℕ) → u ∈ with-reverse s t → (n : Name) × (new-presence target n u ∈ coming)
+  unfolding incoming imported
+  type-comes u i =
+      let (n, j) : (n : Name) × (new-presence target n u ∈ imported target source t new new-reverse s)
+      = ⊎-elim
+      (λ e. (filled s source t new, List·Memᴰ·head (ap (new-presence target (filled s source t new)) e)))
+      (λ k. (filled s source u new-reverse, List·Memᴰ·tail (map-of _ k)))
+      (List·Memᴰ·cases-cons i) in
+      (n, Memᴰ·append-left (map (nameless target) (missing target t s)) j)
+
+  pub missing-comes : (a : ℕ) → a ∈ missing target t s → nameless target a ∈ coming
+  unfolding incoming
+  missing-comes a i = Memᴰ·append-right (imported target source t new new-reverse s) (map-of (nameless target) i)
+
+  still : (d u : ℕ) → present (of-presences (s .presences)) d u ≡ true → present (of-presences (after .presences)) d u ≡ true
+  still = present-over (s .presences) (after .presences) (λ p i. presence-there (put-all-old presence-before coming (s .presences) i))
+
+  there : {p : Presence} → p ∈ coming → present (of-presences (after .presences)) (p .sds) (p .type) ≡ true
+  there i = presence-there (put-all-new presence-before coming (s .presences) i)
+
+  pub type-there : (u : ℕ) → u ∈ with-reverse s t → present after target u ≡ true
+  unfolding present
+  type-there u i = there (type-comes u i .1)
+
+  module _ (g : Good s) where
+    -- the missing are the ancestors that the target lacks
+    missing-in : (a : ℕ) → a ∈ missing target t s → Descends s t a × (present s target a ≡ false)
+    unfolding missing not-present
+    missing-in a i =
+        let (above, lacks) = and-both (descends s t a) (not (present s target a)) (members-in _ a i .1) in
+        (descends-sound g t a above, not-true (present s target a) lacks)
+
+    pub missing-of : (a : ℕ) → Descends s t a → present s target a ≡ false → a ∈ missing target t s
+    unfolding missing not-present
+    missing-of a above lacks =
+        members-of _ a (object-below g a (ancestor-object g above))
+        (and-of (descends s t a) (not (present s target a)) (descends-full g t a above) (ap not lacks))
+
+    -- so every ancestor is there
+    pub ancestor-there : (a : ℕ) → Descends s t a → present after target a ≡ true
+    unfolding present
+    ancestor-there a above = go (present s target a) refl
+      where
+        go : (b : Bool) → present s target a ≡ b → present after target a ≡ true
+        go true e = still target a e
+        go false e = there (missing-comes a (missing-of a above e))
+
+    -- neither the type nor its reverse is one
+    none-missing : (u : ℕ) → u ∈ with-reverse s t → u ∈ missing target t s → ⊥
+    none-missing u i j =
+        reverse-each s t (λ u. Descends s t u → ⊥) (g .acyclic t) (λ c r k above. false≢true (sym (ap is-object k) ∙ descendant-object above)) u i
+        (missing-in u j .0)
+
+    -- a type has its parents there if they are among the ancestors, and its reverse if that comes
+    placed : (u : ℕ) → is-used (kind-of s u) ≡ true → ((a : ℕ) → Parent s u a → Descends s t a)
+        → ((c r : ℕ) → kind-of s u ≡ paired c r → r ∈ with-reverse s t) → Placed (s .types) (after .presences) target u
+    unfolding present
+    placed u used up back = record {
+      used = used;
+      closed = record { parents = λ a by. ancestor-there a (up a (parent-of u a by)); reverse = λ c r k. type-there r (back c r k) };
+    }
+
+    module _ (known : unknown-sds s target ≡ false) (outside : system-sds target ≡ false) (well : malformed-new new ≡ false)
+        (well′ : malformed-new new-reverse ≡ false) (here : present s source t ≡ true) (named : blank (local-name s source t) ≡ false)
+        (lacks : present s target t ≡ false) (names : names-taken s target (map (λ p. p .name) (imported target source t new new-reverse s)) ≡ false) where
+      formed-t : well-formed (filled s source t new) ≡ true
+      formed-t = filled-formed s g source t new here named well
+
+      formed-r : (c r : ℕ) → kind-of s t ≡ paired c r → well-formed (filled s source r new-reverse) ≡ true
+      formed-r c r k =
+          let here′ = g .reverse-present source t c r here k in
+          filled-formed s g source r new-reverse here′ (other-named g source r here′ (ap is-object (g .reverse-in-turn t c r k .1))) well′
+
+      -- each may be put in, is other than those before it, and has there what its type asks
+      fits : (p : Presence) → p ∈ coming → Row-fits (s .sdss) (s .presences) p
+      unfolding imported reverse
+      fits =
+          incoming-each (Row-fits (s .sdss) (s .presences))
+          (row-fits s target t _ known outside (formed-allowed _ formed-t) (λ _. names-free s target _ names (List·Memᴰ·head refl)) lacks)
+          (λ c r k. row-fits s target r _ known outside (formed-allowed _ (formed-r c r k))
+          (λ _. names-free s target _ names (List·Memᴰ·tail (map-of _ (map-of _ (is-reverse (kind-of s t) k)))))
+          (pair-lacks s g target t c r k lacks))
+          (λ a i. row-fits s target a [] known outside refl (λ b. absurd (true≢false b)) (missing-in a i .1))
+
+      apart : Apart coming
+      unfolding incoming missing reverse
+      apart =
+          let rest = nameless-apart target (missing target t s) (rising-different (missing target t s) (members-rising _)) in
+          ⊎-elim
+          (λ e. rw (imported-alone target source t new new-reverse s e)
+          (others-nameless target t _ _ (none-missing t (List·Memᴰ·head refl)), rest))
+          (λ (c, r, e).
+          let names′ = rw (imported-pair target source t new new-reverse s c r e) at names in
+          let other = others target (λ same. g .reverse-different t c r e (sym same)) (λ _. both-free s target _ _ names′ .2) in
+          rw (imported-pair target source t new new-reverse s c r e) (
+            (λ y i. ⊎-elim (λ same. subst (Other _) (sym same) other) (others-nameless target t _ _ (none-missing t (List·Memᴰ·head refl)) y)
+                (List·Memᴰ·cases-cons i)),
+            (others-nameless target r _ _ (none-missing r (List·Memᴰ·tail (is-reverse (kind-of s t) e))), rest),
+          ))
+          (alone-or-pair (kind-of s t))
+
+      each : (p : Presence) → p ∈ coming → Came (s .types) (s .presences) p × Placed (s .types) (after .presences) (p .sds) (p .type)
+      unfolding present reverse
+      each =
+          incoming-each (λ p. Came (s .types) (s .presences) p × Placed (s .types) (after .presences) (p .sds) (p .type)) (
+            record { lacked = lacks; nameless = λ b. absurd (true≢false (sym b ∙ formed-named _ formed-t)); modes = full },
+            placed t (present-used g source t here) (λ a by. by-parent by) (λ c r k. List·Memᴰ·tail (is-reverse (kind-of s t) k)),
+          )
+          (λ c r k.
+          let (c′, back) = g .reverse-in-turn t c r k in (
+            record {
+              lacked = pair-lacks s g target t c r k lacks;
+              nameless = λ b. absurd (true≢false (sym b ∙ formed-named _ (formed-r c r k)));
+              modes = full;
+            },
+            placed r (ap is-used back) (λ a by. absurd (false≢true (sym (ap is-object back) ∙ child-object by)))
+                (λ c″ t′ k′. List·Memᴰ·head (one-reverse k′ back)),
+          ))
+          (λ a i.
+          let (above, lacks) = missing-in a i in
+          let is = ancestor-object g above in (
+            record { lacked = lacks; nameless = λ _. is; modes = full },
+            placed a (object-used (kind-of s a) is) (λ b by. past above by) (λ c r k. absurd (false≢true (sym (ap is-object k) ∙ is))),
+          ))
+
+      comes : presences-full s (length coming) ≡ false → Good after
+      comes room =
+          with-more-good g
+          (rows-all (rows-of (parts-of g .presences)) coming (presences-room s (length coming) room) fits apart)
+          still
+          (λ p i. ⊎-elim (λ j. inr (each p j)) (λ j. inl (stayed j refl)) (put-all-in presence-before coming (s .presences) i))
 
 pub import-keeps : (target source : ℕ) (n new new-reverse : Name) (s : Schema) → Good s → Good (next s (import target source n new new-reverse s))
-unfolding import
+unfolding import no-such-name
 import-keeps target source n new new-reverse s g =
     let t = type-named s source n in
     verdict-keeps (λ o. Good (next s o)) (import-refusals target source n new new-reverse s)
-    (done t (getD (reverse s t) 0 0) 0 (with-presences s (put-all presence-before (imported target source t new new-reverse s) (s .presences))))
+    (done t (getD (reverse s t) 0 0) 0 (after target source t new new-reverse s))
     (λ _ _. g)
     (λ passed.
-    let given = or-neither (malformed-new new) (malformed-new new-reverse)
-    (or-neither (malformed n) (malformed-new new || malformed-new new-reverse) (passed .fails 4) .1) in
-    comes target source t new new-reverse s g (or-neither (unknown-sds s target) (unknown-sds s source) (passed .fails 2) .0) (passed .fails 3) (given .0)
-    (given .1)
-    (named-present s source n (passed .fails 6)) (passed .fails 9) (passed .fails 10) (passed .fails 11)
-    (passed .fails 14))
+    let (well, given) = or-neither (malformed n) (malformed-new new || malformed-new new-reverse) (passed .fails 4) in
+    let (one, other) = or-neither (malformed-new new) (malformed-new new-reverse) given in
+    let named = bearer-named g source n (formed-named n (formed n well)) (not-false (bears s source n) (passed .fails 6)) in
+    comes target source t new new-reverse s g (or-neither (unknown-sds s target) (unknown-sds s source) (passed .fails 2) .0) (passed .fails 3) one
+    other
+    (named-present s source n (passed .fails 6)) named (passed .fails 9) (passed .fails 11) (passed .fails 14))

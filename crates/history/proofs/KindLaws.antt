@@ -4,6 +4,7 @@ use native.Mathlib.Omega.{arith}
 use mathlib.Core.Path.{_≡_, refl, sym, ap, _∙_}
 use mathlib.Core.Logic.{_⊎_, inl, inr, ⊎-elim}
 use mathlib.Core.List.{[], List·Memᴰ·not-nil, List·Memᴰ·eq-of-singleton}
+use mathlib.Core.List.List·Memᴰ.{List·Memᴰ·head}
 use mathlib.Core.Bool.{true, false, _||_, true≢false}
 use lib.ListN.{length, getD}
 use Rattle.rules.specs.01-Lists.{_∈_}
@@ -55,6 +56,9 @@ pub one-reverse : {k : Kind} {c r c′ r′ : ℕ} → k ≡ paired c r → k �
 one-reverse e f = ap (λ (k : Kind). getD (reverse-in k) 0 0) (sym e ∙ f)
 
 -- a type with this reverse
+pub is-reverse : (k : Kind) {c r : ℕ} → k ≡ paired c r → r ∈ reverse-in k
+is-reverse k e = rw e (List·Memᴰ·head refl)
+
 pub has-reverse : (k : Kind) (r : ℕ) → r ∈ reverse-in k → (c : ℕ) × (k ≡ paired c r)
 has-reverse unused r i = absurd (List·Memᴰ·not-nil i)
 has-reverse (object ps) r i = absurd (List·Memᴰ·not-nil i)

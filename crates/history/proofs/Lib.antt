@@ -12,6 +12,7 @@ pub mod Applications
 pub mod EndChanges
 pub mod Removals
 pub mod Renames
+pub mod Ancestors
 pub mod Modes
 pub mod Theorems
 pub mod All

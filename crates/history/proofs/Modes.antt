@@ -3,28 +3,28 @@
 use Prim.Native.Nat.{ℕ, _≤_}
 use native.Mathlib.Omega.{arith}
 use mathlib.Core.Path.{_≡_, refl, sym, ap, _∙_, subst}
-use mathlib.Core.Logic.{inl, ⊎-elim}
-use mathlib.Core.List.{List, [], _∷_, map, List·Memᴰ·cases-cons}
-use mathlib.Core.List.List·Memᴰ.{List·Memᴰ·head, List·Memᴰ·tail}
+use mathlib.Core.Logic.{_⊎_, inl, ⊎-elim}
+use mathlib.Core.List.{List, [], _∷_, map}
 use mathlib.Core.Bool.{Bool, true, false, cond, _&&_}
 use lib.Dec.{eqb}
 use lib.ListN.{getD, length-map, List·getD-map}
 use borrow.Author.Tests.{ltb-false, eqb-true, eq-eqb, ne-eqb}
-use Rattle.rules.specs.01-Lists.{_∈_, any, among}
-use Rattle.rules.specs.03-Names.{Name, same-name}
-use Rattle.rules.specs.04-Schema.{Schema, Modes, Presence, all-modes, system-presence, with-modes, with-presences, kind-of, with-reverse, used-sds}
-use Rattle.rules.specs.04-Schema.{nowhere, reverse, holds-type, present, type-named, type-presence}
+use Rattle.rules.specs.01-Lists.{_∈_, among}
+use Rattle.rules.specs.03-Names.{Name, blank, same-name}
+use Rattle.rules.specs.04-Schema.{Schema, Modes, Presence, all-modes, system-presence, with-modes, with-presences, kind-of, is-object, with-reverse}
+use Rattle.rules.specs.04-Schema.{used-sds, nowhere, holds-type, present, type-named, type-presence}
 use Rattle.rules.specs.04-Schema.Kind.{paired}
-use Rattle.rules.specs.06-Good.{presence-before, Known-modes, Same-modes, Good}
+use Rattle.rules.specs.05-Descent.{Descends}
+use Rattle.rules.specs.06-Good.{Known-modes, Same-modes, Good}
 use Rattle.rules.specs.09-Refusals.{unknown-sds, unknown-mode}
 use Rattle.rules.specs.09-Refusals.Outcome.{done}
-use Rattle.rules.specs.10-Changes.{imported, import, import-refusals, rename, rename-refusals, set-modes, set-modes-refusals, modes-set}
+use Rattle.rules.specs.10-Changes.{import, rename, rename-refusals, set-modes, set-modes-refusals, modes-set}
 use Rattle.rules.specs.11-Asks.{modes-of}
 use Rattle.rules.specs.13-History.{Ask, ask-rule, next}
 use Rattle.rules.specs.Parts.{Alike, Presence-rows}
-use Rattle.rules.proofs.Bools.{or-neither, and-both, and-of, fails, same-test}
-use Rattle.rules.proofs.01-Lists.{any-at, map-in, among-in, in-among}
-use Rattle.rules.proofs.Edits.{map-of, first-put, first-mapped}
+use Rattle.rules.proofs.Bools.{or-neither, and-both, fails, same-test}
+use Rattle.rules.proofs.01-Lists.{map-in, among-in, in-among}
+use Rattle.rules.proofs.Edits.{map-of, first-mapped}
 use Rattle.rules.proofs.08-Working.{holder}
 use Rattle.rules.proofs.09-Refusals.{Passed, verdict-keeps, verdict-done}
 use Rattle.rules.proofs.Modes.{Same-but-modes, perhaps-moded, modes-rise, modes-alone, asks-no-modes, holds-same, present-same, asked-alike}
@@ -32,7 +32,7 @@ use Rattle.rules.proofs.Parts.{presence-there, parts-of}
 use Rattle.history.proofs.Parts.{Rows, Full, rows-of, full, reverse-each, pair-closed}
 use Rattle.history.proofs.Passed.{aimed, named-present}
 use Rattle.history.proofs.Rows.{with-presences-good}
-use Rattle.history.proofs.Imports.{pair-lacks}
+use Rattle.history.proofs.Ancestors.{brought-named, brought-once}
 use Rattle.history.proofs.Spellings.{renamed-there}
 
 -- ---- each presence with other modes, or as it was
@@ -58,11 +58,11 @@ module _ (f : Presence → Presence) (same : (p : Presence) → Same-but-modes p
       in-used = λ p i. let (x, j, e, a) = was ps i in rw (a .sds) at (r .in-used x j);
       named = λ p i. let (x, j, e, a) = was ps i in rw (a .name) at (r .named x j);
       known = λ p i. let (x, j, e, a) = was ps i in rw e (known x j);
-      unique = λ p q i j d n. one ps p q i j (λ x y k l a b.
-          r .unique x y k l (a .sds ∙ d ∙ sym (b .sds)) ((λ z. same-name (a .name z) (b .name z)) ∙ n));
+      unique = λ p q i j d n e. one ps p q i j (λ x y k l a b.
+          r .unique x y k l (a .sds ∙ d ∙ sym (b .sds)) (ap blank (a .name) ∙ n) ((λ z. same-name (a .name z) (b .name z)) ∙ e));
       system = subst (λ (p : Presence). p ∈ map f ps) system (map-of f (r .system));
       system-alone = λ p i d. let (x, j, e, a) = was ps i in e ∙ ap f (r .system-alone x j (a .sds ∙ d)) ∙ system;
-      rises = modes-rise system-presence ps (map f ps) (length-map ps f) (λ i h. at i) (r .unique) (r .rises);
+      rises = modes-rise system-presence ps (map f ps) (length-map ps f) (λ i h. at i) (g .once) (r .rises);
     };
     once = λ p q i j d t. one ps p q i j (λ x y k l a b. g .once x y k l (a .sds ∙ d ∙ sym (b .sds)) (a .type ∙ t ∙ sym (b .type)));
   }
@@ -142,6 +142,9 @@ module _ (s : Schema) (d t : ℕ) (usage definition : Modes) where
       (rows-moded given same (rows-of (parts-of g .presences))
       (λ p i. moded-known d ts usage definition u v p (g .modes-known p i))
       (rw (ne-eqb 0 d (λ z. outside (sym z))) refl))
+      (λ p i e.
+      let (x, j, _, a) = was given same (s .presences) i in
+      ap (λ (t : ℕ). is-object (kind-of s t)) (sym (a .type)) ∙ g .nameless-object x j (ap blank (a .name) ∙ e))
       (set-alike g)
       (λ e u h. present-after e u ∙ h)
       (λ p i. inl (sym (present-after (p .sds) (p .type)) ∙ presence-there i))
@@ -215,41 +218,15 @@ module _ (d : ℕ) (n : Name) (usage definition : Modes) (s : Schema) where
 
 -- ---- the modes after an import and a rename
 
-module _ (target source : ℕ) (new new-reverse : Name) (s : Schema) (t : ℕ) where
-  abbrev rows : List Presence
-  rows = imported target source t new new-reverse s
-
-  imported-full : (p : Presence) → p ∈ rows → Full p
-  unfolding imported
-  imported-full p i =
-      ⊎-elim
-      (λ e. subst Full (sym e) full)
-      (λ j. let (r, k, e) = map-in _ (reverse s t) j in subst Full (sym e) full)
-      (List·Memᴰ·cases-cons i)
-
-  imported-there : (u : ℕ) → u ∈ with-reverse s t → any (holds-type target u) rows ≡ true
-  unfolding imported
-  imported-there u i =
-      ⊎-elim
-      (λ e. any-at (holds-type target u) (List·Memᴰ·head refl) (held t (sym e)))
-      (λ j. any-at (holds-type target u) (List·Memᴰ·tail (map-of _ j)) (held u refl))
-      (List·Memᴰ·cases-cons i)
-    where
-      held : (v : ℕ) → v ≡ u → eqb target target && eqb v u ≡ true
-      held v e = and-of (eqb target target) (eqb v u) (eq-eqb target target refl) (eq-eqb v u e)
-
--- "New types, imports .. get all five." (02, Q-2): the type and its reverse
+-- "New types, imports .. get all five." (02, Q-2): the type, its reverse, and the ancestors that come (02, Q-8)
 pub import-gives-all : (target source : ℕ) (n new new-reverse : Name) (s : Schema) → Good s → {a b c : ℕ} {s′ : Schema}
-    → import target source n new new-reverse s ≡ done a b c s′ → (t : ℕ) → t ∈ with-reverse s (type-named s source n) → Full (type-presence s′ target t)
-unfolding import present
-import-gives-all target source n new new-reverse s g e t i =
-    let u = type-named s source n in
-    verdict-done (λ s′. Full (type-presence s′ target t)) (import-refusals target source n new new-reverse s) _ _ _ _ e
-    (λ passed.
-    imported-full target source new new-reverse s u _
-    (first-put presence-before (holds-type target t) nowhere (rows target source new new-reverse s u) (s .presences)
-    (imported-there target source new new-reverse s u t i)
-    (reverse-each s u (λ t. present s target t ≡ false) (passed .fails 9) (λ c r k. pair-lacks s g target u c r k (passed .fails 9)) t i)))
+    → import target source n new new-reverse s ≡ done a b c s′
+    → (t : ℕ) → (t ∈ with-reverse s (type-named s source n)) ⊎ (Descends s (type-named s source n) t × (present s target t ≡ false))
+    → Full (type-presence s′ target t)
+import-gives-all target source n new new-reverse s g e t =
+    ⊎-elim
+    (λ i. subst Full (sym (brought-named target source n new new-reverse s e g t i .1)) full)
+    (λ (above, lacks). subst Full (sym (brought-once target source n new new-reverse s e g t above lacks)) full)
 
 -- a rename keeps the modes that the type had there
 pub rename-keeps-modes : (d : ℕ) (n new : Name) (s : Schema) {a b c : ℕ} {s′ : Schema} → rename d n new s ≡ done a b c s′

@@ -8,10 +8,10 @@ use mathlib.Core.Bool.{true, false, _&&_, _||_, true≢false}
 use lib.Dec.{ltb, eqb}
 use lib.ListN.{length, set, length-set}
 use lib.Seq.{getD-set-same, getD-set-other}
-use borrow.Author.Tests.{ltb-false, eq-eqb, ne-eqb}
+use borrow.Author.Tests.{ltb-false, eq-eqb}
 use Rattle.rules.specs.01-Lists.{_∈_, put}
 use Rattle.rules.specs.02-Limits.{limits}
-use Rattle.rules.specs.03-Names.{Name, same-name}
+use Rattle.rules.specs.03-Names.{Name, blank, same-name}
 use Rattle.rules.specs.04-Schema.{Schema, Kind, Presence, new-presence, kind-of, is-used, present}
 use Rattle.rules.specs.06-Good.{presence-before, Good}
 use Rattle.rules.specs.04-Schema.Kind.{unused, paired}
@@ -21,13 +21,14 @@ use Rattle.rules.specs.10-Changes.{new-type, second-new-type, with-pair, new-pa
 use Rattle.rules.specs.13-History.{next}
 use Rattle.rules.specs.Parts.{of-types, of-presences}
 use Rattle.rules.proofs.Bools.{or-neither}
+use Rattle.rules.proofs.03-Names.{formed-named, formed-allowed}
 use Rattle.rules.proofs.Edits.{put-long, put-each, put-old, set-either}
 use Rattle.rules.proofs.05-Descent.{members-once}
 use Rattle.rules.proofs.09-Refusals.{verdict-keeps}
 use Rattle.rules.proofs.Parts.{parts-of}
 use Rattle.history.proofs.Parts.{Full, full, rows-of}
 use Rattle.history.proofs.Passed.{formed, both-free, types-room}
-use Rattle.history.proofs.Rows.{present-still, present-new, Row-fits, row-fits, fits-still, rows-more}
+use Rattle.history.proofs.Rows.{present-still, present-new, Row-fits, row-fits, others, fits-still, rows-more}
 use Rattle.history.proofs.Grown.{Reverse-fits, Fits, New, Grown, grown-good}
 use Rattle.history.proofs.NewTypes.{free-number, unused-nowhere}
 
@@ -65,7 +66,8 @@ module _ {s : Schema} (good : Good s) (t r d : ℕ) (n m : Name) (c c′ : ℕ) 
   ps = put presence-before reverse-row half
 
   module _ (low : t < 128) (reverse-low : r < 128) (other : r ≡ t → ⊥)
-      (free : is-used (kind-of s t) ≡ false) (reverse-free : is-used (kind-of s r) ≡ false) (fit : Categories c c′) where
+      (free : is-used (kind-of s t) ≡ false) (reverse-free : is-used (kind-of s r) ≡ false) (fit : Categories c c′)
+      (named : blank n ≡ false) (reverse-named : blank m ≡ false) where
     kind : kind-of (of-types ks) t ≡ paired c r
     kind =
         getD-set-other (set (s .types) t (paired c r)) r t (paired c′ t) unused (λ e. other (sym e))
@@ -115,12 +117,12 @@ module _ {s : Schema} (good : Good s) (t r d : ℕ) (n m : Name) (c c′ : ℕ) 
           (set-either (set (s .types) t (paired c r)) r (paired c′ t) unused
           (omega (arith, length-set (s .types) t (paired c r), good .type-room)) u);
       old-rows = λ p i. put-old presence-before reverse-row half (put-old presence-before row (s .presences) i);
-      rows = λ p i. put-each presence-before i Old-or-new (inr (refl, reverse-new, full))
-          (λ j. put-each presence-before j Old-or-new (inr (refl, new, full)) inl);
+      rows = λ p i. put-each presence-before i Old-or-new (inr (refl, reverse-new, full, reverse-named))
+          (λ j. put-each presence-before j Old-or-new (inr (refl, new, full, named)) inl);
     }
       where
         Old-or-new : Presence → Type 0
-        Old-or-new q = (q ∈ s .presences) ⊎ ((q .sds ≡ d) × New (s .types) ks (s .presences) ps d (q .type) × Full q)
+        Old-or-new q = (q ∈ s .presences) ⊎ ((q .sds ≡ d) × New (s .types) ks (s .presences) ps d (q .type) × Full q × (blank (q .name) ≡ false))
 
     one-pair : length (s .presences) + 2 ≤ limits .presences → Row-fits (s .sdss) (s .presences) row → Row-fits (s .sdss) (s .presences) reverse-row
         → same-name n m ≡ false → Good (with-pair t r d n m c c′ s)
@@ -128,7 +130,7 @@ module _ {s : Schema} (good : Good s) (t r d : ℕ) (n m : Name) (c c′ : ℕ) 
         grown-good good ks ps d grown
         (rows-more (rows-more (rows-of (parts-of good .presences)) row (omega arith) fit-row)
         reverse-row (omega (arith, put-long presence-before row (s .presences)))
-        (fits-still row fit-reverse (rw (eq-eqb d d refl) differ) (rw (eq-eqb d d refl) (ne-eqb t r (λ e. other (sym e))))))
+        (fits-still row fit-reverse (others d (λ e. other (sym e)) (λ _. differ))))
 
 -- the lowest two unused numbers are two
 two-numbers : (s : Schema) → 2 ≤ length (free-types s) → second-new-type s ≡ new-type s → ⊥
@@ -147,7 +149,11 @@ new-pair-keeps d n m c c′ s g =
     let (many, room) = types-room s 2 (passed .fails 14) in
     let (low, unused-t) = free-number s 0 (omega arith) in
     let (reverse-low, unused-r) = free-number s 1 many in
-    one-pair g (new-type s) (second-new-type s) d n m c c′ low reverse-low (two-numbers s many) unused-t unused-r (categories c c′ (passed .fails 5)) room
-    (row-fits s d (new-type s) n (passed .fails 2) (passed .fails 3) (formed n a) free (unused-nowhere g d (new-type s) unused-t))
-    (row-fits s d (second-new-type s) m (passed .fails 2) (passed .fails 3) (formed m b) free′ (unused-nowhere g d (second-new-type s) unused-r))
+    let well = formed n a in
+    let well′ = formed m b in
+    one-pair g (new-type s) (second-new-type s) d n m c c′ low reverse-low (two-numbers s many) unused-t unused-r (categories c c′ (passed .fails 5))
+    (formed-named n well) (formed-named m well′) room
+    (row-fits s d (new-type s) n (passed .fails 2) (passed .fails 3) (formed-allowed n well) (λ _. free) (unused-nowhere g d (new-type s) unused-t))
+    (row-fits s d (second-new-type s) m (passed .fails 2) (passed .fails 3) (formed-allowed m well′) (λ _. free′)
+    (unused-nowhere g d (second-new-type s) unused-r))
     differ)

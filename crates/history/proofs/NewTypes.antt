@@ -11,7 +11,7 @@ use lib.Seq.{getD-set-same}
 use borrow.Author.Tests.{not-true, not-false, ltb-false}
 use Rattle.rules.specs.01-Lists.{_∈_, any, repeated, rising, put, put-all}
 use Rattle.rules.specs.02-Limits.{limits}
-use Rattle.rules.specs.03-Names.{Name, names-in}
+use Rattle.rules.specs.03-Names.{Name, blank, names-in}
 use Rattle.rules.specs.04-Schema.{Schema, Kind, Presence, new-presence, kind-of, is-used, is-object, present, type-named}
 use Rattle.rules.specs.06-Good.{presence-before, Good}
 use Rattle.rules.specs.04-Schema.Kind.{unused, object, attribute, designation}
@@ -23,6 +23,7 @@ use Rattle.rules.specs.10-Changes.{parents-named, new-object, new-object-refusa
 use Rattle.rules.specs.13-History.{next}
 use Rattle.rules.proofs.Bools.{or-neither, fails}
 use Rattle.rules.proofs.01-Lists.{none-at, place-in, map-in, unrepeated}
+use Rattle.rules.proofs.03-Names.{formed-named, formed-allowed}
 use Rattle.rules.proofs.Edits.{put-each, put-old, put-all-long, put-all-in, set-either}
 use Rattle.rules.proofs.05-Descent.{members-in}
 use Rattle.rules.proofs.09-Refusals.{verdict-keeps}
@@ -60,7 +61,8 @@ module _ {s : Schema} (good : Good s) (t : ℕ) (k : Kind) (d : ℕ) (n : Name) 
   abbrev more-presences : List Presence
   more-presences = put presence-before row (s .presences)
 
-  module _ (low : t < 128) (free : is-used (kind-of s t) ≡ false) (fits : Fits (s .types) more-types (s .presences) more-presences d t k) where
+  module _ (low : t < 128) (free : is-used (kind-of s t) ≡ false) (fits : Fits (s .types) more-types (s .presences) more-presences d t k)
+      (named : blank n ≡ false) where
     new : New (s .types) more-types (s .presences) more-presences d t
     new = record {
       was = free;
@@ -78,8 +80,9 @@ module _ {s : Schema} (good : Good s) (t : ℕ) (k : Kind) (d : ℕ) (n : Name) 
           (set-either (s .types) t k unused (omega (arith, good .type-room)) u);
       old-rows = λ p i. put-old presence-before row (s .presences) i;
       rows = λ p i. put-each presence-before i
-          (λ q. (q ∈ s .presences) ⊎ ((q .sds ≡ d) × New (s .types) more-types (s .presences) more-presences d (q .type) × Full q))
-          (inr (refl, new, full))
+          (λ q. (q ∈ s .presences)
+          ⊎ ((q .sds ≡ d) × New (s .types) more-types (s .presences) more-presences d (q .type) × Full q × (blank (q .name) ≡ false)))
+          (inr (refl, new, full, named))
           inl;
     }
 
@@ -97,8 +100,9 @@ lowest : {s : Schema} → Good s → (k : Kind) (d : ℕ) (n : Name)
 lowest {s} good k d n fits c2 c3 c4 c11 c14 =
     let (many, room) = types-room s 1 c14 in
     let (low, free) = free-number s 0 many in
-    one-type good (new-type s) k d n low free fits room
-    (row-fits s d (new-type s) n c2 c3 (formed n c4) (one-free s d n c11) (unused-nowhere good d (new-type s) free))
+    let well = formed n c4 in
+    one-type good (new-type s) k d n low free fits (formed-named n well) room
+    (row-fits s d (new-type s) n c2 c3 (formed-allowed n well) (λ _. one-free s d n c11) (unused-nowhere good d (new-type s) free))
 
 pub new-attribute-keeps : (d : ℕ) (n : Name) (v : ℕ) (s : Schema) → Good s → Good (next s (new-attribute d n v s))
 unfolding new-attribute unknown-value-kind

@@ -20,7 +20,8 @@ use Rattle.rules.specs.10-Changes as Changes
 use Rattle.rules.specs.11-Asks as Asks
 use Rattle.rules.specs.13-History.{Change, Ask, Call, change-rule, ask-rule, Allowed}
 use Rattle.rules.specs.13-History.Change.{new-sds, remove-sds, new-object, new-attribute, new-designation, new-pair, import, apply}
-use Rattle.rules.specs.13-History.Change.{unapply, apply-link, unapply-link, add-destination, remove-destination, remove-type, rename, set-modes}
+use Rattle.rules.specs.13-History.Change.{unapply, apply-link, unapply-link, add-destination, remove-destination, remove-type, remove-number, rename}
+use Rattle.rules.specs.13-History.Change.{rename-number, set-modes}
 use Rattle.rules.specs.13-History.Ask.{scan-object, scan-link, profile, find, depth-of, name, descendant-set, modes-of}
 use Rattle.rules.specs.13-History.Call.{begin-fresh, change, ask}
 use Rattle.rules.proofs.Bools.{and-both, or-cases}
@@ -56,7 +57,8 @@ not-1 (done one two three made) h e = omega arith
 pub change-refuses : (c : Change) (s : Schema) → Refusing Fair (change-rule c s)
 unfolding
     any all Changes.new-sds Changes.remove-sds Changes.new-object Changes.new-attribute Changes.new-designation Changes.new-pair Changes.import
-    Changes.apply Changes.unapply Changes.add-end Changes.remove-end Changes.remove-type Changes.rename Changes.set-modes
+    Changes.apply Changes.unapply Changes.add-end Changes.remove-end Changes.remove-type Changes.remove-number Changes.rename
+    Changes.rename-number Changes.set-modes
 change-refuses (new-sds n) s = verdict-fair (Changes.new-sds-refusals n s) _ refl tt
 change-refuses (remove-sds d) s = verdict-fair (Changes.remove-sds-refusals d s) _ refl tt
 change-refuses (new-object d n run) s = verdict-fair (Changes.new-object-refusals d n run s) _ refl tt
@@ -71,7 +73,9 @@ change-refuses (unapply-link d n m) s = verdict-fair (Changes.remove-end-refusal
 change-refuses (add-destination d n m) s = verdict-fair (Changes.add-end-refusals destination d n m s) _ refl tt
 change-refuses (remove-destination d n m) s = verdict-fair (Changes.remove-end-refusals destination d n m s) _ refl tt
 change-refuses (remove-type d n) s = verdict-fair (Changes.remove-type-refusals d n s) _ refl tt
+change-refuses (remove-number d t) s = verdict-fair (Changes.remove-number-refusals d t s) _ refl tt
 change-refuses (rename d n new) s = verdict-fair (Changes.rename-refusals d n new s) _ refl tt
+change-refuses (rename-number d t new) s = verdict-fair (Changes.rename-number-refusals d t new s) _ refl tt
 change-refuses (set-modes d n usage definition) s = verdict-fair (Changes.set-modes-refusals d n usage definition s) _ refl tt
 
 pub ask-refuses : (q : Ask) (s : Schema) → Refusing Fair (ask-rule q s)

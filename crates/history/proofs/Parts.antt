@@ -8,18 +8,18 @@ use mathlib.Core.List.List·Memᴰ.{List·Memᴰ·head, List·Memᴰ·tail}
 use mathlib.Core.Bool.{Bool, true, false, true≢false}
 use lib.ListN.{length}
 use Rattle.rules.specs.01-Lists.{_∈_, without, put-all}
-use Rattle.rules.specs.03-Names.{Name}
-use Rattle.rules.specs.04-Schema.{Schema, Kind, Presence, Application, End, used-sds, kind-of, is-used, present, with-sdss, with-applications}
-use Rattle.rules.specs.04-Schema.{with-ends, new-presence, reverse, reverse-in, with-reverse}
+use Rattle.rules.specs.03-Names.{Name, blank}
+use Rattle.rules.specs.04-Schema.{Schema, Kind, Presence, Application, End, used-sds, kind-of, is-used, is-object, present, with-sdss}
+use Rattle.rules.specs.04-Schema.{with-applications, with-ends, new-presence, reverse, reverse-in, with-reverse}
 use Rattle.rules.specs.04-Schema.Kind.{paired}
 use Rattle.rules.specs.06-Good.{Same-modes, Good}
-use Rattle.rules.specs.Parts.{of-sdss, of-types, of-presences, Sdss, Reverses, Presence-rows, Once, Closed-under, Somewhere, Alike, Presences}
-use Rattle.rules.specs.Parts.{Ordered, Applications, Ends}
+use Rattle.rules.specs.Parts.{of-sdss, of-types, of-presences, Sdss, Reverses, Presence-rows, Once, Nameless, Closed-under, Somewhere, Alike}
+use Rattle.rules.specs.Parts.{Presences, Ordered, Applications, Ends}
 use Rattle.rules.proofs.01-Lists.{Different}
 use Rattle.rules.proofs.05-Descent.{object-used}
 use Rattle.rules.proofs.Edits.{put-all-long, without-long}
 use Rattle.rules.proofs.Parts.{present-each, parts-of, whole, applied-over, ended-over, applied-held, ended-held}
-use Rattle.history.proofs.KindLaws.{attribute-used, link-used, either-used, has-reverse}
+use Rattle.history.proofs.KindLaws.{attribute-used, link-used, either-used, is-reverse, has-reverse}
 use Rattle.history.proofs.Orders.{Order, put-all-rises, without-rises}
 
 -- the presences by themselves, before any type is asked about
@@ -39,24 +39,27 @@ module _ {ns : List Name} {ks : List Kind} {ps : List Presence} where
   pub placed-at : Presences ns ks ps → (d t : ℕ) → present (of-presences ps) d t ≡ true → Placed ks ps d t
   placed-at g = present-each ps (Placed ks ps) (λ p i. record { used = g .typed p i; closed = g .closed p i })
 
-  pub presences-of : Rows ns ps → ((p : Presence) → p ∈ ps → Placed ks ps (p .sds) (p .type)) → Alike ks ps → Somewhere ks ps → Presences ns ks ps
-  presences-of r each alike somewhere = record {
+  pub presences-of : Rows ns ps → ((p : Presence) → p ∈ ps → Placed ks ps (p .sds) (p .type)) → Nameless ks ps → Alike ks ps → Somewhere ks ps
+      → Presences ns ks ps
+  presences-of r each nameless alike somewhere = record {
     rows = r .rows;
     once = r .once;
     typed = λ p i. each p i .used;
+    nameless = nameless;
     closed = λ p i. each p i .closed;
     alike = alike;
     somewhere = somewhere;
   }
 
--- ---- a link type and its reverse have the same modes still
+-- ---- what is nameless is an object type still, and a link type and its reverse have the same modes
 
--- a presence that was there, perhaps under another name: its type is what it was, and so are its modes
+-- a presence that was there, perhaps under another name, but nameless only if it was: its type is what it was, and so are its modes
 pub record Stayed (ks ks′ : List Kind) (ps : List Presence) (p : Presence) : Type 0 where
   pub row : Presence
   pub there : row ∈ ps
   pub sds : row .sds ≡ p .sds
   pub type : row .type ≡ p .type
+  pub nameless : blank (p .name) ≡ true → blank (row .name) ≡ true
   pub modes : Same-modes row p
   pub kind : kind-of (of-types ks′) (p .type) ≡ kind-of (of-types ks) (p .type)
 
@@ -67,23 +70,39 @@ Full p = Same-modes p (new-presence (p .sds) (p .name) (p .type))
 pub full : {d t : ℕ} {n : Name} → Full (new-presence d n t)
 full = record { usage = refl; definition = refl }
 
--- one of a type that was not there, with all modes
-pub record Came (ps : List Presence) (p : Presence) : Type 0 where
+-- one of a type that was not there, with all modes; nameless only if that is an object type
+pub record Came (ks′ : List Kind) (ps : List Presence) (p : Presence) : Type 0 where
   pub lacked : present (of-presences ps) (p .sds) (p .type) ≡ false
+  pub nameless : blank (p .name) ≡ true → is-object (kind-of (of-types ks′) (p .type)) ≡ true
   pub modes : Full p
 
 pub stayed : {ks ks′ : List Kind} {ps : List Presence} {p : Presence} → p ∈ ps → kind-of (of-types ks′) (p .type) ≡ kind-of (of-types ks) (p .type)
     → Stayed ks ks′ ps p
-stayed {p = p} i same = record { row = p; there = i; sds = refl; type = refl; modes = record { usage = refl; definition = refl }; kind = same }
+stayed {p = p} i same = record {
+  row = p;
+  there = i;
+  sds = refl;
+  type = refl;
+  nameless = λ e. e;
+  modes = record { usage = refl; definition = refl };
+  kind = same;
+}
 
 module _ {ns : List Name} {ks ks′ : List Kind} {ps ps′ : List Presence} (g : Presences ns ks ps) (turned : Reverses ks′)
-    (each : (p : Presence) → p ∈ ps′ → Stayed ks ks′ ps p ⊎ Came ps p) where
+    (each : (p : Presence) → p ∈ ps′ → Stayed ks ks′ ps p ⊎ Came ks′ ps p) where
+  pub nameless-still : Nameless ks′ ps′
+  nameless-still p i e =
+      ⊎-elim
+      (λ f. ap is-object (f .kind ∙ ap (kind-of (of-types ks)) (sym (f .type))) ∙ g .nameless (f .row) (f .there) (f .nameless e))
+      (λ a. a .nameless e)
+      (each p i)
+
   was-paired : {p : Presence} (f : Stayed ks ks′ ps p) {c r : ℕ} → kind-of (of-types ks′) (p .type) ≡ paired c r
       → kind-of (of-types ks) (f .row .type) ≡ paired c r
   was-paired f k = ap (kind-of (of-types ks)) (f .type) ∙ sym (f .kind) ∙ k
 
   -- the reverse of what was there was there
-  never-came : {p q : Presence} → Stayed ks ks′ ps p → Came ps q → p .sds ≡ q .sds → (c : ℕ) → kind-of (of-types ks′) (p .type) ≡ paired c (q .type) → ⊥
+  never-came : {p q : Presence} → Stayed ks ks′ ps p → Came ks′ ps q → p .sds ≡ q .sds → (c : ℕ) → kind-of (of-types ks′) (p .type) ≡ paired c (q .type) → ⊥
   never-came {p} {q} f a d c k =
       true≢false
       (sym (g .closed (f .row) (f .there) .reverse c (q .type) (was-paired f k))
@@ -106,6 +125,9 @@ module _ {ns : List Name} {ks ks′ : List Kind} {ps ps′ : List Presence} (g :
       (each q j))
       (each p i)
 
+  pub presences-still : Rows ns ps′ → ((p : Presence) → p ∈ ps′ → Placed ks′ ps′ (p .sds) (p .type)) → Somewhere ks′ ps′ → Presences ns ks′ ps′
+  presences-still rows placed somewhere = presences-of rows placed nameless-still alike-still somewhere
+
 -- what holds of a type, and of its reverse where it has one, holds of both
 pub reverse-each : (s : Schema) (t : ℕ) (P : ℕ → Type 0) → P t → ((c r : ℕ) → kind-of s t ≡ paired c r → P r) → (u : ℕ) → u ∈ with-reverse s t → P u
 unfolding reverse
@@ -121,8 +143,7 @@ pair-closed {s} g t u c r k i = ⊎-elim first second (List·Memᴰ·cases-cons 
     first same =
         let (c′, h) = g .reverse-in-turn u c r k in
         let own : kind-of s t ≡ paired c′ u = ap (kind-of s) (sym same) ∙ h in
-        let there : u ∈ reverse-in (kind-of s t) = rw own (List·Memᴰ·head refl) in
-        List·Memᴰ·tail there
+        List·Memᴰ·tail (is-reverse (kind-of s t) own)
 
     second : r ∈ reverse-in (kind-of s t) → u ∈ with-reverse s t
     second j =
@@ -154,7 +175,15 @@ with-sdss-good {s} g {ns} sdss used =
     whole (record {
       sdss = sdss;
       types = p .types;
-      presences = record { rows = over (q .rows); once = q .once; typed = q .typed; closed = q .closed; alike = q .alike; somewhere = q .somewhere };
+      presences = record {
+        rows = over (q .rows);
+        once = q .once;
+        typed = q .typed;
+        nameless = q .nameless;
+        closed = q .closed;
+        alike = q .alike;
+        somewhere = q .somewhere;
+      };
       applications = p .applications;
       ends = p .ends;
     })

@@ -1,18 +1,19 @@
 -- What the failure of a refusal's condition says, for the conditions that several calls share. Assumes nothing.
 use Prim.Native.Nat.{ℕ, _+_, _≤_}
 use mathlib.Core.Path.{_≡_, refl, sym, _∙_}
-use mathlib.Core.List.{[], _∷_}
+use mathlib.Core.List.{List, [], _∷_}
+use mathlib.Core.List.List·Memᴰ.{List·Memᴰ·head}
 use mathlib.Core.Bool.{true, false, not, _||_, true≢false}
 use lib.Dec.{leb, ltb, eqb}
 use lib.ListN.{length}
 use borrow.Author.Tests.{not-false, ltb-false, eq-eqb}
-use Rattle.rules.specs.01-Lists.{any, first}
+use Rattle.rules.specs.01-Lists.{_∈_, any, first}
 use Rattle.rules.specs.02-Limits.{limits}
 use Rattle.rules.specs.03-Names.{Name, well-formed, same-name}
 use Rattle.rules.specs.04-Schema.{Schema, nowhere, used-sds, holds-type, holds-name, present, bears, type-named}
 use Rattle.rules.specs.09-Refusals.{unknown-sds, system-sds, malformed, no-such-name, names-taken, free-types, presences-full, types-full}
 use Rattle.rules.proofs.Bools.{or-neither, and-both, and-of}
-use Rattle.rules.proofs.01-Lists.{any-at}
+use Rattle.rules.proofs.01-Lists.{any-at, none-at}
 use Rattle.rules.proofs.Edits.{first-in}
 
 -- ---- 2, 3 and 4: the SDS is used and is not SDS 0, the name is well formed
@@ -41,9 +42,12 @@ named-present s d n e =
 
 -- ---- 11: a new name is borne by none, and two differ
 
+pub names-free : (s : Schema) (d : ℕ) (ns : List Name) → names-taken s d ns ≡ false → {n : Name} → n ∈ ns → bears s d n ≡ false
+unfolding names-taken
+names-free s d ns e i = none-at (bears s d) (or-neither (any (bears s d) ns) _ e .0) i
+
 pub one-free : (s : Schema) (d : ℕ) (n : Name) → names-taken s d (n ∷ []) ≡ false → bears s d n ≡ false
-unfolding names-taken any
-one-free s d n e = or-neither (bears s d n) false (or-neither (bears s d n || false) false e .0) .0
+one-free s d n e = names-free s d (n ∷ []) e (List·Memᴰ·head refl)
 
 pub both-free : (s : Schema) (d : ℕ) (n m : Name) → names-taken s d (n ∷ m ∷ []) ≡ false
     → (bears s d n ≡ false) × (bears s d m ≡ false) × (same-name n m ≡ false)

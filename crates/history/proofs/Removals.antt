@@ -1,4 +1,4 @@
--- Remove type keeps a schema good. Assumes nothing.
+-- Remove type, by name or by number, keeps a schema good. Assumes nothing.
 use Prim.Native.Nat.{ℕ}
 use mathlib.Core.Path.{_≡_, refl, sym, subst, ap, _∙_}
 use mathlib.Core.Logic.{inl, ⊎-elim}
@@ -18,7 +18,7 @@ use Rattle.rules.specs.05-Descent.{Parent}
 use Rattle.rules.specs.06-Good.{Good}
 use Rattle.rules.specs.09-Refusals.{_held-by_, child-there, applied-there, end-of, end-there, in-the-way}
 use Rattle.rules.specs.09-Refusals.Outcome.{done}
-use Rattle.rules.specs.10-Changes.{less-gone, remove-type, remove-type-refusals}
+use Rattle.rules.specs.10-Changes.{less-gone, less-type, remove-type, remove-type-refusals, remove-number, remove-number-refusals}
 use Rattle.rules.specs.13-History.{next}
 use Rattle.rules.specs.Parts.{of-types, of-presences, Types, Presences, Applications, Ends, Parts}
 use Rattle.rules.proofs.Bools.{or-left, or-right, and-both, and-of, fails}
@@ -30,7 +30,7 @@ use Rattle.rules.proofs.09-Refusals.{verdict-keeps, none-passes, on-side}
 use Rattle.rules.proofs.Parts.{presence-there, presence-of, parts-of, whole, applied-over, ended-over, applied-held, ended-held}
 use Rattle.history.proofs.EndChanges.{in-has}
 use Rattle.history.proofs.KindLaws.{kind-unused}
-use Rattle.history.proofs.Parts.{Placed, rows-of, placed-at, presences-of, stayed, alike-still, pair-closed}
+use Rattle.history.proofs.Parts.{Placed, rows-of, placed-at, stayed, presences-still, pair-closed}
 use Rattle.history.proofs.Passed.{aimed}
 use Rattle.history.proofs.Rows.{rows-less}
 
@@ -116,7 +116,9 @@ module _ {ks ks′ : List Kind} {ps : List Presence} (placed : All-placed ks ps)
 presences-left : {ns : List Name} {ks ks′ : List Kind} (q : Presence → Bool) {ps : List Presence} → All-placed ks (without q ps)
     → Left ks ks′ (without q ps) → q system-presence ≡ false → Types ks′ → Presences ns ks ps → Presences ns ks′ (without q ps)
 presences-left q {ps} placed left stays types g =
-    presences-of (rows-less (rows-of g) q stays)
+    presences-still g (types .reverses)
+    (λ p i. inl (stayed (without-in q ps i .0) (left .stays (p .sds) (p .type) (presence-there i))))
+    (rows-less (rows-of g) q stays)
     (λ p i.
     let c = placed (p .sds) (p .type) (presence-there i) in
     record {
@@ -126,7 +128,6 @@ presences-left q {ps} placed left stays types g =
         reverse = λ b r k. c .closed .reverse b r (was placed left (p .type) (paired b r) refl k);
       };
     })
-    (alike-still g (types .reverses) (λ p i. inl (stayed (without-in q ps i .0) (left .stays (p .sds) (p .type) (presence-there i)))))
     (left .found)
 
 -- ---- the types that are gone
@@ -372,9 +373,16 @@ pub remove-type-keeps : (d : ℕ) (n : Name) (s : Schema) → Good s → Good (n
 unfolding remove-type
 remove-type-keeps d n s g =
     verdict-keeps (λ o. Good (next s o)) (remove-type-refusals d n s)
-    (done t 0 0 (less-gone (with-reverse s t) (with-presences s (without (goes d (with-reverse s t)) (s .presences)))))
+    (done t 0 0 (less-type d t s))
     (λ _ _. g)
     (λ passed. removed-good g d t (aimed d (passed .fails 3)) (passed .fails 16) (passed .fails 17) (passed .fails 18))
   where
     t : ℕ
     t = type-named s d n
+
+pub remove-number-keeps : (d t : ℕ) (s : Schema) → Good s → Good (next s (remove-number d t s))
+unfolding remove-number
+remove-number-keeps d t s g =
+    verdict-keeps (λ o. Good (next s o)) (remove-number-refusals d t s) (done t 0 0 (less-type d t s))
+    (λ _ _. g)
+    (λ passed. removed-good g d t (aimed d (passed .fails 3)) (passed .fails 16) (passed .fails 17) (passed .fails 18))

@@ -1,4 +1,4 @@
--- A rename keeps a schema good: the same types are present in the same SDSs, and no other bears the new name. Assumes nothing.
+-- A rename, by name or by number, keeps a schema good: the same types are present in the same SDSs, and no other bears the new name. Assumes nothing.
 use Prim.Native.Nat.{ℕ, _+_, _≤_}
 use native.Mathlib.Omega.{arith}
 use mathlib.Core.Path.{_≡_, refl, sym, ap, _∙_}
@@ -12,16 +12,16 @@ use Rattle.rules.specs.01-Lists.{_∈_, first, without, put}
 use Rattle.rules.specs.02-Limits.{limits}
 use Rattle.rules.specs.03-Names.{Name, same-name}
 use Rattle.rules.specs.04-Schema.{Schema, Presence, system-presence, nowhere, used-sds, holds-type, holds-name, present, bears, type-named}
-use Rattle.rules.specs.04-Schema.{type-presence, with-presences}
+use Rattle.rules.specs.04-Schema.{type-presence}
 use Rattle.rules.specs.06-Good.{presence-before, Good}
-use Rattle.rules.specs.09-Refusals.{unknown-sds, system-sds, malformed, borne-by-another}
+use Rattle.rules.specs.09-Refusals.{unknown-sds, system-sds, malformed, not-present, borne-by-another}
 use Rattle.rules.specs.09-Refusals.Outcome.{done}
-use Rattle.rules.specs.10-Changes.{renamed, rename, rename-refusals}
+use Rattle.rules.specs.10-Changes.{renamed, with-name, rename, rename-refusals, rename-number, rename-number-refusals}
 use Rattle.rules.specs.13-History.{next}
 use Rattle.rules.specs.Parts.{of-presences}
 use Rattle.rules.proofs.Bools.{or-neither, and-both, and-of, and-rest, fails}
 use Rattle.rules.proofs.01-Lists.{any-at, any-none}
-use Rattle.rules.proofs.03-Names.{same-asked}
+use Rattle.rules.proofs.03-Names.{same-asked, same-blank, formed-named, formed-allowed}
 use Rattle.rules.proofs.Edits.{put-each, put-old, first-in, without-in, without-keeps, without-fewer}
 use Rattle.rules.proofs.08-Working.{holder}
 use Rattle.rules.proofs.09-Refusals.{verdict-keeps}
@@ -46,16 +46,16 @@ module _ (s : Schema) (g : Good s) (d : ℕ) (new : Name) (t : ℕ) where
   after = put presence-before x left
 
   -- who bears the new name is of type t
-  bearer : borne-by-another s d t new ≡ false → (q : Presence) → q ∈ s .presences → holds-name d new q ≡ true → q .type ≡ t
+  bearer : malformed new ≡ false → borne-by-another s d t new ≡ false → (q : Presence) → q ∈ s .presences → holds-name d new q ≡ true → q .type ≡ t
   unfolding borne-by-another bears type-named
-  bearer e q i h =
+  bearer well e q i h =
       let borne = any-at (holds-name d new) i h in
       let p = first (holds-name d new) nowhere (s .presences) in
       let (j, k) = first-in (holds-name d new) nowhere (s .presences) borne in
       let (a, b) = and-both (eqb (q .sds) d) (same-name (q .name) new) h in
       let (a′, b′) = and-both (eqb (p .sds) d) (same-name (p .name) new) k in
       let one : q ≡ p = g .local-names-unique q p i j (eqb-true (q .sds) d a ∙ sym (eqb-true (p .sds) d a′))
-      (same-asked (p .name) new b′ (q .name) ∙ b) in
+      (same-blank (q .name) new b ∙ formed-named new (formed new well)) (same-asked (p .name) new b′ (q .name) ∙ b) in
       ap (λ r. r .type) one ∙ eqb-true (p .type) t (not-false (eqb (p .type) t) (and-rest (bears s d new) (not (eqb (p .type) t)) borne e))
 
   -- without it none of type t is left, nor one of the new name
@@ -65,9 +65,9 @@ module _ (s : Schema) (g : Good s) (d : ℕ) (new : Name) (t : ℕ) where
   fits is-known outside well there another = record {
     in-used = known s d is-known;
     outside = aimed d outside;
-    named = formed new well;
+    named = formed-allowed new (formed new well);
     known = let m = g .modes-known old (holder s d t there .0) in record { usage = m .usage; definition = m .definition };
-    free = any-none (holds-name d new) left (λ q i. fails (holds-name d new q) (other q i));
+    free = λ _. any-none (holds-name d new) left (λ q i. fails (holds-name d new q) (other q i));
     new = any-none (holds-type d t) left (λ q i. without-in (holds-type d t) (s .presences) i .1);
   }
     where
@@ -75,7 +75,7 @@ module _ (s : Schema) (g : Good s) (d : ℕ) (new : Name) (t : ℕ) where
       other q i h =
           let (j, out) = without-in (holds-type d t) (s .presences) i in
           let in-d = and-both (eqb (q .sds) d) (same-name (q .name) new) h .0 in
-          true≢false (sym (and-of (eqb (q .sds) d) (eqb (q .type) t) in-d (eq-eqb (q .type) t (bearer another q j h))) ∙ out)
+          true≢false (sym (and-of (eqb (q .sds) d) (eqb (q .type) t) in-d (eq-eqb (q .type) t (bearer well another q j h))) ∙ out)
 
   -- one out and one in
   room : present s d t ≡ true → length left + 1 ≤ limits .presences
@@ -91,20 +91,28 @@ module _ (s : Schema) (g : Good s) (d : ℕ) (new : Name) (t : ℕ) where
           rw (eqb-true (p .sds) d a, eqb-true (p .type) t b) (present-new x left)
       go p i false h = presence-there (put-old presence-before x left (without-keeps (holds-type d t) (s .presences) i h))
 
-  was : present s d t ≡ true → (p : Presence) → p ∈ after → Stayed (s .types) (s .types) (s .presences) p
-  was there p i =
+  was : malformed new ≡ false → present s d t ≡ true → (p : Presence) → p ∈ after → Stayed (s .types) (s .types) (s .presences) p
+  was well there p i =
       let (j, at, of) = holder s d t there in
       put-each presence-before i (Stayed (s .types) (s .types) (s .presences))
-      (record { row = old; there = j; sds = at; type = of; modes = record { usage = refl; definition = refl }; kind = refl })
+      (record {
+        row = old;
+        there = j;
+        sds = at;
+        type = of;
+        nameless = λ e. absurd (true≢false (sym e ∙ formed-named new (formed new well)));
+        modes = record { usage = refl; definition = refl };
+        kind = refl;
+      })
       (λ k. stayed (without-in (holds-type d t) (s .presences) k .0) refl)
 
   good-after : unknown-sds s d ≡ false → system-sds d ≡ false → malformed new ≡ false → present s d t ≡ true → borne-by-another s d t new ≡ false
-      → Good (with-presences s after)
+      → Good (with-name d new t s)
   good-after is-known outside well there another =
       with-more-good g
       (rows-more (rows-less (rows-of (parts-of g .presences)) (holds-type d t) stays) x (room there) (fits is-known outside well there another))
       still
-      (λ p i. inl (was there p i))
+      (λ p i. inl (was well there p i))
     where
       stays : holds-type d t system-presence ≡ false
       stays = rw (ne-eqb 0 d (λ z. aimed d outside (sym z)))
@@ -113,10 +121,16 @@ pub rename-keeps : (d : ℕ) (n new : Name) (s : Schema) → Good s → Good (ne
 unfolding rename
 rename-keeps d n new s g =
     verdict-keeps (λ o. Good (next s o)) (rename-refusals d n new s)
-    (done 0 0 0
-    (with-presences s (put presence-before (renamed d new (type-named s d n) s)
-    (without (holds-type d (type-named s d n)) (s .presences)))))
+    (done 0 0 0 (with-name d new (type-named s d n) s))
     (λ _ _. g)
     (λ passed.
     good-after s g d new (type-named s d n) (passed .fails 2) (passed .fails 3) (or-neither (malformed n) (malformed new) (passed .fails 4) .1)
     (named-present s d n (passed .fails 6)) (passed .fails 11))
+
+pub rename-number-keeps : (d t : ℕ) (new : Name) (s : Schema) → Good s → Good (next s (rename-number d t new s))
+unfolding rename-number not-present
+rename-number-keeps d t new s g =
+    verdict-keeps (λ o. Good (next s o)) (rename-number-refusals d t new s) (done 0 0 0 (with-name d new t s))
+    (λ _ _. g)
+    (λ passed.
+    good-after s g d new t (passed .fails 2) (passed .fails 3) (passed .fails 4) (not-false (present s d t) (passed .fails 6)) (passed .fails 11))

@@ -5,9 +5,9 @@ use mathlib.Core.Path.{_≡_, refl, sym, ap, _∙_}
 use mathlib.Core.List.{List, [], _∷_, List·Memᴰ·eq-of-singleton}
 use mathlib.Core.Bool.{true, false, not, and-false}
 use borrow.Author.Tests.{eq-eqb}
-use Rattle.rules.specs.01-Lists.{any, first, without, put, put-all, repeated}
+use Rattle.rules.specs.01-Lists.{any, first, without, put-all, repeated}
 use Rattle.rules.specs.03-Names.{Name, same-name}
-use Rattle.rules.specs.04-Schema.{Schema, Presence, nowhere, holds-type, bears, type-named, type-presence, local-name, with-presences}
+use Rattle.rules.specs.04-Schema.{Schema, Presence, nowhere, holds-type, bears, type-named, type-presence, local-name}
 use Rattle.rules.specs.06-Good.{presence-before}
 use Rattle.rules.specs.09-Refusals.{_when_, verdict, unknown-sds, system-sds, malformed, no-such-name, no-name-listed, borne-by-another}
 use Rattle.rules.specs.09-Refusals.Outcome.{done}
@@ -34,9 +34,7 @@ module _ (s : Schema) (d : ℕ) (n new : Name) where
   not-another = rw (eq-eqb (type-named s d n) (type-named s d n) refl) (and-false (bears s d n))
 
   abbrev renamed : Schema
-  renamed =
-      let t = type-named s d n in
-      with-presences s (put presence-before (Changes.renamed d new t s) (without (holds-type d t) (s .presences)))
+  renamed = Changes.with-name d new (type-named s d n) s
 
   -- no number refuses another spelling, unless it would refuse any new name
   pub rename-respells : unknown-sds s d ≡ false → system-sds d ≡ false → malformed n ≡ false → malformed new ≡ false → no-such-name s d n ≡ false

@@ -7,7 +7,7 @@ use lib.Dec.{eqb}
 use lib.ListN.{length}
 use borrow.Author.Tests.{eqb-true, eqb-false}
 use Rattle.rules.specs.01-Lists.{_∈_}
-use Rattle.rules.specs.03-Names.{same-name}
+use Rattle.rules.specs.03-Names.{blank, same-name}
 use Rattle.rules.specs.04-Schema.{Schema, Presence, Application, End, used-sds, kind-of, is-used, is-object, present, has-end}
 use Rattle.rules.specs.04-Schema.Kind.{paired}
 use Rattle.rules.specs.04-Schema.Side.{origin, destination}
@@ -80,8 +80,13 @@ module _ {s : Schema} (good : Good s) where
   reverse-there = good .reverse-present
 
   -- no two of its types bear one local name
-  pub local-names-unique : (p q : Presence) → p ∈ s .presences → q ∈ s .presences → p .sds ≡ q .sds → same-name (p .name) (q .name) ≡ true → p ≡ q
+  pub local-names-unique : (p q : Presence) → p ∈ s .presences → q ∈ s .presences → p .sds ≡ q .sds → blank (p .name) ≡ false
+      → same-name (p .name) (q .name) ≡ true → p ≡ q
   local-names-unique = good .local-names-unique
+
+  -- a nameless one is an object type (02, Q-8)
+  pub nameless-object : (p : Presence) → p ∈ s .presences → blank (p .name) ≡ true → is-object (kind-of s (p .type)) ≡ true
+  nameless-object = good .nameless-object
 
   -- "an object type is an origin of a link type in an SDS exactly when it is a destination of its reverse there"
   pub origins-are-destinations : (d l c r o : ℕ) → kind-of s l ≡ paired c r → has-end s d l origin o ≡ has-end s d r destination o

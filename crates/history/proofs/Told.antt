@@ -9,10 +9,10 @@ use mathlib.Core.Bool.{Bool, true, false, cond, _&&_}
 use lib.Dec.{eqb}
 use lib.ListN.{set}
 use borrow.Author.Tests.{eqb-true}
-use Rattle.rules.specs.01-Lists.{any, among, without}
+use Rattle.rules.specs.01-Lists.{any}
 use Rattle.rules.specs.03-Names.{Name}
 use Rattle.rules.specs.04-Schema.{Schema, Side, present, applied, is-application, has-end, is-end, side-code, with-reverse, type-named}
-use Rattle.rules.specs.04-Schema.{with-sdss, with-presences}
+use Rattle.rules.specs.04-Schema.{with-sdss}
 use Rattle.rules.specs.06-Good.{Good}
 use Rattle.rules.specs.09-Refusals.{Outcome, Refusal, Refusals, _held-by_, verdict, unknown-sds, system-sds, malformed, no-such-name}
 use Rattle.rules.specs.09-Refusals.{types-in, child-there, applied-there, end-of, end-there, in-the-way}
@@ -104,6 +104,12 @@ module _ {s : Schema} (good : Good s) (d : ℕ) where
         lowest = told-lowest n (λ x. any (λ t. holds t x) ts) e;
       }
 
+  obstacles-tell : (t : ℕ) → Each (Type-told s d (with-reverse s t)) (Changes.obstacles d t s)
+  obstacles-tell t =
+      more (λ e. child (in-way 16 (child-there s d) _ child-present e))
+      (more (λ e. application (in-way 17 (applied-there s d) _ application-there e))
+      (more (λ e. end (in-way 18 (end-there s d) _ ends-there e)) none))
+
   pub remove-type-tells : (n : Name) → Refusing (Type-told s d (with-reverse s (type-named s d n))) (Changes.remove-type d n s)
   unfolding Changes.remove-type
   remove-type-tells n =
@@ -111,10 +117,15 @@ module _ {s : Schema} (good : Good s) (d : ℕ) where
       (more (λ _. zeros (omega arith))
       (more (λ _. zeros (omega arith))
       (more (λ _. zeros (omega arith))
+      (more (λ _. zeros (omega arith)) (obstacles-tell (type-named s d n)))))) tt
+
+  pub remove-number-tells : (t : ℕ) → Refusing (Type-told s d (with-reverse s t)) (Changes.remove-number d t s)
+  unfolding Changes.remove-number
+  remove-number-tells t =
+      verdict-tells (Type-told s d (with-reverse s t)) _
       (more (λ _. zeros (omega arith))
-      (more (λ e. child (in-way 16 (child-there s d) _ child-present e))
-      (more (λ e. application (in-way 17 (applied-there s d) _ application-there e))
-      (more (λ e. end (in-way 18 (end-there s d) _ ends-there e)) none))))))) tt
+      (more (λ _. zeros (omega arith))
+      (more (λ _. zeros (omega arith)) (obstacles-tell t)))) tt
 
   pub remove-sds-tells : Refusing (Sds-told s d) (Changes.remove-sds d s)
   unfolding Changes.remove-sds types-in
@@ -132,9 +143,7 @@ pub remove-type-done : (d : ℕ) (n : Name) (s : Schema) → unknown-sds s d ≡
     → let t = type-named s d n in
     in-the-way (child-there s d) (with-reverse s t) ≡ [] → in-the-way (applied-there s d) (with-reverse s t) ≡ []
     → in-the-way (end-there s d) (with-reverse s t) ≡ []
-    → Changes.remove-type d n s ≡ done t 0 0
-    (Changes.less-gone (with-reverse s t)
-    (with-presences s (without (λ p. eqb (p .sds) d && among (with-reverse s t) (p .type)) (s .presences))))
+    → Changes.remove-type d n s ≡ done t 0 0 (Changes.less-type d t s)
 unfolding Changes.remove-type verdict
 remove-type-done d n s a b c e f g h = rw (a, b, c, e, f, g, h) refl
 

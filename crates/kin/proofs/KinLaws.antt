@@ -13,7 +13,7 @@ use lib.Seq.{drop-cons, drop-length}
 use borrow.Author.Tests.{eqb-true, eq-eqb, ltb-true, ltb-false}
 use Rattle.rules.specs.01-Lists.{any}
 use Rattle.rules.specs.04-Schema.{Schema, parents, is-parent}
-use Rattle.rules.specs.05-Descent.{Parent, members}
+use Rattle.rules.specs.05-Descent.{Parent, descends, members}
 use Rattle.rules.specs.Read.{count-offset, parents-offset}
 use Rattle.rules.proofs.Bools.{same-test, or-cases, or-left, or-right, and-both}
 use Rattle.rules.proofs.01-Lists.{any-at, any-where, numbers-none}
@@ -27,7 +27,7 @@ use Rattle.type_set.proofs.Set.{has-past}
 use Rattle.type_set.proofs.Members.{members-fewer}
 use Rattle.type_set.proofs.Round.{grow-cases, grow-taken}
 use Rattle.lookup.specs.Parents.{Parental}
-use Rattle.kin.specs.Kin.{parents-of, children-of}
+use Rattle.kin.specs.Kin.{parents-of, children-of, ancestors-of}
 use Rattle.lookup.proofs.Parents.{object-below, parent-below, parents-count, parents-place}
 
 -- ---- tests
@@ -126,6 +126,21 @@ module _ {b : List ℕ} (rows : Parental b) (t : ℕ) (h : t < 128) where
 
       pub finds-all : i ≡ getD b (type-at t + count-offset) 0 → false ≡ children-of (schema-of b) p t
       finds-all l = sym (left-none p i l) ∙ so-far .left
+
+-- ---- a set of one type
+
+module _ (p : ℕ → Bool) (t : ℕ) (small : t < 128) (is : (k : ℕ) → p k ≡ eqb k t) where
+  pub one-member : (f : ℕ → Bool) → any f (members p) ≡ f t
+  one-member f =
+      same-test (any f (members p)) (f t)
+      (λ e.
+      let (x, i, h) = any-where f (members p) e in
+      ap f (sym (eqb-true x t (sym (is x) ∙ members-in p x i .1))) ∙ h)
+      (λ e. any-at f (members-of p t small (is t ∙ eq-eqb t t refl)) e)
+
+  pub above : (s : Schema) (k : ℕ) → ancestors-of s p k ≡ descends s t k
+  unfolding ancestors-of
+  above s k = one-member (λ u. descends s u k)
 
 -- ---- the parents of a set, type by type
 

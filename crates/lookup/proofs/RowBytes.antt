@@ -1,6 +1,5 @@
 -- The numbers that the rows of a sound base hold. Assumes nothing.
-use Prim.Native.Nat.{ℕ, _+_, _≤_, _<_}
-use native.Mathlib.Nat.{add-zero}
+use Prim.Native.Nat.{ℕ, zero, suc, _+_, _≤_, _<_}
 use native.Mathlib.Omega.{arith}
 use mathlib.Core.Path.{_≡_, sym, ap, _∙_}
 use mathlib.Core.List.{List}
@@ -9,24 +8,25 @@ use lib.Dec.{eqb}
 use lib.ListN.{getD}
 use borrow.Author.Tests.{eqb-true}
 use Rattle.rules.specs.02-Limits.{limits}
-use Rattle.rules.specs.03-Names.{well-formed}
-use Rattle.rules.specs.04-Schema.{End, holds-type, present, side-code}
+use Rattle.rules.specs.01-Lists.{_∈_, rising}
+use Rattle.rules.specs.04-Schema.{Presence, End, system-presence, holds-type, present, side-code}
+use Rattle.rules.specs.06-Good.{presence-before}
 use Rattle.rules.specs.07-Picture.{Sound, end-row, end-width}
-use Rattle.rules.specs.Read.{attribute-offset, link-offset, name-offset, object-offset, side-offset, to-offset, type-offset}
+use Rattle.rules.specs.Read.{attribute-offset, link-offset, object-offset, side-offset, to-offset, type-offset}
 use Rattle.rules.proofs.Bools.{and-both}
 use Rattle.rules.proofs.01-Lists.{any-where}
 use Rattle.rules.proofs.05-Descent.{used-below}
 use Rattle.rules.proofs.08-Working.{present-used}
-use Rattle.name_fields.proofs.NamedFields.{formed-first}
-use Rattle.rows.specs.Rows.{part, Halved, Counted}
+use Rattle.rules.proofs.Modes.{none-behind}
+use Rattle.rows.specs.Rows.{Counted}
 use Rattle.rows.proofs.Rows.{part-byte}
-use Rattle.base.specs.Tables.{presences, applications, ends}
+use Rattle.base.specs.Tables.{Blank-from, Presences-halved, presences, applications, ends}
 use Rattle.base.specs.Rows.{presence-at, application-at, end-at}
 use Rattle.base.specs.Back.{schema-of, presence-count, application-count, end-count, presence-shown, application-shown, end-shown}
 use Rattle.base.proofs.Back.{rows-few, sound-canonical, sound-good}
-use Rattle.base.proofs.Halved.{halved-right}
+use Rattle.base.proofs.Halved.{presences-right}
 use Rattle.base.proofs.Kept.{sound-long}
-use Rattle.base.proofs.Shown.{presence-there, application-there, end-there, end-read}
+use Rattle.base.proofs.Shown.{presences-long, presence-is, presence-in, presence-there, application-there, end-there, end-read}
 use Rattle.lookup.proofs.SdsShown as SdsShown
 
 module _ (b : List ℕ) where
@@ -39,20 +39,23 @@ module _ (b : List ℕ) where
   pub few-ends : end-count b ≤ limits .ends
   few-ends = rows-few ends b
 
--- the first byte of a name is not 0
-pub name-first : (b : List ℕ) (i : ℕ) → well-formed ((presence-shown b i) .name) ≡ true → getD b (presence-at i + name-offset) 0 ≡ 0 → ⊥
-name-first b i w z =
-    let at = presence-at i + name-offset in
-    formed-first (part b at (limits .name)) w (part-byte b at (limits .name) 0 (omega arith) ∙ ap (λ (k : ℕ). getD b k 0) (add-zero at) ∙ z)
+-- the first presence is in SDS 0 and no other, so that their count is found by halving
+module _ (b : List ℕ) (holds : system-presence ∈ (schema-of b) .presences)
+    (alone : (p : Presence) → p ∈ (schema-of b) .presences → p .sds ≡ 0 → p ≡ system-presence)
+    (rises : rising presence-before ((schema-of b) .presences) ≡ true) (rest : Blank-from presences (presence-count b) b) where
+  pub halved-counted : {n : ℕ} → Presences-halved b n → Counted (presence-count b) (limits .presences) n
+  halved-counted {n} half = presences-right b n half (let (i, h, e) = presence-in b system-presence holds in omega arith) later rest
+    where
+      later : (i : ℕ) → 0 < i → i < presence-count b → getD b (presence-at i) 0 ≡ 0 → ⊥
+      later zero h k z = omega arith
+      later (suc i) h k z =
+          none-behind system-presence ((schema-of b) .presences) rises alone i (omega (arith, presences-long b))
+          (ap (λ (p : Presence). p .sds) (presence-is b (suc i) system-presence k) ∙ z)
 
 module _ {b : List ℕ} (s : Sound b) where
-  -- so that the count of presences is found by halving
-  pub presences-counted : {n : ℕ} → Halved b (presences .start + name-offset) (presences .width) (limits .presences) n
-      → Counted (presence-count b) (limits .presences) n
-  presences-counted {n} half =
-      halved-right presences b name-offset n (omega arith) half
-      (λ i h. name-first b i (sound-good s .presence-named (presence-shown b i) (presence-there b i h)))
-      (sound-canonical s .presence-rest)
+  pub presences-counted : {n : ℕ} → Presences-halved b n → Counted (presence-count b) (limits .presences) n
+  presences-counted =
+      let good = sound-good s in halved-counted b (good .system-holds) (good .system-alone) (good .presences-rising) (sound-canonical s .presence-rest)
 
   -- what is present is a type, in an SDS
   small : (d t : ℕ) → present (schema-of b) d t ≡ true → (d < limits .sdss) × (t < 128)

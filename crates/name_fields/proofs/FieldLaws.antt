@@ -14,7 +14,7 @@ use Rattle.rules.specs.01-Lists.{same-bytes, all}
 use Rattle.rules.specs.03-Names.{letter, letter-or-digit, well-formed}
 use Rattle.rules.specs.07-Picture.{pad}
 use Rattle.rules.specs.Read.{strip}
-use Rattle.name_fields.specs.Field.{name-field, blank-field, may-follow, Stripped}
+use Rattle.name_fields.specs.Field.{name-field, blank-field, may-follow, following, Stripped}
 
 -- ---- a byte that is no letter, digit or underscore ends the name
 
@@ -87,10 +87,6 @@ named (suc x ∷ l) h =
 
 -- ---- each byte behind the one before it
 
-pub following : ℕ → List ℕ → Bool
-following last [] = true
-following last (c ∷ l) = may-follow last c && following c l
-
 -- behind a zero
 follow-zero : (c : ℕ) → may-follow 0 c ≡ eqb 0 c
 unfolding may-follow
@@ -117,7 +113,7 @@ follow-none c = go (letter c) refl
     go true e = rw (letter-word c e)
     go false e = simp (and-false)
 
-following-zero : (l : List ℕ) → following 0 l ≡ blank-field l
+pub following-zero : (l : List ℕ) → following 0 l ≡ blank-field l
 unfolding following blank-field same-bytes
 following-zero [] = refl
 following-zero (c ∷ l) = go (eqb 0 c) refl (following-zero l)

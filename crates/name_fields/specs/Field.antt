@@ -1,8 +1,8 @@
 -- A name in a field: its bytes, and zeros behind them.
 use Prim.Native.Nat.{ℕ, _≤_}
 use mathlib.Core.Path.{_≡_}
-use mathlib.Core.List.{List}
-use mathlib.Core.Bool.{Bool, not, _&&_, _||_}
+use mathlib.Core.List.{List, [], _∷_}
+use mathlib.Core.Bool.{Bool, true, not, _&&_, _||_}
 use lib.Dec.{eqb}
 use lib.ListN.{length, take, replicate}
 use Rattle.rules.specs.01-Lists.{same-bytes}
@@ -23,6 +23,11 @@ blank-field f = same-bytes (replicate (length f) 0) f
 unfoldable pub may-follow : ℕ → ℕ → Bool
 may-follow last c =
     (letter-or-digit c && (not (eqb last 0) && (not (eqb last 32) || letter c))) || (eqb c 0 && not (eqb last 32))
+
+-- each byte of the field may stand behind the one before it, the first behind `before`
+unfoldable pub following : ℕ → List ℕ → Bool
+following before [] = true
+following before (c ∷ l) = may-follow before c && following c l
 
 -- r bytes of the field are its name
 pub record Stripped (field : List ℕ) (r : ℕ) : Type 0 where

@@ -2,7 +2,7 @@
 ghost use mathlib.Core.Path.{_≡_};
 ghost use lib.ListN.{length};
 ghost use Rattle.rules.specs.03-Names.{letter};
-ghost use Rattle.name_fields.specs.Field.{name-field, blank-field, Stripped, may-follow};
+ghost use Rattle.name_fields.specs.Field.{name-field, blank-field, Stripped, may-follow, following};
 use rules::Limits;
 
 // How many bytes of a field are the name: those before its first zero.
@@ -30,14 +30,14 @@ fn may_follow(last: u8, c: u8) -> bool
     (word & begun) | ((c == 0) & (last != b' '))
 }
 
-// Whether a field of 16 bytes holds a well-formed name and zeros behind it. Every byte is read: with no way out of the loop, and a
-// length that is known, the compiler reads them at once.
-pub fn is_name_field(field: &[u8]) -> bool
+// Whether each byte of a field of 16 may follow the one before it, and the first one byte `before`. Every byte is read: with no way out of
+// the loop, and a length that is known, the compiler reads them at once.
+fn follows(field: &[u8], before: u8) -> bool
     requires { ⌜ length (now field) ≡ 16 ⌝ }
-    ensures { λ r. ⌜ r ≡ name-field (now (field .entry)) ⌝ }
+    ensures { λ r. ⌜ r ≡ following before (now (field .entry)) ⌝ }
 {
     let mut fine = true;
-    let mut last: u8 = b' ';
+    let mut last = before;
     let mut i = 0;
     while i < Limits::NAME {
         let c = field[i];
@@ -48,7 +48,23 @@ pub fn is_name_field(field: &[u8]) -> bool
     fine
 }
 
-// No way out of this loop either.
+// Whether a field of 16 bytes holds a well-formed name and zeros behind it.
+pub fn is_name_field(field: &[u8]) -> bool
+    requires { ⌜ length (now field) ≡ 16 ⌝ }
+    ensures { λ r. ⌜ r ≡ name-field (now (field .entry)) ⌝ }
+{
+    follows(field, b' ')
+}
+
+// Whether it holds no name, told in the same way: a loop over its bytes one by one would have them read so for the order of names too.
+pub fn is_nameless_field(field: &[u8]) -> bool
+    requires { ⌜ length (now field) ≡ 16 ⌝ }
+    ensures { λ r. ⌜ r ≡ blank-field (now (field .entry)) ⌝ }
+{
+    follows(field, 0)
+}
+
+// Whether a field of any length is zero. No way out of this loop either.
 pub fn is_blank_field(field: &[u8]) -> bool
     ensures { λ r. ⌜ r ≡ blank-field (now (field .entry)) ⌝ }
 {

@@ -11,10 +11,10 @@ use lib.Seq.{take-all}
 use lib.Bits.{bitAnd, and-block, and-le-r}
 use borrow.Author.Tests.{leb-true, ltb-true, ltb-false, lt-ltb, lt-leb, eqb-true, eq-eqb, ne-eqb}
 use Rattle.rules.specs.01-Lists.{same-bytes, bytes-before, all}
-use Rattle.rules.specs.03-Names.{Name, letter, letter-or-digit, well-formed, lower, lowered, same-name}
+use Rattle.rules.specs.03-Names.{Name, blank, letter, letter-or-digit, well-formed, lower, lowered, same-name}
 use Rattle.rules.specs.07-Picture.{pad}
 use Rattle.rules.proofs.Bools.{or-left, and-both, and-of, same-test}
-use Rattle.rules.proofs.03-Names.{same-is, formed-letters, apart, pad-apart}
+use Rattle.rules.proofs.03-Names.{same-is, apart, pad-apart, name-fits, name-letters}
 use Rattle.names.proofs.Laws.{every, every-at}
 use Rattle.rows.specs.Rows.{part}
 use Rattle.rows.specs.Order.{fold, folded, number, Small, Folded, name-byte, Name-bytes}
@@ -194,5 +194,7 @@ unfolding pad
 pad-pass n e = padded-pass n 16 16 e
 
 -- folded, one field is before another where the names are apart
-pub pad-folded : (n m : Name) → well-formed n ≡ true → well-formed m ≡ true → bytes-before (folded (pad 16 n)) (folded (pad 16 m)) ≡ apart n m
-pad-folded n m f g = folded-before (pad 16 n) (pad 16 m) (pad-pass n (formed-letters n f)) (pad-pass m (formed-letters m g)) ∙ pad-apart n m f g
+pub pad-folded : (n m : Name) → blank n || well-formed n ≡ true → blank m || well-formed m ≡ true
+    → bytes-before (folded (pad 16 n)) (folded (pad 16 m)) ≡ apart n m
+pad-folded n m f g =
+    folded-before (pad 16 n) (pad 16 m) (pad-pass n (name-letters n f)) (pad-pass m (name-letters m g)) ∙ pad-apart (name-fits n f) (name-fits m g)

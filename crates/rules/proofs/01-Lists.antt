@@ -232,6 +232,11 @@ unfolding repeated
 unrepeated [] e = tt
 unrepeated (x ∷ l) e = let (once, rest) = or-neither (among l x) (repeated l) e in (λ i. true≢false (sym (in-among i) ∙ once), unrepeated l rest)
 
+pub rising-different : (l : List ℕ) → rising ltb l ≡ true → Different l
+rising-different [] e = tt
+rising-different (x ∷ l) e =
+    (λ i. let (j, h, same) = at-place 0 i in omega (arith, rising-past x l e j h), rising-different l (rising-tail x l e))
+
 -- p less the number x
 abbrev less : ℕ → (ℕ → Bool) → ℕ → Bool
 less x p k = p k && not (eqb k x)

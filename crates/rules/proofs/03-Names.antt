@@ -9,7 +9,7 @@ use mathlib.Core.List.List·Memᴰ.{List·Memᴰ·head, List·Memᴰ·tail}
 use mathlib.Core.Bool.{Bool, true, false, cond, not, _&&_, _||_, true≢false, false≢true}
 use lib.Dec.{leb, ltb, eqb}
 use lib.ListN.{length, getD, take, replicate, length-map, List·getD-map}
-use borrow.Author.Tests.{leb-true, lt-ltb, le-ltb, ne-eqb}
+use borrow.Author.Tests.{leb-true, lt-ltb, le-ltb, ne-eqb, eqb-true}
 use Rattle.rules.specs.01-Lists.{_∈_, same-bytes, bytes-before, any, all, first}
 use Rattle.rules.specs.03-Names.{Name, letter, letter-or-digit, well-formed, blank, lower, lowered, same-name, name-before}
 use Rattle.rules.specs.04-Schema.{Schema, nowhere, bears, type-named}
@@ -82,6 +82,10 @@ same-alike n m e o = ap (λ (l : Name). same-bytes l (lowered o)) (same-lowered 
 pub same-long : (n m : Name) → same-name n m ≡ true → length n ≡ length m
 same-long n m e = sym (length-lowered n) ∙ ap length (same-lowered n m e) ∙ length-lowered m
 
+-- of same names both are blank, or neither
+pub same-blank : (n m : Name) → same-name n m ≡ true → blank n ≡ blank m
+same-blank n m e = ap (λ (k : ℕ). eqb k 0) (same-long n m e)
+
 -- names of two lengths are not the same
 pub unlike-long : (n m : Name) → (length n ≡ length m → ⊥) → same-name n m ≡ false
 unlike-long n m other = fails (same-name n m) (λ e. other (same-long n m e))
@@ -116,6 +120,11 @@ module _ (n m : Name) (e : same-name n m ≡ true) where
   unfolding borne-by-another
   same-borne s d t = λ i. same-bears s d i && not (eqb (same-type s d i) t)
 
+-- a blank name has no byte
+pub blank-is : (n : Name) → blank n ≡ true → n ≡ []
+blank-is [] e = refl
+blank-is (c ∷ n) e = absurd (omega (arith, eqb-true (suc (length n)) 0 e))
+
 -- ---- a well-formed name
 
 module _ (n : Name) (e : well-formed n ≡ true) where
@@ -125,6 +134,13 @@ module _ (n : Name) (e : well-formed n ≡ true) where
       let (a, rest) = and-both (leb 1 (length n)) (leb (length n) 16 && (letter (getD n 0 0) && all letter-or-digit n)) e in
       let (b, more) = and-both (leb (length n) 16) (letter (getD n 0 0) && all letter-or-digit n) rest in
       (leb-true 1 (length n) a, leb-true (length n) 16 b)
+
+  -- it is not blank, and a presence may have it
+  pub formed-named : blank n ≡ false
+  formed-named = ne-eqb (length n) 0 (λ z. omega (arith, formed-long .0))
+
+  pub formed-allowed : blank n || well-formed n ≡ true
+  formed-allowed = or-right (blank n) (well-formed n) e
 
   pub formed-letters : all letter-or-digit n ≡ true
   unfolding well-formed
@@ -266,6 +282,15 @@ formed-fits n e = record { short = formed-long n e .1; no-zero = formed-no-zero 
 pub blank-fits : Fits []
 blank-fits = record { short = omega arith; no-zero = λ i. List·Memᴰ·not-nil i }
 
+-- the name of a presence, which is blank where that is nameless
+module _ (n : Name) (e : blank n || well-formed n ≡ true) where
+  pub name-fits : Fits n
+  name-fits = ⊎-elim (λ b. rw (blank-is n b) blank-fits) (formed-fits n) (or-cases (blank n) (well-formed n) e)
+
+  pub name-letters : all letter-or-digit n ≡ true
+  unfolding all
+  name-letters = ⊎-elim (λ b. rw (blank-is n b) refl) (formed-letters n) (or-cases (blank n) (well-formed n) e)
+
 -- so it is in lower case
 lowered-fits : {n : Name} → Fits n → Fits (lowered n)
 unfolding lowered lower
@@ -296,13 +321,10 @@ pad-same {n} {m} f g =
     (sym (lowered-before g f) ∙ rw one (before-irreflexive (lowered (pad 16 m))))))
     (λ e. lowered-same (pad 16 n) (pad 16 m) (lowered-pad 16 n ∙ ap (pad 16) (same-lowered n m e) ∙ sym (lowered-pad 16 m)))
 
-pub pad-before : (n m : Name) → well-formed n ≡ true → well-formed m ≡ true → name-before (pad 16 n) (pad 16 m) ≡ name-before n m
+pub pad-before : {n m : Name} → Fits n → Fits m → name-before (pad 16 n) (pad 16 m) ≡ name-before n m
 unfolding name-before
-pad-before n m p q =
-    let f = formed-fits n p in
-    let g = formed-fits m q in
-    rw (lowered-before f g, pad-same f g, fits-before f g)
+pad-before f g = rw (lowered-before f g, pad-same f g, fits-before f g)
 
 -- the tie of the bytes, and of the keys made of them, to the order: in lower case one field is before another where the names are apart
-pub pad-apart : (n m : Name) → well-formed n ≡ true → well-formed m ≡ true → bytes-before (lowered (pad 16 n)) (lowered (pad 16 m)) ≡ apart n m
-pad-apart n m p q = lowered-before (formed-fits n p) (formed-fits m q) ∙ sym (apart-lowered n m)
+pub pad-apart : {n m : Name} → Fits n → Fits m → bytes-before (lowered (pad 16 n)) (lowered (pad 16 m)) ≡ apart n m
+pad-apart {n} {m} f g = lowered-before f g ∙ sym (apart-lowered n m)

@@ -129,6 +129,10 @@ module _ {s : Schema} where
   unfolding parents
   child-object {t} {a} by = parents-object (kind-of s t) a (by .listed)
 
+  pub descendant-object : {t a : ℕ} → Descends s t a → is-object (kind-of s t) ≡ true
+  descendant-object (by-parent by) = child-object by
+  descendant-object (by-step by d) = child-object by
+
   climbs-sound : (n t a : ℕ) → climbs s n t a ≡ true → Descends s t a
   unfolding climbs
   climbs-sound zero t a e = absurd (false≢true e)
@@ -167,6 +171,10 @@ module _ {s : Schema} (good : Good s) where
   pub object-below : (t : ℕ) → is-object (kind-of s t) ≡ true → t < 128
   object-below t e = used-below t (object-used (kind-of s t) e)
 
+  pub ancestor-object : {t a : ℕ} → Descends s t a → is-object (kind-of s a) ≡ true
+  ancestor-object (by-parent {t = t} {a = a} by) = good .parents-objects t a by
+  ancestor-object (by-step by d) = ancestor-object d
+
   trail-different : {from t : ℕ} {l : List ℕ} → Trail s from t l → Different l
   trail-different here = (List·Memᴰ·not-nil, tt)
   trail-different (on {t = t} {a = a} tr by) = (
@@ -199,11 +207,7 @@ module _ {s : Schema} (good : Good s) where
 
   pub descends-full : (t a : ℕ) → Descends s t a → descends s t a ≡ true
   unfolding descends
-  descends-full t a d = climbs-full (first d) 128 a refl here d
-    where
-      first : {t a : ℕ} → Descends s t a → is-object (kind-of s t) ≡ true
-      first (by-parent by) = child-object by
-      first (by-step by d) = child-object by
+  descends-full t a d = climbs-full (descendant-object d) 128 a refl here d
 
   -- the test of descent is 01's sentence
   pub descends-is : (t a : ℕ) → (descends s t a ≡ true) ↔ Descends s t a

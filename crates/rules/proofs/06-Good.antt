@@ -81,8 +81,9 @@ fresh-good = record {
   presence-type = λ p i. rw (the-presence p i) refl;
   presence-sds = λ p i. rw (the-presence p i) refl;
   presence-named = λ p i. rw (the-presence p i) refl;
+  nameless-object = λ p i. rw (the-presence p i) (λ e. refl);
   modes-known = λ p i. rw (the-presence p i) (record { usage = lit≤ tt; definition = lit≤ tt });
-  local-names-unique = λ p q i j d h. the-presence p i ∙ sym (the-presence q j);
+  local-names-unique = λ p q i j d n h. the-presence p i ∙ sym (the-presence q j);
   one-presence = λ p q i j d h. the-presence p i ∙ sym (the-presence q j);
   parents-few = λ t ps e. few t ps e;
   parents-rising = λ t ps e. up t ps e;

@@ -6,13 +6,13 @@ use native.Mathlib.Omega.{arith}
 use mathlib.Core.Path.{_≡_, refl, sym, ap, _∙_}
 use mathlib.Core.List.{List, [], _∷_, _++_}
 use mathlib.Core.List.List·Memᴰ.{List·Memᴰ·head, List·Memᴰ·tail}
-use mathlib.Core.Bool.{true, not}
+use mathlib.Core.Bool.{true, not, _||_}
 use lib.Dec.{eqb·suc-zero}
 use lib.ListN.{length, getD, take, drop, replicate, length-append, length-take, length-replicate}
 use lib.Seq.{take-at, drop-at, getD-drop, take-append-le, drop-append-add, drop-drop}
 use borrow.Author.Tests.{ne-eqb}
 use Rattle.rules.specs.01-Lists.{_∈_}
-use Rattle.rules.specs.03-Names.{Name, well-formed}
+use Rattle.rules.specs.03-Names.{Name, blank, well-formed}
 use Rattle.rules.specs.04-Schema.{Schema, Kind, Presence, Application, Side, End, system-presence, used-sds, side-code}
 use Rattle.rules.specs.04-Schema.Kind.{unused, object, attribute, designation, paired}
 use Rattle.rules.specs.04-Schema.Side.{origin, destination}
@@ -22,7 +22,7 @@ use Rattle.rules.specs.07-Picture.{application-row, end-width, end-row, 
 use Rattle.rules.specs.Read.{name-offset, strip, read-kind, read-presence, read-application, read-side, read-end}
 use Rattle.rules.specs.07-Picture.{application-table, end-table, picture, base-length, name-start}
 use Rattle.rules.proofs.01-Lists.{at-place, place-in}
-use Rattle.rules.proofs.03-Names.{formed-long, formed-no-zero}
+use Rattle.rules.proofs.03-Names.{Fits, formed-fits, name-fits}
 
 -- ---- fields
 
@@ -52,9 +52,9 @@ strip-front (suc x ∷ l) zero j h n = absurd (omega arith)
 strip-front (suc x ∷ l) (suc m) j h n = ap (λ (r : List ℕ). suc x ∷ r) (strip-front l m j (omega arith) (λ i. n (List·Memᴰ·tail i)))
 
 -- a name in its field, and back
-pub strip-pad : (n : Name) → well-formed n ≡ true → strip (pad 16 n) ≡ n
+pub strip-pad : {n : Name} → Fits n → strip (pad 16 n) ≡ n
 unfolding pad
-strip-pad n e = strip-front n 16 16 (formed-long n e .1) (formed-no-zero n e)
+strip-pad {n} f = strip-front n 16 16 (f .short) (f .no-zero)
 
 pub strip-blank : strip (pad 16 []) ≡ []
 unfolding strip pad
@@ -106,7 +106,7 @@ kind-back fits-attribute = refl
 kind-back fits-designation = refl
 kind-back (fits-paired {c = c} {r = r} h) = rw (ne-eqb c 4 (λ e. omega arith))
 
-pub presence-back : (p : Presence) → well-formed (p .name) ≡ true → read-presence (presence-row p) ≡ p
+pub presence-back : (p : Presence) → blank (p .name) || well-formed (p .name) ≡ true → read-presence (presence-row p) ≡ p
 unfolding read-presence presence-row
 presence-back p e =
     let field : take 16 (pad 16 (p .name) ++ (behind-name p)) ≡ pad 16 (p .name) = take-at (pad 16 (p .name)) (behind-name p) 16 (length-pad 16 (p .name)) in
@@ -115,7 +115,7 @@ presence-back p e =
     = λ k. sym (getD-drop 16 (pad 16 (p .name) ++ behind-name p) k 0) ∙ ap (λ (l : List ℕ). getD l k 0) rest in
     λ i. record {
       sds = p .sds;
-      name = (ap strip field ∙ strip-pad (p .name) e) i;
+      name = (ap strip field ∙ strip-pad (name-fits (p .name) e)) i;
       type = byte 0 i;
       usage = byte 1 i;
       definition = byte 2 i;
@@ -226,7 +226,7 @@ module _ {s : Schema} (good : Good s) where
   sds-back [] i = strip-blank
   sds-back (x ∷ n) i =
       let (d, h, e) = at-place [] i in
-      strip-pad (x ∷ n) (rw e at (good .sds-named d (rw e (ap not (eqb·suc-zero (length n))))))
+      strip-pad (formed-fits (x ∷ n) (rw e at (good .sds-named d (rw e (ap not (eqb·suc-zero (length n)))))))
 
   pub fitting : (k : Kind) → k ∈ s .types → Fitting k
   fitting unused i = fits-unused
@@ -301,7 +301,7 @@ module _ {s : Schema} (good : Good s) where
   unfolding picture name-start presence-row
   name-stretch k h =
       let p = getD (s .presences) k system-presence in
-      let fits = formed-long (p .name) (good .presence-named p (place-in system-presence (s .presences) k h)) .1 in
+      let fits = (name-fits (p .name) (good .presence-named p (place-in system-presence (s .presences) k h))) .short in
       let rest = application-table s ++ end-table s in
       let T = table presence-width presence-row (512 - suc k) (drop (suc k) (s .presences)) in
       let along : k * presence-width ≤ length (presence-table s) = omega

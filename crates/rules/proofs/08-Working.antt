@@ -1,20 +1,21 @@
 -- Under a working schema of a good schema a list has no hole: with a type all its ancestors are visible. Assumes nothing.
 use Prim.Native.Nat.{ℕ}
-use mathlib.Core.Path.{_≡_, refl, sym, _∙_}
+use mathlib.Core.Path.{_≡_, refl, sym, ap, _∙_}
 use mathlib.Core.List.{List}
-use mathlib.Core.Bool.{Bool, true, _&&_}
+use mathlib.Core.Bool.{Bool, true, false, _&&_, true≢false}
 use lib.Dec.{eqb}
 use borrow.Author.Tests.{eqb-true, eq-eqb}
 use Rattle.rules.specs.01-Lists.{_∈_, first}
-use Rattle.rules.specs.03-Names.{Name, same-name}
-use Rattle.rules.specs.04-Schema.{Schema, Presence, kind-of, is-used, nowhere, holds-type, holds-name, present, bears, type-named}
-use Rattle.rules.specs.04-Schema.{type-presence}
+use Rattle.rules.specs.03-Names.{Name, blank, same-name}
+use Rattle.rules.specs.04-Schema.{Schema, Presence, kind-of, is-used, is-object, nowhere, holds-type, holds-name, present, bears}
+use Rattle.rules.specs.04-Schema.{type-named, type-presence, local-name}
 use Rattle.rules.specs.05-Descent.{Descends}
 use Rattle.rules.specs.05-Descent.Descends.{by-parent, by-step}
 use Rattle.rules.specs.06-Good.{Good}
 use Rattle.rules.specs.08-Working.{visible, shown}
-use Rattle.rules.proofs.Bools.{and-both, and-of}
+use Rattle.rules.proofs.Bools.{and-both, and-of, fails}
 use Rattle.rules.proofs.01-Lists.{any-at, any-where}
+use Rattle.rules.proofs.03-Names.{same-blank}
 use Rattle.rules.proofs.05-Descent.{used-below, members-in, members-of}
 use Rattle.rules.proofs.Edits.{first-in}
 
@@ -52,6 +53,27 @@ module _ {s : Schema} (good : Good s) where
       let (p, i, h) = any-where (holds-type d t) (s .presences) e in
       let same : p .type ≡ t = eqb-true (p .type) t (and-both (eqb (p .sds) d) (eqb (p .type) t) h .1) in
       rw same at (good .presence-type p i)
+
+  -- a presence is the one of its type in its SDS
+  pub holder-is : (d t : ℕ) (p : Presence) → p ∈ s .presences → p .sds ≡ d → p .type ≡ t → type-presence s d t ≡ p
+  unfolding present
+  holder-is d t p i at of =
+      let there = any-at (holds-type d t) i (and-of (eqb (p .sds) d) (eqb (p .type) t) (eq-eqb (p .sds) d at) (eq-eqb (p .type) t of)) in
+      let (j, at′, of′) = holder s d t there in
+      good .one-presence (type-presence s d t) p j i (at′ ∙ sym at) (of′ ∙ sym of)
+
+  -- what was found by a name has one, and so has what is no object type (02, Q-8)
+  pub bearer-named : (d : ℕ) (n : Name) → blank n ≡ false → bears s d n ≡ true → blank (local-name s d (type-named s d n)) ≡ false
+  unfolding local-name
+  bearer-named d n named e =
+      let (p, i, at, same, of) = bearer s d n e in
+      ap (λ (q : Presence). blank (q .name)) (holder-is d (type-named s d n) p i at of) ∙ same-blank (p .name) n same ∙ named
+
+  pub other-named : (d t : ℕ) → present s d t ≡ true → is-object (kind-of s t) ≡ false → blank (local-name s d t) ≡ false
+  unfolding local-name
+  other-named d t e other =
+      let (i, at, of) = holder s d t e in
+      fails (blank (local-name s d t)) (λ b. true≢false (sym (rw of at (good .nameless-object (type-presence s d t) i b)) ∙ other))
 
   pub visible-used : (w : List ℕ) (t : ℕ) → visible s w t ≡ true → is-used (kind-of s t) ≡ true
   unfolding visible

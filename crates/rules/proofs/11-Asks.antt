@@ -27,7 +27,7 @@ use Rattle.rules.specs.11-Asks.{name, name-refusals, one-if, marks, visi
 use Rattle.rules.specs.13-History.{Whole-list}
 use Rattle.rules.proofs.05-Descent.{members-rising, descends-sound, descends-full}
 use Rattle.rules.proofs.01-Lists.{all-at, place-in, numbers-of}
-use Rattle.rules.proofs.03-Names.{formed-long}
+use Rattle.rules.proofs.03-Names.{name-fits}
 use Rattle.rules.proofs.07-Picture.{length-table, wide-sds, wide-type, name-stretch}
 use Rattle.rules.proofs.08-Working.{shown-in, shown-of}
 use Rattle.rules.proofs.09-Refusals.{verdict-keeps, untold-at}
@@ -84,7 +84,8 @@ name-within {s} good d t =
     verdict-keeps (λ (o : Outcome (List ℕ)). (answer-of o) .one + (answer-of o) .two ≤ base-length) (name-refusals d t s) _
     (λ r i. omega (arith, untold-at (name-refusals d t s) refl i))
     (λ w. let (u, f) = local-at s d t (shown (present s d t) (w .fails 6)) in
-    let long = formed-long _ (good .presence-named _ (place-in system-presence (s .presences) (place (holds-type d t) (s .presences)) u)) .1 in
+    let p = getD (s .presences) (place (holds-type d t) (s .presences)) system-presence in
+    let long : length (p .name) ≤ 16 = (name-fits (p .name) (good .presence-named p (place-in system-presence (s .presences) _ u))) .short in
     omega (arith, good .presence-room, name-start-is s (place (holds-type d t) (s .presences)), ap length f))
   where
     shown : (b : Bool) → not b ≡ false → b ≡ true

@@ -27,13 +27,13 @@ unfolding
     Refusals.verdict Refusals.unknown-sds Refusals.system-sds Refusals.malformed Refusals.malformed-new Refusals.unknown-value-kind
     Refusals.no-pair Refusals.unknown-mode Refusals.unknown-object-scan Refusals.unknown-link-scan Refusals.not-1-to-4 Refusals.no-such-name
     Refusals.no-name-listed Refusals.not-visible Refusals.not-present Refusals.no-object Refusals.no-attribute Refusals.no-link
-    Refusals.idle-reverse-name Refusals.missing-parent Refusals.sds-name-taken Refusals.names-taken Refusals.borne-by-another
+    Refusals.idle-reverse-name Refusals.sds-name-taken Refusals.names-taken Refusals.borne-by-another
     Refusals.types-in Refusals.child-there Refusals.applied-there Refusals.end-of Refusals.end-there Refusals.in-the-way
     Refusals.free-sdss Refusals.free-types Refusals.no-free-sds Refusals.presences-full
     Refusals.applications-full Refusals.ends-full Refusals.types-full Refusals.short-output
     Changes.new-sds Changes.remove-sds Changes.new-object Changes.new-attribute Changes.new-designation
-    Changes.new-pair Changes.imported Changes.import Changes.apply Changes.unapply Changes.both-ends Changes.add-end
-    Changes.remove-end Changes.less-gone Changes.remove-type Changes.rename Changes.modes-set Changes.set-modes
+    Changes.new-pair Changes.imported Changes.missing Changes.incoming Changes.import Changes.apply Changes.unapply Changes.both-ends Changes.add-end
+    Changes.remove-end Changes.less-gone Changes.remove-type Changes.remove-number Changes.rename Changes.rename-number Changes.modes-set Changes.set-modes
     Asks.object-scan-list Asks.scan-object Asks.link-scan-list Asks.scan-link Asks.profile-list Asks.profile Asks.find
     Asks.depth-of Asks.name Asks.marks Asks.visible-descendant Asks.descendant-set Asks.mode-listed Asks.modes-of
     Run.decimal Run.printed Run.sds-called Run.joined Run.obey-sds Run.obey-import Run.obey-object Run.obey-remove Run.obey-desc

@@ -3,15 +3,16 @@
 use Prim.Native.Nat.{ℕ, suc, _≤_, _<_}
 use native.Mathlib.Omega.{arith}
 use mathlib.Core.Path.{_≡_, refl, sym, ap, _∙_}
+use mathlib.Core.Logic.{⊎-elim}
 use mathlib.Core.List.{List, [], _∷_, map}
 use mathlib.Core.Bool.{Bool, true, false, not, cond, _&&_, _||_, true≢false, false≢true, or-false}
 use lib.Dec.{ltb, eqb}
 use lib.ListN.{length, getD}
-use borrow.Author.Tests.{le-ltb, eqb-true, eq-eqb}
+use borrow.Author.Tests.{ltb-true, le-ltb, eqb-true, eq-eqb}
 use Rattle.rules.specs.01-Lists.{_∈_, any, rising, repeated}
 use Rattle.rules.specs.03-Names.{Name, same-name, name-before}
-use Rattle.rules.specs.04-Schema.{Schema, Modes, Presence, all-modes, has-mode, nowhere, with-modes, with-presences, used-sds, parents}
-use Rattle.rules.specs.04-Schema.{is-parent, holds-type, holds-name, present, bears, type-named, type-presence, local-name, applied, has-end}
+use Rattle.rules.specs.04-Schema.{Schema, Modes, Presence, all-modes, has-mode, nowhere, system-presence, with-modes, with-presences}
+use Rattle.rules.specs.04-Schema.{used-sds, parents, is-parent, holds-type, holds-name, present, bears, type-named, type-presence, local-name, applied, has-end}
 use Rattle.rules.specs.05-Descent.{descends, members}
 use Rattle.rules.specs.06-Good.{by-type, presence-before, Known-modes, Good}
 use Rattle.rules.specs.07-Picture.{name-start}
@@ -22,7 +23,7 @@ use Rattle.rules.specs.11-Asks as Asks
 use Rattle.rules.specs.11-Asks.{object-scan-list, link-scan-list, marks, visible-descendant, mode-listed, modes-under}
 use Rattle.rules.specs.13-History.{Ask, ask-rule}
 use Rattle.rules.specs.13-History.Ask.{scan-object, scan-link, profile, find, depth-of, name, descendant-set, modes-of}
-use Rattle.rules.proofs.Bools.{and-both, fails, same-test}
+use Rattle.rules.proofs.Bools.{or-cases, and-both, fails, same-test}
 use Rattle.rules.proofs.01-Lists.{any-at, any-where, place-in, rising-at, at-rising}
 use Rattle.rules.proofs.05-Descent.{descends-same, depth-same}
 use Rattle.rules.proofs.Edits.{any-mapped, place-mapped, first-mapped}
@@ -92,12 +93,67 @@ presence-irreflexive p = rw (
     itself : (n : ℕ) → ltb n n ≡ false
     itself n = le-ltb n n (omega arith)
 
--- rows that are what they were at each place, their modes apart, rise still where names are unique in an SDS
+-- the presence of a fresh base is the first: none behind it is in SDS 0
+pub none-behind : (x : Presence) (ps : List Presence) → rising presence-before ps ≡ true → ((p : Presence) → p ∈ ps → p .sds ≡ 0 → p ≡ system-presence)
+    → (i : ℕ) → suc i < length ps → (getD ps (suc i) x) .sds ≡ 0 → ⊥
+unfolding presence-before
+none-behind x ps r alone i h z =
+    let p = getD ps i x in
+    let q = getD ps (suc i) x in
+    let before = rising-at presence-before x ps r i h in
+    let rest = name-before (p .name) (q .name) || (not (name-before (q .name) (p .name)) && by-type p q) in
+    let first : p .sds ≡ 0
+    = ⊎-elim (λ e. absurd (omega (arith, ltb-true (p .sds) (q .sds) e))) (λ e. eqb-true (p .sds) (q .sds) (and-both (eqb (p .sds) (q .sds)) rest e .0) ∙ z)
+    (or-cases (ltb (p .sds) (q .sds)) (eqb (p .sds) (q .sds) && rest) before) in
+    let one : p ≡ q = alone p (place-in x ps i (omega arith)) first ∙ sym (alone q (place-in x ps (suc i) h) z) in
+    true≢false (sym before ∙ ap (presence-before p) (sym one) ∙ presence-irreflexive p)
+
+-- by SDS, name and type: where a type is in an SDS once the modes decide nothing
+abbrev standing : ℕ → Name → ℕ → ℕ → Name → ℕ → Bool
+standing d n t e m u = ltb d e || (eqb d e && (name-before n m || (not (name-before m n) && ltb t u)))
+
+standing-presence : (p q : Presence) → standing (p .sds) (p .name) (p .type) (q .sds) (q .name) (q .type) ≡ true → presence-before p q ≡ true
+unfolding presence-before
+standing-presence p q e =
+    go (ltb (p .sds) (q .sds)) (eqb (p .sds) (q .sds)) (name-before (p .name) (q .name)) (name-before (q .name) (p .name)) (ltb (p .type) (q .type)) e
+  where
+    rest : Bool
+    rest = eqb (p .type) (q .type) && (ltb (p .usage) (q .usage) || (eqb (p .usage) (q .usage) && ltb (p .definition) (q .definition)))
+
+    go : (x y z v o : Bool) → x || (y && (z || (not v && o))) ≡ true → x || (y && (z || (not v && (o || rest)))) ≡ true
+    go true y z v o h = refl
+    go false true true v o h = refl
+    go false true false false true h = refl
+    go false true false false false h = absurd (false≢true h)
+    go false true false true o h = absurd (false≢true h)
+    go false false z v o h = absurd (false≢true h)
+
+presence-standing : (p q : Presence) → presence-before p q ≡ true → (p .sds ≡ q .sds → p .type ≡ q .type → ⊥)
+    → standing (p .sds) (p .name) (p .type) (q .sds) (q .name) (q .type) ≡ true
+unfolding presence-before
+presence-standing p q e n =
+    go (ltb (p .sds) (q .sds)) (eqb (p .sds) (q .sds)) refl (name-before (p .name) (q .name)) (name-before (q .name) (p .name)) (ltb (p .type) (q .type))
+    (eqb (p .type) (q .type)) refl e
+  where
+    rest : Bool
+    rest = ltb (p .usage) (q .usage) || (eqb (p .usage) (q .usage) && ltb (p .definition) (q .definition))
+
+    go : (x y : Bool) → eqb (p .sds) (q .sds) ≡ y → (z v o k : Bool) → eqb (p .type) (q .type) ≡ k
+        → x || (y && (z || (not v && (o || (k && rest))))) ≡ true → x || (y && (z || (not v && o))) ≡ true
+    go true y f z v o k g h = refl
+    go false true f true v o k g h = refl
+    go false true f false true o k g h = absurd (false≢true h)
+    go false true f false false true k g h = refl
+    go false true f false false false true g h = absurd (n (eqb-true (p .sds) (q .sds) f) (eqb-true (p .type) (q .type) g))
+    go false true f false false false false g h = absurd (false≢true h)
+    go false false f z v o k g h = absurd (false≢true h)
+
+-- rows that are what they were at each place, their modes apart, rise still where a type is in an SDS once
 pub modes-rise : (x : Presence) (ps qs : List Presence) → length qs ≡ length ps
     → ((i : ℕ) → i < length ps → Same-but-modes (getD ps i x) (getD qs i x))
-    → ((p q : Presence) → p ∈ ps → q ∈ ps → p .sds ≡ q .sds → same-name (p .name) (q .name) ≡ true → p ≡ q)
+    → ((p q : Presence) → p ∈ ps → q ∈ ps → p .sds ≡ q .sds → p .type ≡ q .type → p ≡ q)
     → rising presence-before ps ≡ true → rising presence-before qs ≡ true
-modes-rise x ps qs long same unique r = at-rising presence-before x qs (λ i h. at i (omega arith))
+modes-rise x ps qs long same once r = at-rising presence-before x qs (λ i h. at i (omega arith))
   where
     at : (i : ℕ) → suc i < length ps → presence-before (getD qs i x) (getD qs (suc i) x) ≡ true
     at i h =
@@ -106,11 +162,11 @@ modes-rise x ps qs long same unique r = at-rising presence-before x qs (λ i h. 
         let s = same i (omega arith) in
         let t = same (suc i) h in
         let before = rising-at presence-before x ps r i h in
-        let apart = presence-front p q before (λ d n.
-        let one : p ≡ q = unique p q (place-in x ps i (omega arith)) (place-in x ps (suc i) h) d n in
+        let stands = presence-standing p q before (λ d e.
+        let one : p ≡ q = once p q (place-in x ps i (omega arith)) (place-in x ps (suc i) h) d e in
         true≢false (sym before ∙ ap (presence-before p) (sym one) ∙ presence-irreflexive p)) in
-        front-presence (getD qs i x) (getD qs (suc i) x)
-        (sym (λ j. front (s .sds j) (s .name j) (t .sds j) (t .name j)) ∙ apart)
+        standing-presence (getD qs i x) (getD qs (suc i) x)
+        (sym (λ j. standing (s .sds j) (s .name j) (s .type j) (t .sds j) (t .name j) (t .type j)) ∙ stands)
 
 -- ---- under one SDS
 

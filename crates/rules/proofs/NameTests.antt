@@ -3,11 +3,11 @@ use Prim.Native.Nat.{ℕ}
 use mathlib.Core.Path.{_≡_, sym, ap, _∙_}
 use mathlib.Core.List.{[], _∷_}
 use mathlib.Core.Bool.{Bool, true, false, not, _||_, or-false}
-use borrow.Author.Tests.{eq-eqb, ne-eqb}
+use borrow.Author.Tests.{eq-eqb, ne-eqb, not-false}
 use Rattle.rules.specs.01-Lists.{any}
 use Rattle.rules.specs.03-Names.{Name, well-formed, same-name}
-use Rattle.rules.specs.04-Schema.{Schema, bears}
-use Rattle.rules.specs.09-Refusals.{system-sds, malformed, no-such-name, names-taken}
+use Rattle.rules.specs.04-Schema.{Schema, present, bears}
+use Rattle.rules.specs.09-Refusals.{system-sds, malformed, no-such-name, not-present, names-taken}
 use Rattle.rules.proofs.Bools.{or-neither}
 
 pub system-stops : (d : ℕ) → d ≡ 0 → system-sds d ≡ true
@@ -33,6 +33,20 @@ name-there s d n e = ap not e
 pub name-missing : (s : Schema) (d : ℕ) (n : Name) → bears s d n ≡ false → no-such-name s d n ≡ true
 unfolding no-such-name
 name-missing s d n e = ap not e
+
+-- a type by its number
+
+pub type-there : (s : Schema) (d t : ℕ) → present s d t ≡ true → not-present s d t ≡ false
+unfolding not-present
+type-there s d t e = ap not e
+
+pub type-missing : (s : Schema) (d t : ℕ) → present s d t ≡ false → not-present s d t ≡ true
+unfolding not-present
+type-missing s d t e = ap not e
+
+pub type-present : (s : Schema) (d t : ℕ) → not-present s d t ≡ false → present s d t ≡ true
+unfolding not-present
+type-present s d t e = not-false (present s d t) e
 
 -- ---- new names: one, or the two of a call
 

@@ -80,6 +80,7 @@ parts-of {s} g = record {
     };
     once = g .one-presence;
     typed = g .presence-type;
+    nameless = g .nameless-object;
     closed = λ p i. record {
       parents = λ a by. g .parents-present (p .sds) (p .type) a (presence-there i) (parent-of (p .type) a by);
       reverse = λ c r k. g .reverse-present (p .sds) (p .type) c r (presence-there i) k;
@@ -111,6 +112,7 @@ whole {s} p = record {
   presence-type = p .presences .typed;
   presence-sds = p .presences .rows .in-used;
   presence-named = p .presences .rows .named;
+  nameless-object = p .presences .nameless;
   modes-known = p .presences .rows .known;
   local-names-unique = p .presences .rows .unique;
   one-presence = p .presences .once;

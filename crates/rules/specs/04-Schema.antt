@@ -33,8 +33,8 @@ all-modes = 31
 unfoldable pub has-mode : Modes → ℕ → Bool
 has-mode modes m = eqb (modes / 2 ^ m % 2) 1
 
--- "A presence says that a type is in an SDS, under a local name". "Each presence gains two sets of modes, usage and definition, out of
--- create, delete, read, write and navigate." (02, Q-2)
+-- "A presence says that a type is in an SDS, under a local name"; where its name is blank it is nameless (02, Q-8). "Each presence gains
+-- two sets of modes, usage and definition, out of create, delete, read, write and navigate." (02, Q-2)
 pub record Presence : Type 0 where
   pub sds : ℕ
   pub name : Name
@@ -184,7 +184,8 @@ holds-name d n p = eqb (p .sds) d && same-name (p .name) n
 unfoldable pub present : Schema → ℕ → ℕ → Bool
 present s d t = any (holds-type d t) (s .presences)
 
--- some type in SDS d bears the local name n
+-- some type in SDS d bears the local name n. "a name looked for never finds a nameless one" (02, Q-8): a blank name is 4 before it is
+-- looked for, and no other is the same as a blank one
 unfoldable pub bears : Schema → ℕ → Name → Bool
 bears s d n = any (holds-name d n) (s .presences)
 

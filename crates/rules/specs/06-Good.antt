@@ -3,12 +3,12 @@
 use Prim.Native.Nat.{ℕ, _≤_}
 use mathlib.Core.Path.{_≡_}
 use mathlib.Core.List.{List, []}
-use mathlib.Core.Bool.{Bool, true, not, _&&_, _||_}
+use mathlib.Core.Bool.{Bool, true, false, not, _&&_, _||_}
 use lib.Dec.{ltb, eqb}
 use lib.ListN.{length}
 use Rattle.rules.specs.01-Lists.{_∈_, rising}
 use Rattle.rules.specs.02-Limits.{limits}
-use Rattle.rules.specs.03-Names.{well-formed, same-name, name-before}
+use Rattle.rules.specs.03-Names.{blank, well-formed, same-name, name-before}
 use Rattle.rules.specs.04-Schema.{Schema, Presence, Application, End, all-modes, system-name, system-presence, sds-name, used-sds, kind-of}
 use Rattle.rules.specs.04-Schema.{is-used, is-object, is-attribute, is-link, present, has-end, side-code, other-side}
 use Rattle.rules.specs.04-Schema.Kind.{object, attribute, paired}
@@ -61,11 +61,14 @@ pub record Good (s : Schema) : Type 0 where
   -- "A presence says that a type is in an SDS, under a local name"
   pub presence-type : (p : Presence) → p ∈ s .presences → is-used (kind-of s (p .type)) ≡ true
   pub presence-sds : (p : Presence) → p ∈ s .presences → used-sds s (p .sds) ≡ true
-  pub presence-named : (p : Presence) → p ∈ s .presences → well-formed (p .name) ≡ true
+  pub presence-named : (p : Presence) → p ∈ s .presences → blank (p .name) || well-formed (p .name) ≡ true
+  -- "An object type's presence, no other, may therefore be nameless" (02, Q-8)
+  pub nameless-object : (p : Presence) → p ∈ s .presences → blank (p .name) ≡ true → is-object (kind-of s (p .type)) ≡ true
   -- "two sets of modes, usage and definition, out of create, delete, read, write and navigate" (02, Q-2)
   pub modes-known : (p : Presence) → p ∈ s .presences → Known-modes p
-  -- "unique in that SDS"
-  pub local-names-unique : (p q : Presence) → p ∈ s .presences → q ∈ s .presences → p .sds ≡ q .sds → same-name (p .name) (q .name) ≡ true → p ≡ q
+  -- "unique in that SDS"; "uniqueness is among named ones only" (02, Q-8)
+  pub local-names-unique : (p q : Presence) → p ∈ s .presences → q ∈ s .presences → p .sds ≡ q .sds → blank (p .name) ≡ false
+      → same-name (p .name) (q .name) ≡ true → p ≡ q
   -- "A type has at most one in an SDS."
   pub one-presence : (p q : Presence) → p ∈ s .presences → q ∈ s .presences → p .sds ≡ q .sds → p .type ≡ q .type → p ≡ q
   -- "An object type has 1 to 4 different parents, all object types."

@@ -9,7 +9,7 @@ use Rattle.rules.specs.declared.Answer.{Answer}
 use Rattle.rules.specs.01-Lists.{any, numbers}
 use Rattle.rules.specs.02-Limits.{limits}
 use Rattle.rules.specs.03-Names.{Name, well-formed, blank, same-name}
-use Rattle.rules.specs.04-Schema.{Schema, Modes, all-modes, used-sds, kind-of, is-used, is-object, is-attribute, is-link, parents, is-parent, reverse}
+use Rattle.rules.specs.04-Schema.{Schema, Modes, all-modes, used-sds, kind-of, is-used, is-object, is-attribute, is-link, is-parent, reverse}
 use Rattle.rules.specs.04-Schema.{present, bears, type-named, applied, has-end}
 use Rattle.rules.specs.04-Schema.Side.{origin, destination}
 use Rattle.rules.specs.05-Descent.{members}
@@ -134,10 +134,7 @@ idle-reverse-name s t n = not (blank n) && eqb (length (reverse s t)) 0
 -- ---- 9 "already present, applied or that end" is `present`, `applied` or `has-end` of 04-Schema, and 13 "no such application or
 -- end to take away" its contrary
 
--- ---- 10 "import: a parent is missing in the target"
-
-unfoldable pub missing-parent : Schema → ℕ → ℕ → Bool
-missing-parent s target t = any (not-present s target) (parents s t)
+-- ---- 10 "no longer occurs" (02, Q-8)
 
 -- ---- 11 "a new name (blanks filled in) borne by another, or the two of a call equal"
 

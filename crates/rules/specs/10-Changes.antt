@@ -1,4 +1,4 @@
--- The changing calls, 1 to 8 of 01 and that which sets modes of 02: of each its refusals in order, and its effect.
+-- The changing calls, 1 to 8 of 01 and those of 02: of each its refusals in order, and its effect.
 use Prim.Native.Nat.{ℕ}
 use mathlib.Core.List.{List, [], _∷_, _++_, map}
 use mathlib.Core.Bool.{Bool, not, cond, _&&_, _||_}
@@ -10,11 +10,12 @@ use Rattle.rules.specs.04-Schema.{with-sdss, with-types, with-presences,
 use Rattle.rules.specs.04-Schema.{new-presence, with-modes, type-presence}
 use Rattle.rules.specs.04-Schema.{reverse, with-reverse, present, type-named, local-name, holds-type, applied, is-application, has-end, is-end}
 use Rattle.rules.specs.04-Schema.{other-side}
+use Rattle.rules.specs.05-Descent.{descends, members}
 use Rattle.rules.specs.06-Good.{presence-before, application-before, end-before}
 use Rattle.rules.specs.04-Schema.Kind.{unused, object, attribute, designation, paired}
 use Rattle.rules.specs.04-Schema.Side.{origin, destination}
 use Rattle.rules.specs.09-Refusals.{Outcome, Refusals, _when_, _held-by_, verdict, unknown-sds, system-sds, malformed, malformed-new, unknown-value-kind}
-use Rattle.rules.specs.09-Refusals.{no-pair, not-1-to-4, unknown-mode, no-such-name, no-object, no-attribute, no-link, idle-reverse-name, missing-parent}
+use Rattle.rules.specs.09-Refusals.{no-pair, not-1-to-4, unknown-mode, no-such-name, no-object, no-attribute, no-link, not-present, idle-reverse-name}
 use Rattle.rules.specs.09-Refusals.{sds-name-taken, names-taken, borne-by-another, types-in, child-there, applied-there, end-there, in-the-way}
 use Rattle.rules.specs.09-Refusals.{no-free-sds, presences-full, applications-full, ends-full, types-full, free-sdss, free-types}
 use Rattle.rules.specs.09-Refusals.Outcome.{done}
@@ -134,10 +135,22 @@ new-pair d n m c c′ s =
 abbrev pub filled : Schema → ℕ → ℕ → Name → Name
 filled s source t new = cond (blank new) (local-name s source t) new
 
--- "A pair is imported together.": the presences that come into the target, the named type's first
+-- "A pair is imported together.": the presences that come into the target under a name, the named type's first
 unfoldable pub imported : ℕ → ℕ → ℕ → Name → Name → Schema → List Presence
 imported target source t new new-reverse s =
     new-presence target (filled s source t new) t ∷ map (λ r. new-presence target (filled s source r new-reverse) r) (reverse s t)
+
+-- "An import shall add the missing ancestors too" (02, Q-8): those of type t that the target lacks, each once
+unfoldable pub missing : ℕ → ℕ → Schema → List ℕ
+missing target t s = members (λ a. descends s t a && not-present s target a)
+
+-- "without a local name" (02, Q-8)
+abbrev pub nameless : ℕ → ℕ → Presence
+nameless d t = new-presence d [] t
+
+-- all presences that come into the target
+unfoldable pub incoming : ℕ → ℕ → ℕ → Name → Name → Schema → List Presence
+incoming target source t new new-reverse s = imported target source t new new-reverse s ++ map (nameless target) (missing target t s)
 
 abbrev pub import-refusals : ℕ → ℕ → Name → Name → Name → Schema → Refusals
 import-refusals target source n new new-reverse s =
@@ -148,9 +161,8 @@ import-refusals target source n new new-reverse s =
     ∷ (6 when no-such-name s source n)
     ∷ (7 when idle-reverse-name s t new-reverse)
     ∷ (9 when present s target t)
-    ∷ (10 when missing-parent s target t)
     ∷ (11 when names-taken s target (map (λ p. p .name) (imported target source t new new-reverse s)))
-    ∷ (14 when presences-full s (length (with-reverse s t)))
+    ∷ (14 when presences-full s (length (incoming target source t new new-reverse s)))
     ∷ []
 
 -- "Applications and ends don't come along."
@@ -159,7 +171,7 @@ import target source n new new-reverse s =
     let t = type-named s source n in
     verdict (import-refusals target source n new new-reverse s)
     (done t (getD (reverse s t) 0 0) 0
-    (with-presences s (put-all presence-before (imported target source t new new-reverse s) (s .presences))))
+    (with-presences s (put-all presence-before (incoming target source t new new-reverse s) (s .presences))))
 
 -- ---- 5 "Apply or unapply an attribute type to an object or link type, by local names."
 
@@ -277,12 +289,27 @@ unfoldable pub less-gone : List ℕ → Schema → Schema
 less-gone [] s = s
 less-gone (t ∷ ts) s = less-gone ts (cond (any (λ p. eqb (p .type) t) (s .presences)) s (with-types s (set (s .types) t unused)))
 
+-- type t and its reverse are taken from SDS d
+abbrev pub less-type : ℕ → ℕ → Schema → Schema
+less-type d t s =
+    let ts = with-reverse s t in
+    less-gone ts (with-presences s (without (λ p. eqb (p .sds) d && among ts (p .type)) (s .presences)))
+
 unfoldable pub remove-type : ℕ → Name → Schema → Outcome Schema
 remove-type d n s =
     let t = type-named s d n in
-    let ts = with-reverse s t in
-    verdict (remove-type-refusals d n s)
-    (done t 0 0 (less-gone ts (with-presences s (without (λ p. eqb (p .sds) d && among ts (p .type)) (s .presences)))))
+    verdict (remove-type-refusals d n s) (done t 0 0 (less-type d t s))
+
+-- "Rename and remove also accept a type number" (02, Q-8)
+abbrev pub remove-number-refusals : ℕ → ℕ → Schema → Refusals
+remove-number-refusals d t s =
+    (2 when unknown-sds s d)
+    ∷ (3 when system-sds d)
+    ∷ (6 when not-present s d t)
+    ∷ obstacles d t s
+
+unfoldable pub remove-number : ℕ → ℕ → Schema → Outcome Schema
+remove-number d t s = verdict (remove-number-refusals d t s) (done t 0 0 (less-type d t s))
 
 -- ---- 8 "Rename a presence. Its own present name is accepted and changes nothing." "A rename that alters only the spelling is still
 -- done" (02, Q-5)
@@ -300,12 +327,25 @@ rename-refusals d n new s =
 abbrev pub renamed : ℕ → Name → ℕ → Schema → Presence
 renamed d new t s = with-modes ((type-presence s d t) .usage) ((type-presence s d t) .definition) (new-presence d new t)
 
+-- type t has the new name in SDS d, and no other
+abbrev pub with-name : ℕ → Name → ℕ → Schema → Schema
+with-name d new t s = with-presences s (put presence-before (renamed d new t s) (without (holds-type d t) (s .presences)))
+
 unfoldable pub rename : ℕ → Name → Name → Schema → Outcome Schema
-rename d n new s =
-    let t = type-named s d n in
-    verdict (rename-refusals d n new s)
-    (done 0 0 0
-    (with-presences s (put presence-before (renamed d new t s) (without (holds-type d t) (s .presences)))))
+rename d n new s = verdict (rename-refusals d n new s) (done 0 0 0 (with-name d new (type-named s d n) s))
+
+-- "Rename and remove also accept a type number" (02, Q-8)
+abbrev pub rename-number-refusals : ℕ → ℕ → Name → Schema → Refusals
+rename-number-refusals d t new s =
+    (2 when unknown-sds s d)
+    ∷ (3 when system-sds d)
+    ∷ (4 when malformed new)
+    ∷ (6 when not-present s d t)
+    ∷ (11 when borne-by-another s d t new)
+    ∷ []
+
+unfoldable pub rename-number : ℕ → ℕ → Name → Schema → Outcome Schema
+rename-number d t new s = verdict (rename-number-refusals d t new s) (done 0 0 0 (with-name d new t s))
 
 -- ---- "A call sets both sets." (02, Q-2)
 

@@ -35,7 +35,9 @@ pub data Change : Type 0 where
   add-destination : ℕ → Name → Name → Change
   remove-destination : ℕ → Name → Name → Change
   remove-type : ℕ → Name → Change
+  remove-number : ℕ → ℕ → Change
   rename : ℕ → Name → Name → Change
+  rename-number : ℕ → ℕ → Name → Change
   set-modes : ℕ → Name → Modes → Modes → Change
 
 abbrev pub change-rule : Change → Schema → Outcome Schema
@@ -53,7 +55,9 @@ change-rule (unapply-link d n m) = Changes.unapply-link d n m
 change-rule (add-destination d n m) = Changes.add-destination d n m
 change-rule (remove-destination d n m) = Changes.remove-destination d n m
 change-rule (remove-type d n) = Changes.remove-type d n
+change-rule (remove-number d t) = Changes.remove-number d t
 change-rule (rename d n new) = Changes.rename d n new
+change-rule (rename-number d t new) = Changes.rename-number d t new
 change-rule (set-modes d n usage definition) = Changes.set-modes d n usage definition
 
 -- an asking call with its inputs; the last of a call that puts a list down is the room of its output

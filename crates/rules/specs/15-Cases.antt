@@ -13,7 +13,8 @@ use Rattle.rules.specs.09-Refusals.{Outcome, answer-of, telling, refusal
 use Rattle.rules.specs.09-Refusals.Outcome.{refused, done}
 use Rattle.rules.specs.13-History.{Change, Ask, Call, change-rule, ask-rule, after}
 use Rattle.rules.specs.13-History.Change.{new-sds, remove-sds, new-object, new-attribute, new-designation, new-pair, import, apply}
-use Rattle.rules.specs.13-History.Change.{unapply, apply-link, unapply-link, add-destination, remove-destination, remove-type, rename, set-modes}
+use Rattle.rules.specs.13-History.Change.{unapply, apply-link, unapply-link, add-destination, remove-destination, remove-type, remove-number, rename}
+use Rattle.rules.specs.13-History.Change.{rename-number, set-modes}
 use Rattle.rules.specs.13-History.Ask.{scan-object, scan-link, profile, find, depth-of, name, descendant-set, modes-of}
 use Rattle.rules.specs.13-History.Call.{begin-fresh, change, ask}
 use Rattle.rules.specs.14-Run.{reply}
@@ -128,6 +129,18 @@ ship =
 abbrev teams : List Step
 teams = bus ++ (changes (new-sds (bytes "ground")) (success 2 0 0) ∷ changes (import 2 0 (bytes "object") [] []) (success 0 0 0) ∷ [])
 
+-- SDS 1 with object types 1 "unit", below it 2 "template" and 3 "radio", below both 4 "fifo", and 5 "adc" below 3; SDS 2 "ground" is empty
+abbrev diamond : List Step
+diamond =
+    bus
+    ++ (changes (new-object 1 (bytes "unit") (bytes "object")) (success 1 0 0)
+    ∷ changes (new-object 1 (bytes "template") (bytes "unit")) (success 2 0 0)
+    ∷ changes (new-object 1 (bytes "radio") (bytes "unit")) (success 3 0 0)
+    ∷ changes (new-object 1 (bytes "fifo") (bytes "template radio")) (success 4 0 0)
+    ∷ changes (new-object 1 (bytes "adc") (bytes "radio")) (success 5 0 0)
+    ∷ changes (new-sds (bytes "ground")) (success 2 0 0)
+    ∷ [])
+
 abbrev applications-and-ends : List Step
 applications-and-ends =
     changes (apply 1 (bytes "state") (bytes "unit")) (success 0 0 0)
@@ -170,7 +183,6 @@ own =
     ∷ changes (import 2 1 (bytes "of") (bytes "part") []) (success 6 5 0)
     ∷ asks (find (2 ∷ []) (bytes "has")) (success 5 0 0) []
     ∷ asks (find (2 ∷ []) (bytes "part")) (success 6 0 0) []
-    ∷ changes (import 2 1 (bytes "unit") [] []) (refusal 10)
     ∷ changes (import 2 1 (bytes "mass") [] (bytes "x")) (refusal 7)
     ∷ changes (remove-type 2 (bytes "has")) (success 5 0 0)
     ∷ asks (find (2 ∷ []) (bytes "part")) (refusal 6) []
@@ -373,6 +385,51 @@ own =
     ∷ asks (modes-of (1 ∷ 2 ∷ []) 5) (success 9 6 0) []
     ∷ changes (import 2 1 (bytes "has") [] []) (success 5 6 0)
     ∷ asks (modes-of (2 ∷ []) 6) (success 31 31 0) []
+    ∷ []))
+    -- an import brings the missing ancestors, each once, nameless and with all five modes (02, Q-8): by a diamond, then a type that shares
+    -- them; a name does not find them, a blank one is 4; they are listed as others, and their names are empty stretches
+    ∷ calls
+    (diamond
+    ++ (changes (set-modes 1 (bytes "unit") 1 2) (success 0 0 0)
+    ∷ changes (import 2 1 (bytes "fifo") [] []) (success 4 0 0)
+    ∷ asks (scan-object (2 ∷ []) 4 3 9) (success 4 0 0) (0 ∷ 1 ∷ 2 ∷ 3 ∷ [])
+    ∷ asks (scan-object (2 ∷ []) 1 1 9) (success 3 0 0) (2 ∷ 3 ∷ 4 ∷ [])
+    ∷ asks (modes-of (2 ∷ []) 1) (success 31 31 0) []
+    ∷ asks (name 2 0) (success 1421 0 0) []
+    ∷ asks (name 2 1) (success 1441 0 0) []
+    ∷ asks (name 2 4) (success 1501 4 0) []
+    ∷ asks (find (2 ∷ []) (bytes "unit")) (refusal 6) []
+    ∷ asks (find (2 ∷ []) []) (refusal 4) []
+    ∷ changes (new-object 2 (bytes "adc") (bytes "unit")) (refusal 6)
+    ∷ changes (set-modes 2 (bytes "unit") 1 2) (refusal 6)
+    ∷ changes (import 2 1 (bytes "unit") [] []) (refusal 9)
+    ∷ changes (import 2 1 (bytes "adc") [] []) (success 5 0 0)
+    ∷ asks (scan-object (2 ∷ []) 0 1 9) (success 5 0 0) (1 ∷ 2 ∷ 3 ∷ 4 ∷ 5 ∷ [])
+    ∷ []))
+    -- rename by number gives them a name, remove by number takes them out where nothing holds them; a removal leaves them, and the SDS is
+    -- not empty then; by number named ones too, and a link type with its reverse
+    ∷ calls
+    (diamond
+    ++ (changes (import 2 1 (bytes "radio") [] []) (success 3 0 0)
+    ∷ changes (rename-number 2 1 []) (refusal 4)
+    ∷ changes (rename-number 2 4 (bytes "x")) (refusal 6)
+    ∷ changes (rename-number 2 1 (bytes "Radio")) (refusal 11)
+    ∷ changes (rename-number 0 0 (bytes "x")) (refusal 3)
+    ∷ changes (rename-number 16 0 (bytes "1x")) (refusal 2)
+    ∷ changes (rename-number 2 1 (bytes "part")) (success 0 0 0)
+    ∷ asks (find (2 ∷ []) (bytes "PART")) (success 1 0 0) []
+    ∷ changes (rename-number 2 3 (bytes "RADIO")) (success 0 0 0)
+    ∷ changes (remove-number 2 0) (telling 16 1)
+    ∷ changes (remove-number 2 2) (refusal 6)
+    ∷ changes (remove-number 0 0) (refusal 3)
+    ∷ changes (remove-type 2 (bytes "radio")) (success 3 0 0)
+    ∷ changes (remove-number 2 1) (success 1 0 0)
+    ∷ changes (remove-sds 2) (telling 12 0)
+    ∷ changes (remove-number 2 0) (success 0 0 0)
+    ∷ changes (remove-sds 2) (success 0 0 0)
+    ∷ changes (new-pair 1 (bytes "has") (bytes "of") 0 3) (success 6 7 0)
+    ∷ changes (remove-number 1 7) (success 7 0 0)
+    ∷ asks (find (1 ∷ []) (bytes "has")) (refusal 6) []
     ∷ []))
     -- the run program's SDSs and types in any spelling; its commands byte for byte
     ∷ lines

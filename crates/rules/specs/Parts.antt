@@ -3,12 +3,12 @@
 use Prim.Native.Nat.{ℕ, _≤_}
 use mathlib.Core.Path.{_≡_}
 use mathlib.Core.List.{List, []}
-use mathlib.Core.Bool.{Bool, true, _&&_, _||_}
+use mathlib.Core.Bool.{Bool, true, false, _&&_, _||_}
 use lib.Dec.{ltb}
 use lib.ListN.{length, getD}
 use Rattle.rules.specs.01-Lists.{_∈_, rising}
 use Rattle.rules.specs.02-Limits.{limits}
-use Rattle.rules.specs.03-Names.{Name, well-formed, same-name}
+use Rattle.rules.specs.03-Names.{Name, blank, well-formed, same-name}
 use Rattle.rules.specs.04-Schema.{Schema, Kind, Presence, Application, End, system-name, system-presence, used-sds, kind-of, is-used, is-object}
 use Rattle.rules.specs.04-Schema.{is-attribute, is-link, present, has-end, other-side}
 use Rattle.rules.specs.06-Good.{presence-before, application-before, end-before, Known-modes, Same-modes}
@@ -71,9 +71,9 @@ pub record Types (ks : List Kind) : Type 0 where
 pub record Presence-rows (ns : List Name) (ps : List Presence) : Type 0 where
   pub room : length ps ≤ limits .presences
   pub in-used : (p : Presence) → p ∈ ps → used-sds (of-sdss ns) (p .sds) ≡ true
-  pub named : (p : Presence) → p ∈ ps → well-formed (p .name) ≡ true
+  pub named : (p : Presence) → p ∈ ps → blank (p .name) || well-formed (p .name) ≡ true
   pub known : (p : Presence) → p ∈ ps → Known-modes p
-  pub unique : (p q : Presence) → p ∈ ps → q ∈ ps → p .sds ≡ q .sds → same-name (p .name) (q .name) ≡ true → p ≡ q
+  pub unique : (p q : Presence) → p ∈ ps → q ∈ ps → p .sds ≡ q .sds → blank (p .name) ≡ false → same-name (p .name) (q .name) ≡ true → p ≡ q
   pub system : system-presence ∈ ps
   pub system-alone : (p : Presence) → p ∈ ps → p .sds ≡ 0 → p ≡ system-presence
   pub rises : rising presence-before ps ≡ true
@@ -83,6 +83,9 @@ Once ps = (p q : Presence) → p ∈ ps → q ∈ ps → p .sds ≡ q .sds → p
 
 abbrev pub Typed : List Kind → List Presence → Type 0
 Typed ks ps = (p : Presence) → p ∈ ps → is-used (kind-of (of-types ks) (p .type)) ≡ true
+
+abbrev pub Nameless : List Kind → List Presence → Type 0
+Nameless ks ps = (p : Presence) → p ∈ ps → blank (p .name) ≡ true → is-object (kind-of (of-types ks) (p .type)) ≡ true
 
 -- an SDS that holds these types holds with t its parents and its reverse
 pub record Closed-under (ks : List Kind) (held : ℕ → Bool) (t : ℕ) : Type 0 where
@@ -102,6 +105,7 @@ pub record Presences (ns : List Name) (ks : List Kind) (ps : List Presence) : Ty
   pub rows : Presence-rows ns ps
   pub once : Once ps
   pub typed : Typed ks ps
+  pub nameless : Nameless ks ps
   pub closed : Closed ks ps
   pub alike : Alike ks ps
   pub somewhere : Somewhere ks ps

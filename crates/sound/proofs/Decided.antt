@@ -40,6 +40,7 @@ decided-of {b} s =
         presence-rest = c .presence-rest;
         rows = p .presences .rows;
         once = p .presences .once;
+        nameless = p .presences .nameless;
         small = λ q m. used-below (sound-good s) (q .type) (p .presences .typed q m);
       };
       types = record {
@@ -85,6 +86,7 @@ decided-sound b w = is-sound b canonical (whole parts)
       presences = record {
         rows = w .presences .rows;
         once = w .presences .once;
+        nameless = w .presences .nameless;
         typed = w .types .typed;
         closed = w .types .closed;
         alike = w .alike;

@@ -6,11 +6,11 @@ use native.Mathlib.Omega.{arith}
 use mathlib.Core.Path.{_≡_, refl, sym, ap, ap₂, _∙_}
 use mathlib.Core.Logic.{⊎-elim}
 use mathlib.Core.List.{List, [], _∷_, _++_, List·Memᴰ·cases-cons}
-use mathlib.Core.Bool.{Bool, true, false, cond, false≢true}
+use mathlib.Core.Bool.{Bool, true, false, not, cond, _&&_, and-true, false≢true}
 use lib.Count.{ones, ones-cat}
-use lib.Dec.{ltb, lit<}
+use lib.Dec.{ltb, eqb, lit<}
 use lib.ListN.{length, getD, length-append}
-use borrow.Author.Tests.{ltb-false, ltb-true}
+use borrow.Author.Tests.{ltb-false, ltb-true, eqb-true, eqb-false, ne-eqb}
 use Rattle.rules.specs.01-Lists.{_∈_, numbers}
 use Rattle.rules.specs.05-Descent.{members}
 use Rattle.rules.specs.11-Asks.{one-if, marks}
@@ -61,6 +61,33 @@ module _ (p q : ℕ → Bool) (part : (k : ℕ) → p k ≡ true → q k ≡ tru
       go : (b : Bool) → ltb (length (members p)) (length (members q)) ≡ b → length (members p) < length (members q)
       go true h = ltb-true (length (members p)) (length (members q)) h
       go false h = absurd (false≢true (sym out ∙ members-same (ltb-false (length (members p)) (length (members q)) h) k u e))
+
+-- ---- the lowest of a set, and what is left without it
+
+module _ (p q : ℕ → Bool) (n : ℕ) (e : p n ≡ true) (out : (k : ℕ) → q k ≡ p k && not (eqb k n)) where
+  -- it comes first
+  numbers-first-out : (a m : ℕ) → a ≤ n → n < a + m → ((k : ℕ) → k < n → p k ≡ false) → numbers a m p ≡ n ∷ numbers a m q
+  unfolding numbers
+  numbers-first-out a zero l u none = absurd (omega arith)
+  numbers-first-out a (suc m) l u none = go (eqb a n) refl (λ h. numbers-first-out (suc a) m h (omega arith) none)
+    where
+      behind : (k : ℕ) → suc a ≤ k → a ≡ n → p k ≡ q k
+      behind k h s = sym (out k ∙ ap (λ (x : Bool). p k && not x) (ne-eqb k n (λ z. omega arith)) ∙ and-true (p k))
+
+      go : (b : Bool) → eqb a n ≡ b → (suc a ≤ n → numbers (suc a) m p ≡ n ∷ numbers (suc a) m q) → numbers a (suc m) p ≡ n ∷ numbers a (suc m) q
+      go true g ih =
+          let same : a ≡ n = eqb-true a n g in
+          let taken : p a ≡ true = ap p same ∙ e in
+          let gone : q a ≡ false = out a ∙ rw (taken, g) in
+          rw (taken, gone) (λ i. same i ∷ numbers-alike p q (suc a) m (λ k h w. behind k h same) i)
+      go false g ih =
+          let passed : p a ≡ false = none a (omega (arith, eqb-false a n g)) in
+          let gone : q a ≡ false = out a ∙ rw passed in
+          rw (passed, gone) (ih (omega (arith, eqb-false a n g)))
+
+  pub members-first : n < 128 → ((k : ℕ) → k < n → p k ≡ false) → members p ≡ n ∷ members q
+  unfolding members
+  members-first h none = numbers-first-out 0 128 (omega arith) (omega arith) none
 
 -- ---- the count
 

@@ -56,7 +56,8 @@ impl Table {
     }
 }
 
-/// Presences stand by SDS, then name, then type. A name's field may have its padding, which is below every byte of a name.
+/// Presences stand by SDS, then name, then type. A name's field may have its padding, which is below every byte of a name;
+/// so nameless ones, whose field is padding alone, stand before the others, by type.
 pub fn presence_key(row: &[u8]) -> (u8, Name, u8) {
     (row[0], Name::new(&row[1..][..Schema::NAME]), row[TYPE])
 }
@@ -82,12 +83,13 @@ pub fn to_bytes(schema: &Schema) -> Vec<u8> {
     // The maps and sets are in the order of the rows: names hold no byte 0, so padding doesn't change their order.
     let (mut presences, mut applications, mut ends) = (0.., 0.., 0..);
     for (&number, sds) in &schema.sdss {
-        for (name, present) in &sds.presences {
+        let nameless = sds.nameless.iter().map(|(&ty, &modes)| (&[][..], ty, modes));
+        let named = sds.named.iter().map(|(name, present)| (&**name, present.ty, present.modes));
+        for (name, ty, Modes { usage, definition }) in nameless.chain(named) {
             let row = PRESENCES.row(&mut base, presences.next().unwrap());
             row[0] = number as u8;
             row[1..][..name.len()].copy_from_slice(name);
-            let Modes { usage, definition } = present.modes;
-            row[TYPE..].copy_from_slice(&[present.ty, usage, definition].map(|field| field as u8));
+            row[TYPE..].copy_from_slice(&[ty, usage, definition].map(|field| field as u8));
         }
         for application in &sds.applications {
             let row = [number, application.to, application.attribute].map(|field| field as u8);
@@ -124,10 +126,10 @@ fn type_row(ty: &Type) -> [u8; TYPES.width] {
     row
 }
 
-/// Where a local name starts in the base; it is borne in the SDS.
-pub fn name_start(schema: &Schema, sds: usize, name: &Name) -> usize {
-    let before: usize = schema.sdss.range(..sds).map(|(_, lower)| lower.presences.len()).sum();
-    let number = before + schema.sdss[&sds].presences.range(..name.clone()).count();
+/// Where the field of a type's local name starts in the base; the type is present in the SDS.
+pub fn name_start(schema: &Schema, sds: usize, ty: usize) -> usize {
+    let before: usize = schema.sdss.range(..sds).map(|(_, lower)| lower.presences().count()).sum();
+    let number = before + schema.sdss[&sds].types().take_while(|&other| other != ty).count();
     PRESENCES.start + number * PRESENCES.width + 1
 }
 
@@ -142,16 +144,20 @@ pub fn from_bytes(base: &[u8]) -> Option<Schema> {
     }
     let mut schema = Schema { sdss: BTreeMap::new(), types: BTreeMap::new() };
     for (number, row) in SDSS.rows(base).enumerate().filter(|(_, row)| is_used(row)) {
-        schema.sdss.insert(number, Sds::named(name_in(row)?));
+        schema.sdss.insert(number, Sds::new(name_in(row)?));
     }
     for (number, row) in TYPES.rows(base).enumerate().filter(|(_, row)| is_used(row)) {
         schema.types.insert(number, type_in(row)?);
     }
     for row in PRESENCES.rising_rows(base, presence_key)? {
-        let presences = &mut schema.sdss.get_mut(&row[0].into())?.presences;
-        let name = name_in(&row[1..][..Schema::NAME])?;
+        let sds = schema.sdss.get_mut(&row[0].into())?;
+        let (field, ty) = (&row[1..][..Schema::NAME], row[TYPE].into());
         let modes = Modes { usage: row[USAGE].into(), definition: row[DEFINITION].into() };
-        if presences.insert(Name::new(name), Presence { ty: row[TYPE].into(), modes }).is_some() {
+        let is_stored_twice = match is_used(field) {
+            true => sds.named.insert(Name::new(name_in(field)?), Presence { ty, modes }).is_some(),
+            false => sds.nameless.insert(ty, modes).is_some(),
+        };
+        if is_stored_twice {
             return None;
         }
     }
@@ -260,15 +266,19 @@ fn has_cycle(schema: &Schema) -> bool {
 
 fn is_good_sds(schema: &Schema, sds: &Sds) -> bool {
     // Local names are unique in an SDS.
-    if has_same(sds.presences.keys().map(|name| &**name)) {
+    if has_same(sds.named.keys().map(|name| &**name)) {
+        return false;
+    }
+    // No type but an object type is without one.
+    if !sds.nameless.keys().all(|&ty| schema.is_object(ty)) {
         return false;
     }
     // A type has at most one presence in an SDS.
     let present: BTreeSet<usize> = sds.types().collect();
-    if present.len() < sds.presences.len() {
+    if present.len() < sds.presences().count() {
         return false;
     }
-    let is_good_presence = |&Presence { ty, modes }: &Presence| {
+    let is_good_presence = |Presence { ty, modes }: Presence| {
         // Parents of a present type are present; a link type and its reverse are present in the same SDSs, with the
         // same modes. No mode is unknown.
         schema.parents(ty).is_subset(&present)
@@ -291,7 +301,7 @@ fn is_good_sds(schema: &Schema, sds: &Sds) -> bool {
             && schema.is_object(end.object)
             && schema.reverse(end.link).is_none_or(|reverse| sds.ends.contains(&end.mirror(reverse)))
     };
-    sds.presences.values().all(is_good_presence)
+    sds.presences().all(is_good_presence)
         && sds.applications.iter().all(is_good_application)
         && sds.ends.iter().all(is_good_end)
 }

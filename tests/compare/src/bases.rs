@@ -27,11 +27,11 @@ pub fn zigzag() -> Schema {
     let mut s = chain();
     let here = s.sdss.get_mut(&1).expect("a used SDS");
     let names: Vec<Name> =
-        here.presences.iter().filter(|(_, present)| present.ty != 0).map(|(name, _)| name.clone()).collect();
+        here.named.iter().filter(|(_, present)| present.ty != 0).map(|(name, _)| name.clone()).collect();
     for (step, ty) in (1..=names.len()).rev().enumerate() {
         let middle = names.len() / 2;
         let place = if step % 2 == 0 { middle + step / 2 } else { middle - step.div_ceil(2) };
-        here.presences.insert(names[place].clone(), Presence::of(ty));
+        here.named.insert(names[place].clone(), Presence::of(ty));
     }
     s
 }
@@ -59,7 +59,7 @@ pub fn worst() -> Schema {
     import(&mut s, std::iter::once(attribute(0)).chain((1..=chained).rev().map(object)), Schema::PRESENCES);
     // One attribute type is applied to all the others.
     for (sds, here) in s.sdss.clone() {
-        for to in here.presences.keys() {
+        for to in here.named.keys() {
             if s.application_count() < Schema::APPLICATIONS {
                 s.apply(sds, attribute(0).as_bytes(), to);
             }
@@ -134,14 +134,14 @@ fn add_chain(s: &mut Schema, length: usize) {
     for n in 1..=length {
         let parent = if n < length { n + 1 } else { 0 };
         s.types.insert(n, Type::Object { parents: [parent].into() });
-        here.presences.insert(Name::new(object(n)), Presence::of(n));
+        here.named.insert(Name::new(object(n)), Presence::of(n));
     }
 }
 
 /// Modes that go round, so that no presence but that of SDS 0 has all in either set.
 fn set_modes(s: &mut Schema) {
     for (sds, here) in s.sdss.clone().into_iter().skip(1) {
-        for (n, name) in here.presences.keys().enumerate() {
+        for (n, name) in here.named.keys().enumerate() {
             let usage = (sds + n) % Modes::FIVE;
             s.set_modes(sds, name, Modes { usage, definition: Modes::FIVE - 1 - usage });
         }
@@ -198,7 +198,7 @@ fn add_ends(s: &mut Schema, objects: usize, pairs: usize, ends: usize) {
 /// An origin and a destination for each pair in each SDS, and so for its reverse, as long as there is room.
 fn add_short_ends(s: &mut Schema, pairs: usize) {
     for sds in 1..s.sdss.len() {
-        let here = s.sdss[&sds].presences.iter();
+        let here = s.sdss[&sds].named.iter();
         let objects: Vec<Name> =
             here.filter(|(_, present)| s.is_object(present.ty)).map(|(name, _)| name.clone()).collect();
         for n in 0..pairs {

@@ -223,6 +223,30 @@ fn changes() -> Vec<(&'static str, Schema, Call)> {
                 new_reverse_name: "".into(),
             },
         ),
+        // SDS 2 has all that is above it
+        (
+            "import, no ancestor",
+            typical(),
+            Call::Import {
+                target: 2,
+                source: 1,
+                name: "object_type_39".into(),
+                new_name: "".into(),
+                new_reverse_name: "".into(),
+            },
+        ),
+        // types 39 to 49 are above it, and SDS 2 lacks them
+        (
+            "import, 11 ancestors",
+            typical(),
+            Call::Import {
+                target: 2,
+                source: 1,
+                name: "object_type_50".into(),
+                new_name: "".into(),
+                new_reverse_name: "".into(),
+            },
+        ),
         ("apply", typical(), applied()),
         ("unapply", with(applied()), Call::Unapply { sds: 1, attribute: attribute(), to: "object_type_45".into() }),
         ("apply link", typical(), origin()),
@@ -242,7 +266,13 @@ fn changes() -> Vec<(&'static str, Schema, Call)> {
             with(Call::NewAttribute { sds: 1, name: new(), value_kind: 5 }),
             Call::RemoveType { sds: 1, name: new() },
         ),
+        (
+            "remove number",
+            with(Call::NewAttribute { sds: 1, name: new(), value_kind: 5 }),
+            Call::RemoveNumber { sds: 1, ty: 100 },
+        ),
         ("rename", typical(), Call::Rename { sds: 1, name: "object_type_30".into(), new_name: new() }),
+        ("rename number", typical(), Call::RenameNumber { sds: 1, ty: 30, new_name: new() }),
         ("set modes of a pair", typical(), Call::SetModes { sds: 1, name: link(), usage: 4, definition: 0 }),
     ]
 }
@@ -333,11 +363,15 @@ impl Server {
 #[cfg(test)]
 mod tests {
     use super::changes;
+    use crate::nameless::nameless;
 
     #[test]
     fn every_change_is_done() {
         for (what, schema, call) in changes() {
-            assert_eq!(call.on(&mut schema.clone(), 0).no, 0, "{what}");
+            let mut after = schema.clone();
+            assert_eq!(call.on(&mut after, 0).no, 0, "{what}");
+            let brought = if what.contains("ancestors") { 11 } else { 0 };
+            assert_eq!(nameless(&after).len(), brought, "{what}");
         }
     }
 }

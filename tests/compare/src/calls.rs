@@ -40,7 +40,9 @@ pub enum Call {
     AddDestination { sds: usize, link: Text, object: Text },
     RemoveDestination { sds: usize, link: Text, object: Text },
     RemoveType { sds: usize, name: Text },
+    RemoveNumber { sds: usize, ty: usize },
     Rename { sds: usize, name: Text, new_name: Text },
+    RenameNumber { sds: usize, ty: usize, new_name: Text },
     SetModes { sds: usize, name: Text, usage: usize, definition: usize },
     ScanObject { schema: Vec<u8>, ty: usize, code: usize },
     ScanLink { schema: Vec<u8>, ty: usize, code: usize },
@@ -76,7 +78,7 @@ pub const NUMBERS: usize = 20;
 pub const TELLING: [usize; 4] = [12, 16, 17, 18];
 
 /// In the order of `Call`.
-pub const CALLS: [Known; 25] = [
+pub const CALLS: [Known; 27] = [
     known("fresh", &[1]),
     known("new_sds", &[1, 4, 11, 14]),
     known("remove_sds", &[1, 2, 3, 12]),
@@ -84,7 +86,7 @@ pub const CALLS: [Known; 25] = [
     known("new_attribute", &[1, 2, 3, 4, 5, 11, 14]),
     known("new_designation", &[1, 2, 3, 4, 11, 14]),
     known("new_pair", &[1, 2, 3, 4, 5, 11, 14]),
-    known("import", &[1, 2, 3, 4, 6, 7, 9, 10, 11, 14]),
+    known("import", &[1, 2, 3, 4, 6, 7, 9, 11, 14]),
     known("apply", &[1, 2, 3, 4, 6, 7, 9, 14]),
     known("unapply", &[1, 2, 3, 4, 6, 7, 13]),
     known("apply_link", &[1, 2, 3, 4, 6, 7, 9, 14]),
@@ -92,7 +94,9 @@ pub const CALLS: [Known; 25] = [
     known("add_destination", &[1, 2, 3, 4, 6, 7, 9, 14]),
     known("remove_destination", &[1, 2, 3, 4, 6, 7, 13]),
     known("remove_type", &[1, 2, 3, 4, 6, 16, 17, 18]),
+    known("remove_number", &[1, 2, 3, 6, 16, 17, 18]),
     known("rename", &[1, 2, 3, 4, 6, 11]),
+    known("rename_number", &[1, 2, 3, 4, 6, 11]),
     known("set_modes", &[1, 2, 3, 4, 19, 6]),
     known("scan_object", &[1, 2, 5, 6, 7, 8, 15]),
     known("scan_link", &[1, 2, 5, 6, 7, 8, 15]),
@@ -123,22 +127,24 @@ impl Call {
             Call::AddDestination { .. } => 12,
             Call::RemoveDestination { .. } => 13,
             Call::RemoveType { .. } => 14,
-            Call::Rename { .. } => 15,
-            Call::SetModes { .. } => 16,
-            Call::ScanObject { .. } => 17,
-            Call::ScanLink { .. } => 18,
-            Call::Profile { .. } => 19,
-            Call::Find { .. } => 20,
-            Call::Depth { .. } => 21,
-            Call::Name { .. } => 22,
-            Call::DescendantSet { .. } => 23,
-            Call::Modes { .. } => 24,
+            Call::RemoveNumber { .. } => 15,
+            Call::Rename { .. } => 16,
+            Call::RenameNumber { .. } => 17,
+            Call::SetModes { .. } => 18,
+            Call::ScanObject { .. } => 19,
+            Call::ScanLink { .. } => 20,
+            Call::Profile { .. } => 21,
+            Call::Find { .. } => 22,
+            Call::Depth { .. } => 23,
+            Call::Name { .. } => 24,
+            Call::DescendantSet { .. } => 25,
+            Call::Modes { .. } => 26,
         }
     }
 
     /// Whether the call leaves every base as it is.
     pub fn asks(&self) -> bool {
-        self.index() >= 17
+        self.index() >= 19
     }
 
     /// The numbers and the slices that the C function takes beside base and output, each in the order of the header.
@@ -165,7 +171,9 @@ impl Call {
             Call::NewDesignation { sds, name } | Call::RemoveType { sds, name } => {
                 ([*sds, 0, 0], [&name.0, &[], &[]])
             }
+            Call::RemoveNumber { sds, ty } | Call::Name { sds, ty } => ([*sds, *ty, 0], [&[]; 3]),
             Call::Rename { sds, name, new_name } => ([*sds, 0, 0], [&name.0, &new_name.0, &[]]),
+            Call::RenameNumber { sds, ty, new_name } => ([*sds, *ty, 0], [&new_name.0, &[], &[]]),
             Call::SetModes { sds, name, usage, definition } => ([*sds, *usage, *definition], [&name.0, &[], &[]]),
             Call::ScanObject { schema, ty, code } | Call::ScanLink { schema, ty, code } => {
                 ([*ty, *code, 0], [schema, &[], &[]])
@@ -175,7 +183,6 @@ impl Call {
             | Call::DescendantSet { schema, ty }
             | Call::Modes { schema, ty } => ([*ty, 0, 0], [schema, &[], &[]]),
             Call::Find { schema, name } => ([0; 3], [schema, &name.0, &[]]),
-            Call::Name { sds, ty } => ([*sds, *ty, 0], [&[]; 3]),
         }
     }
 
@@ -245,7 +252,9 @@ impl Call {
             Call::AddDestination { sds, link, object } => s.add_destination(*sds, &link.0, &object.0),
             Call::RemoveDestination { sds, link, object } => s.remove_destination(*sds, &link.0, &object.0),
             Call::RemoveType { sds, name } => s.remove_type(*sds, &name.0),
+            Call::RemoveNumber { sds, ty } => s.remove_number(*sds, *ty),
             Call::Rename { sds, name, new_name } => s.rename(*sds, &name.0, &new_name.0),
+            Call::RenameNumber { sds, ty, new_name } => s.rename_number(*sds, *ty, &new_name.0),
             &Call::SetModes { sds, ref name, usage, definition } => {
                 s.set_modes(sds, &name.0, Modes { usage, definition })
             }

@@ -4,6 +4,7 @@
 use crate::calls::{Call, CALLS, NUMBERS};
 use crate::joins::JOINED;
 use crate::modes::MODED;
+use crate::nameless::NAMELESS;
 use crate::removals::{traits, REMOVED};
 use crate::schema::Schema;
 use crate::shapes::{visible, SHAPES};
@@ -28,9 +29,9 @@ const UNLISTED: [&str; 10] = [
     "no SDS listed: modes 6",
 ];
 
-/// What schemas are drawn for should come up so often: each of `REMOVED`, of `SPELT`, of `MODED` and of `JOINED`, and
-/// lists of descendants, of each shape and with each of these, which one pass by number, first parents alone, too few
-/// passes or no look at presences would get wrong.
+/// What schemas are drawn for should come up so often: each of `REMOVED`, of `SPELT`, of `MODED`, of `NAMELESS` and of
+/// `JOINED`, and lists of descendants, of each shape and with each of these, which one pass by number, first parents alone,
+/// too few passes or no look at presences would get wrong.
 const OFTEN_DRAWN: usize = 200;
 const LISTED: [&str; 5] = [
     "a type below its parents",
@@ -40,7 +41,8 @@ const LISTED: [&str; 5] = [
     "a type not visible left out",
 ];
 
-/// So often should each way that spoils spellings or modes have left a base as it is expected to, sound or not.
+/// So often should each way that spoils spellings, modes or nameless presences have left a base as it is expected to, sound
+/// or not.
 const OFTEN_SPOILED: usize = 100;
 
 /// What a call is called if it is answered one of the numbers.
@@ -103,6 +105,8 @@ pub struct Counts {
     pub spelt: BTreeMap<String, usize>,
     /// Calls on sound bases, by the modes that they set, ask for, or should keep or renew.
     pub moded: BTreeMap<String, usize>,
+    /// Calls on sound bases, by the nameless presences that they bring, handle, miss or list.
+    pub nameless: BTreeMap<String, usize>,
     /// Questions under two lists and their join, or under a list in another order.
     pub joined: BTreeMap<String, usize>,
 }
@@ -116,6 +120,7 @@ impl Counts {
             removed: BTreeMap::new(),
             spelt: BTreeMap::new(),
             moded: BTreeMap::new(),
+            nameless: BTreeMap::new(),
             joined: BTreeMap::new(),
         }
     }
@@ -135,6 +140,7 @@ impl Counts {
             (&mut self.removed, &other.removed),
             (&mut self.spelt, &other.spelt),
             (&mut self.moded, &other.moded),
+            (&mut self.nameless, &other.nameless),
             (&mut self.joined, &other.joined),
         ] {
             numbers.iter().for_each(|(what, number)| *sums.entry(what.clone()).or_default() += number);
@@ -226,6 +232,11 @@ impl Counts {
         moded.answered(answer).for_each(|what| *self.moded.entry(what).or_default() += 1);
     }
 
+    /// Counts a call by nameless presences.
+    pub fn go_nameless(&mut self, nameless: Traits, answer: [usize; 4]) {
+        nameless.answered(answer).for_each(|what| *self.nameless.entry(what).or_default() += 1);
+    }
+
     /// Counts what a law was held to.
     pub fn join(&mut self, what: &str) {
         *self.joined.entry(what.into()).or_default() += 1;
@@ -237,7 +248,7 @@ impl Counts {
     }
 
     /// The pairs of a call and a number that it can answer that came up too seldom, in words; under an empty list too,
-    /// descents, removals, spellings and modes, and bases with the last two spoiled.
+    /// descents, removals, spellings, modes and nameless presences, and bases with the last three spoiled.
     pub fn seldom(&self) -> Vec<String> {
         let mut seldom = Vec::new();
         for (call, counts) in CALLS.iter().zip(&self.answered) {
@@ -252,6 +263,7 @@ impl Counts {
         seldom.extend(seldom_of("removal", &REMOVED, &self.removed));
         seldom.extend(seldom_of("spelling", &SPELT, &self.spelt));
         seldom.extend(seldom_of("mode", &MODED, &self.moded));
+        seldom.extend(seldom_of("nameless", &NAMELESS, &self.nameless));
         for ((way, _), [sound, unsound]) in WAYS.iter().zip(&self.spoiled) {
             let expected = EXPECTED.iter().find(|(name, _)| name == way);
             let seen = expected.map(|(_, stays_sound)| if *stays_sound { sound } else { unsound });
@@ -269,6 +281,7 @@ impl Counts {
         print_drawn("removed or refused", &self.removed);
         print_drawn("in another spelling", &self.spelt);
         print_drawn("with modes", &self.moded);
+        print_drawn("with nameless presences", &self.nameless);
         println!("\n{:<28}{:>8}{:>10}", "spoiled", "sound", "not sound");
         for ((name, _), [sound, unsound]) in WAYS.iter().zip(&self.spoiled) {
             println!("{name:<28}{sound:>8}{unsound:>10}");
@@ -301,9 +314,8 @@ impl Counts {
             println!("{:>7.0}%", 100.0 * counts[0] as f64 / on_sound.max(1) as f64);
         }
         let seldom = self.seldom();
-        let drawn = format!("descents, removals, spellings and modes less than {OFTEN_DRAWN}");
-        let least =
-            format!("{OFTEN} times, {drawn}, bases with spoiled spellings or modes less than {OFTEN_SPOILED}");
+        let drawn = format!("what schemas are drawn for less than {OFTEN_DRAWN}");
+        let least = format!("{OFTEN} times, {drawn}, what is spoiled on purpose less than {OFTEN_SPOILED}");
         println!("pairs of a call and a number that came up less than {least}: {}", seldom.len());
         if !seldom.is_empty() {
             println!("    {}", seldom.join(", "));

@@ -5,6 +5,7 @@
 use crate::calls::{Call, CALLS};
 use crate::coverage::Traits;
 use crate::modes;
+use crate::nameless::{is_nameless, take_names};
 use crate::random::Random;
 use crate::removals::{draw_sds, other_types};
 use crate::run::{Run, Told};
@@ -15,15 +16,17 @@ use std::collections::BTreeSet;
 
 /// What should come up often: v is the first list, w the second. Lists in another order count where they are really in
 /// another order, and a call that is done where it gives something.
-pub const JOINED: [&str; 47] = [
+pub const JOINED: [&str; 51] = [
     "v is empty",
     "w is empty",
     "visible in v alone",
     "visible in w alone",
     "visible in both",
     "visible in neither",
+    "visible, nameless alone",
     "find: by v, another type by w",
     "find: by w, where v is 6",
+    "find: by w, nameless in v",
     "find: 6 in both",
     "find: 4",
     "find: in another spelling",
@@ -32,12 +35,14 @@ pub const JOINED: [&str; 47] = [
     "descendants: visible in v alone",
     "descendants: visible in w alone",
     "descendants: 15 for the join alone",
+    "descendants: a nameless type",
     "attribute-all: more than the two apart",
     "modes: of both, more than each",
     "modes: of both, those of one",
     "modes: visible in v alone",
     "modes: visible in w alone",
     "modes: visible in neither",
+    "modes: nameless in one, named in the other",
     "order: scan_object, code 0",
     "order: scan_object, code 1",
     "order: scan_object, code 2",
@@ -85,9 +90,12 @@ const ATTRIBUTE_ALL: usize = 5;
 const WHOLE: usize = 2 * Schema::TYPES;
 
 /// Three SDSs or more beside SDS 0, which share types of every kind, with any modes, and names for different ones, in
-/// any spelling.
+/// any spelling. Half of the time object types are nameless, some here, some there.
 pub fn draw(random: &mut Random) -> Schema {
     let mut s = if random.one_in(2) { spellings::draw(random) } else { drawn(random) };
+    if random.one_in(2) {
+        s.used().into_iter().skip(1).for_each(|sds| take_names(random, &mut s, sds.into(), 4));
+    }
     modes::give(random, &mut s);
     s
 }
@@ -105,8 +113,8 @@ fn drawn(random: &mut Random) -> Schema {
     s.types.extend(drawn.types);
     for (sds, held) in random.shuffled((1..Schema::SDSS).collect()).into_iter().zip(drawn.held) {
         let mut here = draw_sds(random, &s, sds, &held);
-        let respelt = here.presences.into_iter().map(|(name, present)| (Name(random.spelt(&name)), present));
-        here.presences = respelt.collect();
+        let respelt = here.named.into_iter().map(|(name, present)| (Name(random.spelt(&name)), present));
+        here.named = respelt.collect();
         s.sdss.insert(sds, here);
     }
     s
@@ -249,14 +257,25 @@ impl Run {
                 [true, true] => "visible in both",
                 [false, false] => "visible in neither",
             });
+            if is_nameless(&self.schema, &lists.concat(), ty) {
+                self.counts.join("visible, nameless alone");
+            }
         }
         Ok(())
     }
 
-    /// Names borne in any SDS, in any spelling, or in none, or malformed; under both orders of the two lists.
+    /// Names borne in any SDS, in any spelling, or in none, or malformed, and some of types that are nameless in the first
+    /// list, if the second has them alone; under both orders of the two lists.
     fn finds(&mut self, lists: &[Vec<u8>; 2]) -> Result<(), String> {
-        for _ in 0..NAMES {
-            let call = self.caller.any_of(&self.schema, &places(&["find"]));
+        let s = &self.schema;
+        let named = lists[1].iter().flat_map(|&sds| &s.sdss[&sds.into()].named);
+        let nameless = named.filter(|(_, present)| is_nameless(s, &lists[0], present.ty)).map(|(name, _)| name);
+        let is_free = |name: &&Name| lists[0].iter().all(|&sds| s.sdss[&sds.into()].find(name).is_none());
+        let names = self.caller.random.shuffled(nameless.filter(is_free).collect());
+        let names = names.into_iter().take(ASKED);
+        let mut calls: Vec<Call> = names.map(|name| Call::Find { schema: Vec::new(), name: name.into() }).collect();
+        calls.extend((0..NAMES).map(|_| self.caller.any_of(s, &places(&["find"]))));
+        for call in calls {
             let output = self.output(&call);
             let [v, w] = self.join(&call, lists, &output, first_or_second)?;
             let turned = call.under(&[&lists[1][..], &lists[0]].concat());
@@ -267,6 +286,9 @@ impl Run {
                 [[6, ..], [6, ..]] => self.counts.join("find: 6 in both"),
                 [[4, ..], _] => self.counts.join("find: 4"),
                 _ => {}
+            }
+            if v.answer[0] == 6 && w.answer[0] == 0 && is_nameless(&self.schema, &lists[0], w.answer[1]) {
+                self.counts.join("find: by w, nameless in v");
             }
             let is_found = v.answer[0] == 0 || w.answer[0] == 0;
             let call = call.under(&lists.concat());
@@ -303,6 +325,9 @@ impl Run {
         if union.is_empty() {
             return Ok(());
         }
+        if union.iter().any(|&ty| is_nameless(&self.schema, &lists.concat(), ty.into())) {
+            self.counts.join("descendants: a nameless type");
+        }
         let one_holds_the_other = v == union || w == union;
         match sees(&told) {
             [true, false] => self.counts.join("descendants: visible in v alone"),
@@ -336,6 +361,10 @@ impl Run {
                 let told = self.join(&call, lists, &output, union_of_modes)?;
                 let union = union_of_modes(&output, told.each_ref());
                 self.hold(&call.under(&[&lists[1][..], &lists[0]].concat()), &output, &union)?;
+                let is_nameless = lists.each_ref().map(|list| is_nameless(&self.schema, list, ty));
+                if sees(&told) == [true, true] && is_nameless[0] != is_nameless[1] {
+                    self.counts.join("modes: nameless in one, named in the other");
+                }
                 self.counts.join(match (sees(&told), told.each_ref().map(|told| *told == union)) {
                     ([true, true], [false, false]) => "modes: of both, more than each",
                     ([true, true], _) => "modes: of both, those of one",
@@ -473,12 +502,12 @@ mod tests {
         for _ in 0..200 {
             let s = draw(&mut random);
             let sdss: Vec<&Sds> = s.sdss.range(1..).map(|(_, sds)| sds).collect();
-            let presences = || sdss.iter().flat_map(|sds| &sds.presences);
+            let named = || sdss.iter().flat_map(|sds| &sds.named);
             let is_shared = |ty| ty != 0 && sdss.iter().filter(|sds| sds.holds(ty)).count() > 1;
             let is_another =
                 |name: &Name, ty| sdss.iter().any(|sds| sds.find(name).is_some_and(|other| other != ty));
-            assert!(sdss.len() >= 3 && presences().any(|(_, present)| is_shared(present.ty)));
-            assert!(presences().any(|(name, present)| is_another(name, present.ty)));
+            assert!(sdss.len() >= 3 && sdss.iter().flat_map(|sds| sds.types()).any(is_shared));
+            assert!(named().any(|(name, present)| is_another(name, present.ty)));
             for is_kind in [Schema::is_object, Schema::is_attribute, Schema::is_link] {
                 assert!(s.types.keys().any(|&ty| is_kind(&s, ty)));
             }

@@ -43,7 +43,7 @@ fn gives_two(one: usize, two: usize) -> Reply {
     Reply { one, two, ..Reply::default() }
 }
 
-/// Calls 1 to 8, and the setting of modes, which change the schema.
+/// Calls 1 to 8, those by number and the setting of modes, which change the schema.
 impl Schema {
     pub fn new_sds(&mut self, name: &[u8]) -> Reply {
         if !is_name(name) {
@@ -55,7 +55,7 @@ impl Schema {
         let Some(number) = (0..Self::SDSS).find(|number| !self.sdss.contains_key(number)) else {
             return refused(14);
         };
-        self.sdss.insert(number, Sds::named(name));
+        self.sdss.insert(number, Sds::new(name));
         gives(number)
     }
 
@@ -215,9 +215,6 @@ impl Schema {
         if to.holds(ty) {
             return refused(9);
         }
-        if !self.parents(ty).into_iter().all(|parent| to.holds(parent)) {
-            return refused(10);
-        }
         // Blanks filled in, as the source spells the name; a pair is imported together.
         let filled = |new_name: &[u8], ty: usize| match new_name {
             [] => from.name_of(ty).expect("a reverse is present where its type is").clone(),
@@ -229,12 +226,16 @@ impl Schema {
         if is_borne(to, &names) {
             return refused(11);
         }
-        if self.presence_count() + imported.len() > Self::PRESENCES {
+        // The ancestors that the target lacks come along, each once and without a name (02, Q-8).
+        let mut brought = self.ancestors(ty);
+        brought.retain(|&ancestor| !to.holds(ancestor));
+        if self.presence_count() + imported.len() + brought.len() > Self::PRESENCES {
             return refused(14);
         }
         // Whatever modes the source has.
-        let presences = imported.into_iter().map(|(name, ty)| (name, Presence::of(ty)));
-        self.within(target).presences.extend(presences);
+        let to = self.within(target);
+        to.named.extend(imported.into_iter().map(|(name, ty)| (name, Presence::of(ty))));
+        to.nameless.extend(brought.into_iter().map(|ancestor| (ancestor, Modes::ALL)));
         gives_two(ty, reverse.unwrap_or(0))
     }
 
@@ -296,19 +297,21 @@ impl Schema {
         let Some(ty) = here.find(name) else {
             return refused(6);
         };
-        let going = self.with_reverse(ty);
-        for (no, types) in self.in_the_way(here, &going) {
-            if let Some(&lowest) = types.first() {
-                return refused_by(no, lowest);
-            }
+        self.remove_present(sds, ty)
+    }
+
+    /// The same by the number of the type, which may be nameless there (02, Q-8).
+    pub fn remove_number(&mut self, sds: usize, ty: usize) -> Reply {
+        let Some(here) = self.sdss.get(&sds) else {
+            return refused(2);
+        };
+        if sds == 0 {
+            return refused(3);
         }
-        self.within(sds).presences.retain(|_, present| !going.contains(&present.ty));
-        for gone in going {
-            if !self.sdss.values().any(|sds| sds.holds(gone)) {
-                self.types.remove(&gone);
-            }
+        if !here.holds(ty) {
+            return refused(6);
         }
-        gives(ty)
+        self.remove_present(sds, ty)
     }
 
     pub fn rename(&mut self, sds: usize, name: &[u8], new_name: &[u8]) -> Reply {
@@ -324,14 +327,24 @@ impl Schema {
         let Some(ty) = here.find(name) else {
             return refused(6);
         };
-        if here.find(new_name).is_some_and(|bearer| bearer != ty) {
-            return refused(11);
+        self.rename_present(sds, ty, new_name)
+    }
+
+    /// The same by the number of the type, which may be nameless there and has a name then (02, Q-8).
+    pub fn rename_number(&mut self, sds: usize, ty: usize, new_name: &[u8]) -> Reply {
+        let Some(here) = self.sdss.get(&sds) else {
+            return refused(2);
+        };
+        if sds == 0 {
+            return refused(3);
         }
-        let here = self.within(sds);
-        let modes = here.modes_of(ty).expect("found above");
-        here.presences.retain(|_, present| present.ty != ty);
-        here.presences.insert(Name::new(new_name), Presence { ty, modes });
-        done()
+        if !is_name(new_name) {
+            return refused(4);
+        }
+        if !here.holds(ty) {
+            return refused(6);
+        }
+        self.rename_present(sds, ty, new_name)
     }
 
     /// Sets both sets of a presence, and of its reverse's in that SDS (02, Q-2). 19 is tried right after 5, which the
@@ -354,6 +367,35 @@ impl Schema {
         };
         let types = self.with_reverse(ty);
         self.within(sds).set_modes(&types, modes);
+        done()
+    }
+
+    /// What a removal does with a type that is there: 16, 17 and 18 are left to be tried.
+    fn remove_present(&mut self, sds: usize, ty: usize) -> Reply {
+        let going = self.with_reverse(ty);
+        for (no, types) in self.in_the_way(&self.sdss[&sds], &going) {
+            if let Some(&lowest) = types.first() {
+                return refused_by(no, lowest);
+            }
+        }
+        for gone in going {
+            self.within(sds).take_away(gone);
+            if !self.sdss.values().any(|sds| sds.holds(gone)) {
+                self.types.remove(&gone);
+            }
+        }
+        gives(ty)
+    }
+
+    /// What a rename does with a type that is there: 11 is left to be tried.
+    fn rename_present(&mut self, sds: usize, ty: usize, new_name: &[u8]) -> Reply {
+        let here = self.within(sds);
+        if here.find(new_name).is_some_and(|bearer| bearer != ty) {
+            return refused(11);
+        }
+        let modes = here.modes_of(ty).expect("tested by the call");
+        here.take_away(ty);
+        here.named.insert(Name::new(new_name), Presence { ty, modes });
         done()
     }
 
@@ -451,7 +493,7 @@ impl Schema {
 
     fn put_type(&mut self, sds: usize, name: &[u8], number: usize, ty: Type) {
         self.types.insert(number, ty);
-        self.within(sds).presences.insert(Name::new(name), Presence::of(number));
+        self.within(sds).named.insert(Name::new(name), Presence::of(number));
     }
 
     /// An SDS that the call has found to be used, to be changed.
@@ -593,15 +635,15 @@ impl Schema {
         asked.map_or_else(refused, |_| gives(self.longest_way_up(ty)))
     }
 
-    /// Gives where the local name starts in the base, and its length.
+    /// Gives where the local name starts in the base, and its length, 0 where the type is nameless.
     pub fn name(&self, sds: usize, ty: usize) -> Reply {
         let Some(here) = self.sdss.get(&sds) else {
             return refused(2);
         };
-        let Some(name) = here.name_of(ty) else {
+        if !here.holds(ty) {
             return refused(6);
-        };
-        gives_two(base::name_start(self, sds, name), name.len())
+        }
+        gives_two(base::name_start(self, sds, ty), here.name_of(ty).map_or(0, |name| name.len()))
     }
 
     /// Gives the low word, the high word and the number of marks set.

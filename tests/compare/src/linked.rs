@@ -44,8 +44,11 @@ unsafe extern "C" {
     fn cf_remove_destination(base: *mut u8, base_len: usize, sds: usize, link: *const u8, link_len: usize,
                              object: *const u8, object_len: usize) -> Answer;
     fn cf_remove_type(base: *mut u8, base_len: usize, sds: usize, name: *const u8, name_len: usize) -> Answer;
+    fn cf_remove_number(base: *mut u8, base_len: usize, sds: usize, ty: usize) -> Answer;
     fn cf_rename(base: *mut u8, base_len: usize, sds: usize, name: *const u8, name_len: usize,
                  new_name: *const u8, new_name_len: usize) -> Answer;
+    fn cf_rename_number(base: *mut u8, base_len: usize, sds: usize, ty: usize, new_name: *const u8,
+                        new_name_len: usize) -> Answer;
     fn cf_set_modes(base: *mut u8, base_len: usize, sds: usize, name: *const u8, name_len: usize, usage: usize,
                     definition: usize) -> Answer;
     fn cf_name(base: *const u8, base_len: usize, sds: usize, ty: usize) -> Answer;
@@ -92,7 +95,9 @@ fn made(call: &Call, lent: &Lent) -> Found {
             Call::AddDestination { sds, .. } => cf_add_destination(b, b_len, sds, x, x_len, y, y_len),
             Call::RemoveDestination { sds, .. } => cf_remove_destination(b, b_len, sds, x, x_len, y, y_len),
             Call::RemoveType { sds, .. } => cf_remove_type(b, b_len, sds, x, x_len),
+            Call::RemoveNumber { sds, ty } => cf_remove_number(b, b_len, sds, ty),
             Call::Rename { sds, .. } => cf_rename(b, b_len, sds, x, x_len, y, y_len),
+            Call::RenameNumber { sds, ty, .. } => cf_rename_number(b, b_len, sds, ty, x, x_len),
             Call::SetModes { sds, usage, definition, .. } =>
                 cf_set_modes(b, b_len, sds, x, x_len, usage, definition),
             Call::ScanObject { ty, code, .. } =>

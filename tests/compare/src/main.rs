@@ -27,6 +27,7 @@ mod library;
 #[allow(unsafe_code)]
 mod linked;
 mod modes;
+mod nameless;
 mod random;
 mod removals;
 mod run;

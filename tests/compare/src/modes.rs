@@ -79,9 +79,14 @@ pub struct Gone(BTreeSet<(usize, usize)>);
 impl Gone {
     /// What the call takes away if it is done.
     pub fn going(s: &Schema, call: &Call) -> Vec<(usize, usize)> {
-        let Call::RemoveType { sds, name } = call else { return Vec::new() };
-        let fewer = fewer_borne(s, *sds, &name.0).map_or(Vec::new(), |(_, _, ty)| s.with_reverse(ty));
-        fewer.into_iter().map(|ty| (*sds, ty)).collect()
+        let (sds, ty) = match call {
+            Call::RemoveType { sds, name } => (*sds, s.sdss.get(sds).and_then(|here| here.find(&name.0))),
+            Call::RemoveNumber { sds, ty } => (*sds, Some(*ty)),
+            _ => return Vec::new(),
+        };
+        let is_fewer = |ty: &usize| s.sdss.get(&sds).is_some_and(|here| has_fewer(here, *ty));
+        let fewer = ty.filter(is_fewer).map_or(Vec::new(), |ty| s.with_reverse(ty));
+        fewer.into_iter().map(|ty| (sds, ty)).collect()
     }
 
     /// The call was done, and left the schema. The number of what is nowhere any more may soon be that of another.
@@ -114,7 +119,7 @@ pub fn add_traits(traits: &mut Traits, s: &Schema, gone: &Gone, call: &Call) {
             traits.add(true, &[0], "0, of fewer");
             let new_name = Name::new(&new_name.0);
             let is_passed = |other: &Name| (kept < other) != (new_name < *other) && other != kept;
-            traits.add(here.presences.keys().any(is_passed), &[0], "0, of fewer, to another row");
+            traits.add(here.named.keys().any(is_passed), &[0], "0, of fewer, to another row");
             traits.add(s.reverse(ty).is_some(), &[0], "0, of one of a pair of fewer");
         }
         Call::RemoveType { sds, name } => {
@@ -125,7 +130,7 @@ pub fn add_traits(traits: &mut Traits, s: &Schema, gone: &Gone, call: &Call) {
 }
 
 /// Whether the type is in the SDS with fewer modes than all.
-fn has_fewer(here: &Sds, ty: usize) -> bool {
+pub fn has_fewer(here: &Sds, ty: usize) -> bool {
     here.modes_of(ty).is_some_and(|modes| modes != Modes::ALL)
 }
 
@@ -136,7 +141,7 @@ fn fewer_borne<'a>(s: &'a Schema, sds: usize, name: &[u8]) -> Option<(&'a Sds, &
     has_fewer(here, ty).then_some((here, kept, ty))
 }
 
-fn kind(s: &Schema, ty: usize) -> Option<&'static str> {
+pub fn kind(s: &Schema, ty: usize) -> Option<&'static str> {
     Some(match s.types.get(&ty)? {
         Type::Object { .. } => "an object type",
         Type::Attribute { .. } => "an attribute type",
@@ -274,7 +279,7 @@ pub fn call(random: &mut Random, s: &Schema) -> Call {
 fn borne(random: &mut Random, s: &Schema, here: &Sds) -> Text {
     let kinds = ["an object type", "an attribute type", "a designation type", "a paired type", "a paired type"];
     let wanted = random.pick(&kinds);
-    let of_kind = here.presences.iter().filter(|(_, present)| kind(s, present.ty) == wanted);
+    let of_kind = here.named.iter().filter(|(_, present)| kind(s, present.ty) == wanted);
     let names: Vec<&Name> = of_kind.map(|(name, _)| name).collect();
     match random.pick(&names) {
         Some(name) if random.one_in(4) => Text(random.respelt(name)),

@@ -273,7 +273,7 @@ impl Caller {
 
     fn any_call(&mut self, schema: &Schema) -> Call {
         let sds = self.sds(schema);
-        if schema.sdss.get(&sds).is_some_and(|here| here.presences.is_empty()) && self.random.one_in(2) {
+        if schema.sdss.get(&sds).is_some_and(Sds::is_empty) && self.random.one_in(2) {
             return import_object(sds);
         }
         self.any_of(schema, &std::array::from_fn::<usize, { CALLS.len() }, _>(|kind| kind))
@@ -316,26 +316,29 @@ impl Caller {
             12 => self.add_destination(schema, sds),
             13 => self.remove_destination(schema, sds),
             14 => self.remove_type(schema, sds),
-            15 => self.rename(schema, sds),
-            16 => self.set_modes(schema, sds),
-            17 => self.scan_object(schema),
-            18 => self.scan_link(schema),
-            19 => self.profile(schema),
-            20 => self.find(schema),
-            21 => self.depth(schema),
-            22 => self.name(schema),
-            23 => self.descendant_set(schema),
+            15 => self.remove_number(schema, sds),
+            16 => self.rename(schema, sds),
+            17 => self.rename_number(schema, sds),
+            18 => self.set_modes(schema, sds),
+            19 => self.scan_object(schema),
+            20 => self.scan_link(schema),
+            21 => self.profile(schema),
+            22 => self.find(schema),
+            23 => self.depth(schema),
+            24 => self.name(schema),
+            25 => self.descendant_set(schema),
             _ => self.modes(schema),
         }
     }
 
     fn taking_away(&mut self, schema: &Schema) -> Call {
         let sds = self.sds(schema);
-        match self.random.below(6) {
+        match self.random.below(7) {
             0 => self.unapply(schema, sds),
             1 => self.unapply_link(schema, sds),
             2 => self.remove_destination(schema, sds),
             3 if has_empty_sds(schema) => self.remove_sds(schema),
+            4 => self.remove_number(schema, sds),
             _ => self.remove_type(schema, sds),
         }
     }
@@ -354,7 +357,7 @@ impl Caller {
             return Call::NewAttribute { sds, name, value_kind: 0 };
         }
         let named = |is_wanted: IsWanted| -> Vec<(&Name, usize)> {
-            here.presences
+            here.named
                 .iter()
                 .map(|(name, present)| (name, present.ty))
                 .filter(|&(_, ty)| is_wanted(schema, ty))
@@ -390,7 +393,9 @@ impl Caller {
             return import_object(sds);
         }
         let has_types_left = schema.types.len() < Schema::TYPES;
-        let lacks = |is_wanted: IsWanted| here.types().filter(|&ty| is_wanted(schema, ty)).count() < 12;
+        // Those that can be meant by name.
+        let lacks =
+            |is_wanted: IsWanted| here.named.values().filter(|present| is_wanted(schema, present.ty)).count() < 12;
         match self.mode {
             Mode::FullPresences if schema.types.len() > 50 => self.import(schema, sds),
             Mode::FullApplications if has_types_left && lacks(Schema::is_attribute) => {
@@ -438,8 +443,7 @@ impl Caller {
     }
 
     fn remove_sds(&mut self, schema: &Schema) -> Call {
-        let empty: Vec<usize> =
-            schema.sdss.iter().filter(|(_, s)| s.presences.is_empty()).map(|(&n, _)| n).collect();
+        let empty: Vec<usize> = schema.sdss.iter().filter(|(_, s)| s.is_empty()).map(|(&n, _)| n).collect();
         match self.random.pick(&empty) {
             Some(sds) if self.random.one_in(2) => Call::RemoveSds { sds },
             _ => Call::RemoveSds { sds: self.sds(schema) },
@@ -529,6 +533,20 @@ impl Caller {
         Call::Rename { sds, name, new_name }
     }
 
+    fn remove_number(&mut self, schema: &Schema, sds: usize) -> Call {
+        Call::RemoveNumber { sds, ty: self.ty_in(schema, sds) }
+    }
+
+    fn rename_number(&mut self, schema: &Schema, sds: usize) -> Call {
+        let ty = self.ty_in(schema, sds);
+        let own = schema.sdss.get(&sds).and_then(|here| here.name_of(ty));
+        let new_name = match own {
+            Some(own) if self.random.one_in(4) => self.again(&own.into()),
+            _ => self.new_name(schema, sds),
+        };
+        Call::RenameNumber { sds, ty, new_name }
+    }
+
     fn set_modes(&mut self, schema: &Schema, sds: usize) -> Call {
         let [usage, definition] = [(); 2].map(|()| self.code(Modes::FIVE + 1));
         Call::SetModes { sds, name: self.borne_name(schema, sds, any_type), usage, definition }
@@ -569,8 +587,7 @@ impl Caller {
 
     fn name(&mut self, schema: &Schema) -> Call {
         let sds = if self.random.one_in(8) { 0 } else { self.sds(schema) };
-        let list = u8::try_from(sds).map_or(Vec::new(), |sds| vec![sds]);
-        Call::Name { sds, ty: self.ty(schema, &list, any_type) }
+        Call::Name { sds, ty: self.ty_in(schema, sds) }
     }
 
     fn descendant_set(&mut self, schema: &Schema) -> Call {
@@ -669,7 +686,7 @@ impl Caller {
     /// A name borne in the SDS, mostly by a type of the wanted kind.
     fn borne_name(&mut self, schema: &Schema, sds: usize, is_wanted: IsWanted) -> Text {
         let borne: Vec<(&Name, &Presence)> =
-            schema.sdss.get(&sds).map_or(Vec::new(), |sds| sds.presences.iter().collect());
+            schema.sdss.get(&sds).map_or(Vec::new(), |sds| sds.named.iter().collect());
         let wanted: Vec<_> = borne.iter().copied().filter(|(_, present)| is_wanted(schema, present.ty)).collect();
         let found = match self.random.below(16) {
             0 => return Text(self.malformed()),
@@ -686,7 +703,7 @@ impl Caller {
     /// A run of parents: mostly 1 to 4 different object types, parted by one space.
     fn parents(&mut self, schema: &Schema, sds: usize) -> Text {
         let presences: Vec<(&Name, &Presence)> =
-            schema.sdss.get(&sds).map_or(Vec::new(), |sds| sds.presences.iter().collect());
+            schema.sdss.get(&sds).map_or(Vec::new(), |sds| sds.named.iter().collect());
         let objects =
             presences.into_iter().filter(|(_, present)| schema.is_object(present.ty)).map(|(name, _)| name);
         let objects: Vec<&Name> = self.random.shuffled(objects.collect());
@@ -740,7 +757,10 @@ impl Caller {
     }
 
     fn name_of(&mut self, sds: &Sds, ty: usize) -> Text {
-        Text(self.given(sds.name_of(ty).expect("what is applied or an end is present")))
+        Text(match sds.name_of(ty) {
+            Some(name) => self.given(name),
+            None => self.made_name(|_| true), // no name means what is nameless
+        })
     }
 
     /// A working schema: some or all of the used SDSs; at times none, one twice, or one that is not used. Under an
@@ -786,6 +806,16 @@ impl Caller {
         };
         found.unwrap_or_else(|| self.random.odd_number(Schema::TYPES))
     }
+
+    /// The same where one SDS is meant, and a type of any kind; nameless ones are drawn more often than others.
+    fn ty_in(&mut self, schema: &Schema, sds: usize) -> usize {
+        let nameless: Vec<usize> =
+            schema.sdss.get(&sds).map_or(Vec::new(), |here| here.nameless.keys().copied().collect());
+        match self.random.pick(&nameless) {
+            Some(ty) if self.random.one_in(3) => ty,
+            _ => self.ty(schema, &u8::try_from(sds).map_or(Vec::new(), |sds| vec![sds]), any_type),
+        }
+    }
 }
 
 /// How many places are free in the table that the mode fills.
@@ -801,7 +831,7 @@ pub fn free_places(mode: Mode, schema: &Schema) -> usize {
 }
 
 fn has_empty_sds(schema: &Schema) -> bool {
-    schema.sdss.values().any(|sds| sds.presences.is_empty())
+    schema.sdss.values().any(Sds::is_empty)
 }
 
 /// The names in the source of types that the target lacks, but not their parents.
@@ -810,7 +840,7 @@ pub fn importable(schema: &Schema, target: usize, source: usize) -> Vec<&Name> {
         return Vec::new();
     };
     let has_parents = |ty| schema.parents(ty).into_iter().all(|parent| to.holds(parent));
-    let importable = from.presences.iter().filter(|(_, present)| !to.holds(present.ty) && has_parents(present.ty));
+    let importable = from.named.iter().filter(|(_, present)| !to.holds(present.ty) && has_parents(present.ty));
     importable.map(|(name, _)| name).collect()
 }
 

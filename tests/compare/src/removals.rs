@@ -65,7 +65,7 @@ fn of_sds(here: &Sds, told: usize) -> Vec<String> {
     named(
         "12 of an SDS",
         &[
-            ("one of several", here.presences.len() > 1),
+            ("one of several", here.presences().count() > 1),
             ("not in the first row", first != Some(told)),
             ("type 0", told == 0),
         ],
@@ -181,9 +181,9 @@ pub fn other_types(mut number: impl FnMut() -> usize) -> Vec<Vec<(usize, Type)>>
 
 /// An SDS that holds the types. It has no applications and ends, few or many.
 pub fn draw_sds(random: &mut Random, s: &Schema, sds: usize, held: &[usize]) -> Sds {
-    let mut here = Sds::named(format!("sds{sds}").as_bytes());
+    let mut here = Sds::new(format!("sds{sds}").as_bytes());
     let names = (0..held.len()).map(|n| Name::new(format!("type_{n:03}"))).collect();
-    here.presences.extend(in_any_order(random, names).into_iter().zip(held.iter().copied().map(Presence::of)));
+    here.named.extend(in_any_order(random, names).into_iter().zip(held.iter().copied().map(Presence::of)));
     let of_kind = |is_wanted: fn(&Schema, usize) -> bool| -> Vec<usize> {
         held.iter().copied().filter(|&ty| is_wanted(s, ty)).collect()
     };
@@ -214,7 +214,7 @@ pub fn removal(random: &mut Random, s: &Schema) -> Call {
         1 | 2 => Schema::is_object,
         _ => Schema::is_link,
     };
-    let present = s.sdss.range(1..).flat_map(|(&sds, here)| here.presences.iter().map(move |row| (sds, row)));
+    let present = s.sdss.range(1..).flat_map(|(&sds, here)| here.named.iter().map(move |row| (sds, row)));
     let wanted: Vec<_> = present.filter(|(_, (_, present))| is_wanted(s, present.ty)).collect();
     let sdss: Vec<usize> = s.sdss.keys().copied().collect();
     match random.pick(&wanted) {

@@ -6,6 +6,7 @@ use crate::calls::{apply, apply_to, Call, CALLS, TELLING};
 use crate::coverage::{Counts, Traits};
 use crate::library::{Expected, Lent, Library};
 use crate::modes::{self, Gone};
+use crate::nameless::{self, Since};
 use crate::random::{Caller, Mode, Random};
 use crate::removals;
 use crate::schema::Schema;
@@ -16,11 +17,13 @@ use crate::spoil::{spoiled, WAYS};
 /// Questions about each schema that is drawn for descents.
 const QUESTIONS: usize = 20;
 
-/// Schemas that are drawn for removals, as many for spellings and for modes, and calls on each.
+/// Schemas that are drawn for removals, as many for spellings and for modes, more for nameless presences, and calls on each.
 const DRAWN: usize = 10;
+const DRAWN_NAMELESS: usize = 26;
 const REMOVALS: usize = 20;
 const RESPELLINGS: usize = 40;
 const SETTINGS: usize = 40;
+const NAMELESS: usize = 48;
 
 /// What a question was answered, and its output afterwards.
 #[derive(Clone, Debug, PartialEq, Eq)]
@@ -36,6 +39,8 @@ pub struct Run {
     pub schema: Schema,
     /// What went from it with fewer modes than all.
     gone: Gone,
+    /// What became of nameless presences in it.
+    since: Since,
     /// Without one the keeper's own answers are checked, and that is all.
     library: Option<Box<dyn Library>>,
     /// Where the run is, in words.
@@ -47,7 +52,8 @@ impl Run {
     pub fn new(library: Option<Box<dyn Library>>) -> Run {
         let schema = Schema::fresh();
         let (caller, base) = (Caller::new(0), to_bytes(&schema));
-        Run { caller, base, schema, gone: Gone::default(), library, place: String::new(), counts: Counts::new() }
+        let (gone, since, place) = (Gone::default(), Since::default(), String::new());
+        Run { caller, base, schema, gone, since, library, place, counts: Counts::new() }
     }
 
     /// A history of so many calls and so many on spoiled bases, spread over it. It depends on nothing but the numbers.
@@ -63,7 +69,7 @@ impl Run {
             }
         }
         self.check_base()?;
-        for ending in [Run::descents, Run::removals, Run::spellings, Run::modes] {
+        for ending in [Run::descents, Run::removals, Run::spellings, Run::modes, Run::nameless] {
             self.place = format!("seed {seed}, history {number}");
             ending(self)?;
         }
@@ -78,7 +84,8 @@ impl Run {
         self.caller.mode = Mode::ALL[number % Mode::ALL.len()];
         let bytes = self.caller.random.bytes(LENGTH);
         let (_, after) = self.on_any_bytes(bytes, &Call::Fresh)?;
-        (self.base, self.schema, self.gone) = (after.base, Schema::fresh(), Gone::default());
+        (self.base, self.schema) = (after.base, Schema::fresh());
+        (self.gone, self.since) = (Gone::default(), Since::default());
         self.check_base()
     }
 
@@ -111,28 +118,34 @@ impl Run {
 
     /// Removals on schemas drawn for them.
     pub fn removals(&mut self) -> Result<(), String> {
-        self.on_drawn("removal", REMOVALS, removals::draw, removals::removal)
+        self.on_drawn("removal", DRAWN, REMOVALS, removals::draw, removals::removal)
     }
 
     /// Calls that give names in another spelling, on schemas drawn for them.
     pub fn spellings(&mut self) -> Result<(), String> {
-        self.on_drawn("respelling", RESPELLINGS, spellings::draw, spellings::respelling)
+        self.on_drawn("respelling", DRAWN, RESPELLINGS, spellings::draw, spellings::respelling)
     }
 
     /// Calls that set modes, ask for them, or should keep or renew them, on schemas drawn for them.
     pub fn modes(&mut self) -> Result<(), String> {
-        self.on_drawn("setting", SETTINGS, modes::draw, modes::call)
+        self.on_drawn("setting", DRAWN, SETTINGS, modes::draw, modes::call)
+    }
+
+    /// Calls that bring nameless presences, handle them, cannot mean them or list them, on schemas drawn for them.
+    pub fn nameless(&mut self) -> Result<(), String> {
+        self.on_drawn("nameless", DRAWN_NAMELESS, NAMELESS, nameless::draw, nameless::call)
     }
 
     fn on_drawn(
         &mut self,
         what: &str,
+        schemas: usize,
         calls: usize,
         draw: fn(&mut Random) -> Schema,
         call: fn(&mut Random, &Schema) -> Call,
     ) -> Result<(), String> {
         let place = self.place.clone();
-        for drawn in 1..=DRAWN {
+        for drawn in 1..=schemas {
             self.place = format!("{place}, schema {drawn}");
             self.draw(draw)?;
             for number in 1..=calls {
@@ -148,7 +161,8 @@ impl Run {
     /// A schema that is drawn takes the place of the present one.
     pub fn draw(&mut self, draw: fn(&mut Random) -> Schema) -> Result<(), String> {
         self.schema = draw(&mut self.caller.random);
-        (self.base, self.gone) = (to_bytes(&self.schema), Gone::default());
+        self.base = to_bytes(&self.schema);
+        (self.gone, self.since) = (Gone::default(), Since::default());
         self.check_base()
     }
 
@@ -156,16 +170,19 @@ impl Run {
     fn on_present(&mut self, call: &Call) -> Result<[usize; 4], String> {
         let before = self.lent(self.base.clone(), call);
         let mut after = before.clone();
-        let (mut spelt, mut moded) = (Traits::of(call), Traits::of(call));
+        let [mut spelt, mut moded, mut blank] = [(); 3].map(|()| Traits::of(call));
         spellings::add_traits(&mut spelt, &self.schema, call);
         modes::add_traits(&mut moded, &self.schema, &self.gone, call);
-        let going = Gone::going(&self.schema, call);
+        nameless::add_traits(&mut blank, &self.schema, &self.since, call);
+        let (going, nameless) = (Gone::going(&self.schema, call), nameless::nameless(&self.schema));
         let answer = apply_to(&mut self.schema, &mut after.base, &mut after.output, call);
         self.compare(call, &before, answer, &after)?;
         self.counts.spell(spelt, answer);
         self.counts.set_modes(moded, answer);
+        self.counts.go_nameless(blank, answer);
         if answer[0] == 0 && !call.asks() {
             self.gone.keep(&self.schema, going);
+            self.since.keep(&nameless, &self.schema);
         }
         self.counts.ask(&self.schema, call, before.output.len(), answer);
         self.counts.remove(&self.schema, call, answer);
@@ -206,7 +223,7 @@ impl Run {
     pub fn spoiled_step(&mut self) -> Result<(), String> {
         let (way, base) = loop {
             let way = self.caller.random.below(WAYS.len());
-            let base = spoiled(&WAYS[way].1, &mut self.caller.random, &self.base);
+            let base = spoiled(&WAYS[way].1, &mut self.caller.random, &self.base, &self.schema);
             if base != self.base {
                 break (way, base);
             }

@@ -157,55 +157,76 @@ impl End {
 #[derive(Clone, Debug, PartialEq, Eq)]
 pub struct Sds {
     pub name: Name,
-    /// Local names are unique in an SDS, in whatever spelling.
-    pub presences: BTreeMap<Name, Presence>,
+    /// The presences without a local name, each a type with its modes (02, Q-8).
+    pub nameless: BTreeMap<usize, Modes>,
+    /// All others. Local names are unique in an SDS, in whatever spelling.
+    pub named: BTreeMap<Name, Presence>,
     pub applications: BTreeSet<Application>,
     pub ends: BTreeSet<End>,
 }
 
 impl Sds {
-    pub fn named(name: &[u8]) -> Sds {
+    pub fn new(name: &[u8]) -> Sds {
         Sds {
             name: Name::new(name),
-            presences: BTreeMap::new(),
+            nameless: BTreeMap::new(),
+            named: BTreeMap::new(),
             applications: BTreeSet::new(),
             ends: BTreeSet::new(),
         }
     }
 
-    /// The type that bears the local name, in whatever spelling.
+    /// The type that bears the local name, in whatever spelling; never one that is nameless.
     pub fn find(&self, name: &[u8]) -> Option<usize> {
         self.kept(name).map(|(_, ty)| ty)
     }
 
     /// The spelling that is kept of the local name, and the type that bears it.
     pub fn kept(&self, name: &[u8]) -> Option<(&Name, usize)> {
-        self.presences.iter().find(|(kept, _)| is_same(kept, name)).map(|(kept, present)| (kept, present.ty))
+        self.named.iter().find(|(kept, _)| is_same(kept, name)).map(|(kept, present)| (kept, present.ty))
     }
 
-    /// The local name of the type as it is spelt, if it is present.
+    /// The local name of the type as it is spelt, if it is present and has one.
     pub fn name_of(&self, ty: usize) -> Option<&Name> {
-        self.presences.iter().find(|(_, present)| present.ty == ty).map(|(name, _)| name)
+        self.named.iter().find(|(_, present)| present.ty == ty).map(|(name, _)| name)
     }
 
-    /// The types present, in the order of their names.
+    /// All presences in the order of their rows: nameless ones by type, then the others by name.
+    pub fn presences(&self) -> impl Iterator<Item = Presence> + '_ {
+        let nameless = self.nameless.iter().map(|(&ty, &modes)| Presence { ty, modes });
+        nameless.chain(self.named.values().copied())
+    }
+
+    /// The types present, in that order.
     pub fn types(&self) -> impl Iterator<Item = usize> + '_ {
-        self.presences.values().map(|present| present.ty)
+        self.presences().map(|present| present.ty)
     }
 
     /// The modes of the type, if it is present.
     pub fn modes_of(&self, ty: usize) -> Option<Modes> {
-        self.presences.values().find(|present| present.ty == ty).map(|present| present.modes)
+        self.presences().find(|present| present.ty == ty).map(|present| present.modes)
     }
 
     /// Gives the types that are present these modes.
     pub fn set_modes(&mut self, types: &[usize], modes: Modes) {
-        let set = self.presences.values_mut().filter(|present| types.contains(&present.ty));
-        set.for_each(|present| present.modes = modes);
+        let nameless = self.nameless.iter_mut().map(|(&ty, modes)| (ty, modes));
+        let named = self.named.values_mut().map(|present| (present.ty, &mut present.modes));
+        let set = nameless.chain(named).filter(|(ty, _)| types.contains(ty));
+        set.for_each(|(_, old)| *old = modes);
+    }
+
+    pub fn is_empty(&self) -> bool {
+        self.presences().next().is_none()
     }
 
     pub fn holds(&self, ty: usize) -> bool {
-        self.name_of(ty).is_some()
+        self.types().any(|present| present == ty)
+    }
+
+    /// Takes the presence of the type away, if there is one.
+    pub fn take_away(&mut self, ty: usize) {
+        self.nameless.remove(&ty);
+        self.named.retain(|_, present| present.ty != ty);
     }
 }
 
@@ -226,8 +247,8 @@ impl Schema {
 
     /// SDS 0 "system", holding type 0 "object", and nothing else.
     pub fn fresh() -> Schema {
-        let mut system = Sds::named(b"system");
-        system.presences.insert(Name::new("object"), Presence::of(0));
+        let mut system = Sds::new(b"system");
+        system.named.insert(Name::new("object"), Presence::of(0));
         let object = Type::Object { parents: BTreeSet::new() };
         Schema { sdss: BTreeMap::from([(0, system)]), types: BTreeMap::from([(0, object)]) }
     }
@@ -296,7 +317,7 @@ impl Schema {
     }
 
     pub fn presence_count(&self) -> usize {
-        self.sdss.values().map(|sds| sds.presences.len()).sum()
+        self.sdss.values().map(|sds| sds.presences().count()).sum()
     }
 
     pub fn application_count(&self) -> usize {

@@ -126,9 +126,9 @@ impl Drawn {
         let mut s = Schema::fresh();
         s.types.extend(self.types);
         for (sds, held) in random.shuffled((1..Schema::SDSS).collect()).into_iter().zip(self.held) {
-            let mut here = Sds::named(format!("sds{sds}").as_bytes());
+            let mut here = Sds::new(format!("sds{sds}").as_bytes());
             let names = (0..held.len()).map(|n| Name::new(format!("type_{n:03}"))).collect();
-            here.presences.extend(in_any_order(random, names).into_iter().zip(held.into_iter().map(Presence::of)));
+            here.named.extend(in_any_order(random, names).into_iter().zip(held.into_iter().map(Presence::of)));
             s.sdss.insert(sds, here);
         }
         add_link(&mut s, random);
@@ -145,7 +145,7 @@ fn add_link(s: &mut Schema, random: &mut Random) {
         for side in [Side::Origin, Side::Destination] {
             here.ends.insert(End { link, side, object: random.pick(&objects).expect("there is type 0") });
         }
-        here.presences.insert(Name::new("link"), Presence::of(link));
+        here.named.insert(Name::new("link"), Presence::of(link));
     }
 }
 

@@ -94,7 +94,7 @@ pub fn add_traits(traits: &mut Traits, s: &Schema, call: &Call) {
 /// The names that a call gives, each with those among which it is looked for.
 fn given<'a>(s: &'a Schema, call: &'a Call) -> Vec<(Vec<&'a Name>, &'a [u8])> {
     let local = |sds: usize, name: &'a [u8]| {
-        let names = s.sdss.get(&sds).map_or(Vec::new(), |here| here.presences.keys().collect());
+        let names = s.sdss.get(&sds).map_or(Vec::new(), |here| here.named.keys().collect());
         (names, name)
     };
     match call {
@@ -118,6 +118,7 @@ fn given<'a>(s: &'a Schema, call: &'a Call) -> Vec<(Vec<&'a Name>, &'a [u8])> {
         | Call::AddDestination { sds, .. }
         | Call::RemoveDestination { sds, .. }
         | Call::Rename { sds, .. }
+        | Call::RenameNumber { sds, .. }
         | Call::SetModes { sds, .. } => {
             let slices = call.inputs().1;
             slices.into_iter().filter(|slice| !slice.is_empty()).map(|name| local(*sds, name)).collect()
@@ -156,7 +157,7 @@ fn is_beside(kept: &[u8], name: &[u8]) -> bool {
 /// Whether a row for the name, among those of the SDS but for one type's, has another place where a key sets the order.
 fn is_elsewhere(here: &Sds, moved: Option<usize>, name: &[u8], key: fn(&[u8]) -> Vec<u8>) -> bool {
     let (name, by_key) = (Name::new(name), key(name));
-    let others = || here.presences.iter().filter(|(_, present)| Some(present.ty) != moved).map(|(kept, _)| kept);
+    let others = || here.named.iter().filter(|(_, present)| Some(present.ty) != moved).map(|(kept, _)| kept);
     others().filter(|kept| **kept < name).count() != others().filter(|kept| key(kept) < by_key).count()
 }
 
@@ -171,7 +172,7 @@ fn capitals(name: &[u8]) -> Vec<u8> {
 /// Why new names are taken: the first or the second is borne in another spelling, or the two are the same in two
 /// spellings. All of these where one is taken byte for byte.
 fn taken(here: &Sds, first: &[u8], second: Option<&[u8]>) -> [bool; 3] {
-    let is_borne = |name: &[u8]| here.presences.contains_key(&Name::new(name));
+    let is_borne = |name: &[u8]| here.named.contains_key(&Name::new(name));
     if is_borne(first) || second.is_some_and(|second| is_borne(second) || second == first) {
         return [true; 3];
     }
@@ -196,7 +197,7 @@ impl Traits {
 
     fn add_call(&mut self, s: &Schema, call: &Call) {
         let is_nearly =
-            |here: &Sds, name: &[u8]| here.presences.keys().any(|kept| only_difference(kept, name).is_some());
+            |here: &Sds, name: &[u8]| here.named.keys().any(|kept| only_difference(kept, name).is_some());
         match call {
             Call::NewSds { name } => {
                 let borne = s.sdss.iter().find(|(_, sds)| is_respelt(&sds.name, &name.0));
@@ -361,14 +362,19 @@ const STEMS: [&str; 32] = [
 /// A schema as removals have it, with names in any spelling.
 pub fn draw(random: &mut Random) -> Schema {
     let mut s = removals::draw(random);
+    rename_all(random, &mut s);
+    s
+}
+
+/// Gives such names to all SDSs but SDS 0, and to all that has a name in them.
+pub fn rename_all(random: &mut Random, s: &mut Schema) {
     let mut sds_names = random.shuffled(STEMS.to_vec()).into_iter();
     for (_, here) in s.sdss.range_mut(1..) {
         let name = sds_names.next().expect("more than SDSs");
         here.name = Name(random.spelt(name.as_bytes()));
         let names = random.shuffled(STEMS.to_vec()).into_iter().map(|stem| Name(random.spelt(stem.as_bytes())));
-        here.presences = names.zip(here.presences.values().copied()).collect();
+        here.named = names.zip(here.named.values().copied()).collect();
     }
-    s
 }
 
 /// A call that gives names, most of them those of something there in another spelling.
@@ -434,7 +440,7 @@ fn as_given(random: &mut Random, name: &[u8]) -> Vec<u8> {
 /// The name of a type of the kind in the SDS, if there is one.
 fn there(random: &mut Random, s: &Schema, here: &Sds, is_wanted: fn(&Schema, usize) -> bool) -> Vec<u8> {
     let names: Vec<&Name> =
-        here.presences.iter().filter(|(_, present)| is_wanted(s, present.ty)).map(|(name, _)| name).collect();
+        here.named.iter().filter(|(_, present)| is_wanted(s, present.ty)).map(|(name, _)| name).collect();
     match random.pick(&names) {
         Some(name) => as_given(random, name),
         None => free_name(random, here),
@@ -450,9 +456,10 @@ fn two_there(
     kinds: [fn(&Schema, usize) -> bool; 2],
 ) -> [Text; 2] {
     let names = match random.pick(joined) {
-        Some(types) if random.one_in(2) => {
-            types.map(|ty| as_given(random, here.name_of(ty).expect("what is joined is present")))
-        }
+        Some(types) if random.one_in(2) => types.map(|ty| match here.name_of(ty) {
+            Some(name) => as_given(random, name),
+            None => free_name(random, here),
+        }),
         _ => kinds.map(|kind| there(random, s, here, kind)),
     };
     names.map(Text)
@@ -467,7 +474,7 @@ pub fn free_name(random: &mut Random, here: &Sds) -> Vec<u8> {
 
 /// A name that a type in the SDS bears in another spelling.
 fn taken_name(random: &mut Random, here: &Sds) -> Vec<u8> {
-    let names: Vec<&Name> = here.presences.keys().collect();
+    let names: Vec<&Name> = here.named.keys().collect();
     match random.pick(&names) {
         Some(name) => random.respelt(name),
         None => free_name(random, here),
@@ -507,7 +514,7 @@ fn new_sds_name(random: &mut Random, s: &Schema) -> Vec<u8> {
 /// One or two object types; one of them once more at times.
 fn parents(random: &mut Random, s: &Schema, here: &Sds) -> Vec<u8> {
     let names: Vec<&Name> =
-        here.presences.iter().filter(|(_, present)| s.is_object(present.ty)).map(|(name, _)| name).collect();
+        here.named.iter().filter(|(_, present)| s.is_object(present.ty)).map(|(name, _)| name).collect();
     let count = 1 + random.below(2);
     let names: Vec<&Name> = random.shuffled(names).into_iter().take(count).collect();
     let mut run: Vec<Vec<u8>> = names.iter().map(|name| as_given(random, name)).collect();

@@ -4,9 +4,10 @@
 #![forbid(unsafe_code)]
 
 use crate::base::{
-    from_bytes, is_used, presence_key, to_bytes, Table, APPLICATIONS, ENDS, LENGTH, PRESENCES, SDSS, TYPES, USAGE,
+    is_used, presence_key, to_bytes, Table, APPLICATIONS, ENDS, LENGTH, PRESENCES, SDSS, TYPE, TYPES, USAGE,
 };
 use crate::modes;
+use crate::nameless::{self, nameless, take_name};
 use crate::random::{Random, BESIDE_LETTERS, CASE};
 use crate::schema::{Application, End, Modes, Name, Presence, Schema, Sds, Side, Type};
 use std::collections::BTreeSet;
@@ -17,7 +18,7 @@ pub enum Way {
     Schema(fn(&mut Random, &mut Schema)),
 }
 
-pub const WAYS: [(&str, Way); 63] = [
+pub const WAYS: [(&str, Way); 86] = [
     ("wrong length", Way::Length(wrong_length)),
     ("flipped bit", Way::Layout(flipped_bit)),
     ("changed byte of a row", Way::Layout(changed_byte)),
@@ -81,10 +82,33 @@ pub const WAYS: [(&str, Way); 63] = [
     ("two pairs crossed", Way::Schema(two_pairs_crossed)),
     ("pair otherwise in each SDS", Way::Schema(pair_otherwise_in_each_sds)),
     ("one of a pair as elsewhere", Way::Schema(one_of_a_pair_as_elsewhere)),
+    ("nameless attribute type", Way::Schema(nameless_attribute_type)),
+    ("nameless link type", Way::Schema(nameless_link_type)),
+    ("nameless pair", Way::Schema(nameless_pair)),
+    ("nameless in SDS 0", Way::Schema(nameless_in_sds_0)),
+    ("nameless of an unused type", Way::Schema(nameless_of_an_unused_type)),
+    ("nameless and named", Way::Schema(nameless_and_named)),
+    ("nameless, modes of 32", Way::Schema(nameless_of_unknown_modes)),
+    ("nameless rows swapped", Way::Layout(nameless_rows_swapped)),
+    ("nameless behind a named", Way::Layout(nameless_behind_a_named)),
+    ("nameless row doubled", Way::Layout(nameless_row_doubled)),
+    ("nameless twice, other modes", Way::Layout(nameless_twice)),
+    ("stray byte, nameless", Way::Layout(stray_byte)),
+    ("gap behind nameless", Way::Layout(gap_behind_nameless)),
+    ("nameless row emptied", Way::Layout(nameless_row_emptied)),
+    ("name made blank in place", Way::Layout(name_made_blank_in_place)),
+    ("nameless ancestor missing", Way::Schema(nameless_ancestor_missing)),
+    ("named ancestor missing", Way::Schema(named_ancestor_missing)),
+    ("full, last rows swapped", Way::Layout(full_and_last_rows_swapped)),
+    ("full of presences", Way::Schema(full_of_presences)),
+    ("name taken away", Way::Schema(name_taken_away)),
+    ("every object type nameless", Way::Schema(every_object_type_nameless)),
+    ("modes of a nameless type", Way::Schema(modes_of_a_nameless_type)),
+    ("nameless type joined", Way::Schema(nameless_type_joined)),
 ];
 
-/// The ways that spoil spellings or modes, and whether a base stays sound.
-pub const EXPECTED: [(&str, bool); 25] = [
+/// The ways that spoil spellings, modes or nameless presences, and whether a base stays sound.
+pub const EXPECTED: [(&str, bool); 48] = [
     ("both spellings of a name", false),
     ("both spellings, falling", false),
     ("both spellings, by bytes", false),
@@ -110,16 +134,39 @@ pub const EXPECTED: [(&str, bool); 25] = [
     ("two pairs crossed", false),
     ("pair otherwise in each SDS", true),
     ("one of a pair as elsewhere", false),
+    ("nameless attribute type", false),
+    ("nameless link type", false),
+    ("nameless pair", false),
+    ("nameless in SDS 0", false),
+    ("nameless of an unused type", false),
+    ("nameless and named", false),
+    ("nameless, modes of 32", false),
+    ("nameless rows swapped", false),
+    ("nameless behind a named", false),
+    ("nameless row doubled", false),
+    ("nameless twice, other modes", false),
+    ("stray byte, nameless", false),
+    ("gap behind nameless", false),
+    ("nameless row emptied", false),
+    ("name made blank in place", false),
+    ("nameless ancestor missing", false),
+    ("named ancestor missing", false),
+    ("full, last rows swapped", false),
+    ("full of presences", true),
+    ("name taken away", true),
+    ("every object type nameless", true),
+    ("modes of a nameless type", true),
+    ("nameless type joined", true),
 ];
 
-/// A sound base spoiled in the way.
-pub fn spoiled(way: &Way, random: &mut Random, base: &[u8]) -> Vec<u8> {
+/// A sound base, that of the schema, spoiled in the way.
+pub fn spoiled(way: &Way, random: &mut Random, base: &[u8], schema: &Schema) -> Vec<u8> {
     let mut spoiled = base.to_vec();
     match way {
         Way::Length(wrong) => spoiled.resize(wrong(random), 0),
         Way::Layout(spoil) => spoil(random, &mut spoiled),
         Way::Schema(spoil) => {
-            let mut schema = from_bytes(base).expect("a sound base");
+            let mut schema = schema.clone();
             spoil(random, &mut schema);
             spoiled = to_bytes(&schema);
         }
@@ -152,6 +199,11 @@ fn row_where<'a>(
 ) -> Option<&'a mut [u8]> {
     let number = random.pick(&rows_where(base, table, is_wanted))?;
     Some(table.row(base, number))
+}
+
+/// Whether the row of a presence has a name.
+fn is_named(row: &[u8]) -> bool {
+    row[1] != 0
 }
 
 fn used_rows(base: &[u8], table: Table) -> Vec<Vec<u8>> {
@@ -343,7 +395,8 @@ fn row_of_an_unused_sds(random: &mut Random, base: &mut [u8]) {
 
 fn same_name_twice(random: &mut Random, base: &mut [u8]) {
     let mut rows = used_rows(base, PRESENCES);
-    if let Some(at) = random.pick(&(1..rows.len()).collect::<Vec<_>>()) {
+    let named: Vec<usize> = (1..rows.len()).filter(|&at| is_named(&rows[at - 1])).collect();
+    if let Some(at) = random.pick(&named) {
         let before = rows[at - 1].clone();
         rows[at][..=Schema::NAME].copy_from_slice(&before[..=Schema::NAME]);
         rows.sort_by_key(|row| presence_key(row));
@@ -354,8 +407,8 @@ fn same_name_twice(random: &mut Random, base: &mut [u8]) {
 /// Two neighbours in an SDS get one name in two spellings. The rows, and where the two stand; none if there are none.
 fn rows_with_both_spellings(random: &mut Random, base: &[u8]) -> Option<(Vec<Vec<u8>>, usize)> {
     let mut rows = used_rows(base, PRESENCES);
-    let firsts: Vec<usize> =
-        (1..rows.len()).filter(|&at| rows[at - 1][0] == rows[at][0]).map(|at| at - 1).collect();
+    let can_be = |at: &usize| rows[at - 1][0] == rows[*at][0] && is_named(&rows[at - 1]);
+    let firsts: Vec<usize> = (1..rows.len()).filter(can_be).map(|at| at - 1).collect();
     let first = random.pick(&firsts)?;
     let name = rows[first + random.below(2)][1..][..Schema::NAME].to_vec();
     let mut names = [random.respelt(&name), name];
@@ -419,7 +472,7 @@ fn name_where<'a>(random: &mut Random, base: &'a mut [u8], is_of_sds_0: bool) ->
         let number = random.pick(&numbers.collect::<Vec<_>>())?;
         Some(SDSS.row(base, number))
     } else {
-        let row = row_where(random, base, PRESENCES, |row| (row[0] == 0) == is_of_sds_0)?;
+        let row = row_where(random, base, PRESENCES, |row| (row[0] == 0) == is_of_sds_0 && is_named(row))?;
         Some(&mut row[1..][..Schema::NAME])
     }
 }
@@ -506,10 +559,6 @@ fn present(sds: &Sds, is_wanted: impl Fn(usize) -> bool) -> Vec<usize> {
     sds.types().filter(|&ty| is_wanted(ty)).collect()
 }
 
-fn drop_presence(sds: &mut Sds, ty: usize) {
-    sds.presences.retain(|_, present| present.ty != ty);
-}
-
 /// Puts `parent` among the parents, in the place of another if there are 4.
 fn put_parent(schema: &mut Schema, ty: usize, parent: usize) {
     if let Some(Type::Object { parents }) = schema.types.get_mut(&ty) {
@@ -555,7 +604,7 @@ fn ring_of_any_length(random: &mut Random, schema: &mut Schema) {
             parents.insert(0);
         }
         schema.types.insert(ty, Type::Object { parents });
-        sds.presences.insert(Name::new(format!("type_{ty}")), Presence::of(ty));
+        sds.named.insert(Name::new(format!("type_{ty}")), Presence::of(ty));
     }
     schema.sdss.insert(1, sds);
 }
@@ -592,7 +641,7 @@ fn missing_parent(random: &mut Random, schema: &mut Schema) {
         let parents: Vec<usize> = schema.parents(ty).into_iter().collect();
         let parent = random.pick(&parents).expect("only type 0 has none");
         if let Some(sds) = sds_where(random, schema, |sds| sds.holds(ty)) {
-            drop_presence(sds, parent);
+            sds.take_away(parent);
         }
     }
 }
@@ -612,7 +661,7 @@ fn no_parent_in_one_more_sds(random: &mut Random, schema: &mut Schema) {
         .collect();
     if let Some((number, ty)) = random.pick(&orphans) {
         let sds = schema.sdss.get_mut(&number).expect("a used SDS");
-        sds.presences.insert(Name::new("orphan"), Presence::of(ty));
+        sds.named.insert(Name::new("orphan"), Presence::of(ty));
     }
 }
 
@@ -648,7 +697,7 @@ fn missing_reverse(random: &mut Random, schema: &mut Schema) {
     let reversed = types_where(schema, |ty| schema.reverse(ty).is_some());
     let Some(ty) = random.pick(&reversed) else { return };
     if let Some(sds) = sds_where(random, schema, |sds| sds.holds(ty)) {
-        drop_presence(sds, ty);
+        sds.take_away(ty);
     }
 }
 
@@ -656,9 +705,9 @@ fn type_twice(random: &mut Random, schema: &mut Schema) {
     if schema.presence_count() == Schema::PRESENCES {
         return;
     }
-    if let Some(sds) = sds_where(random, schema, |sds| !sds.presences.is_empty()) {
+    if let Some(sds) = sds_where(random, schema, |sds| !sds.is_empty()) {
         let ty = random.pick(&present(sds, |_| true)).expect("there is one");
-        sds.presences.insert(Name::new("twice"), Presence::of(ty));
+        sds.named.insert(Name::new("twice"), Presence::of(ty));
     }
 }
 
@@ -671,9 +720,9 @@ fn type_present_nowhere(random: &mut Random, schema: &mut Schema) {
 
 fn presence_of_an_unused_type(random: &mut Random, schema: &mut Schema) {
     let unused = unused_type(random, schema);
-    if let Some(sds) = sds_where(random, schema, |sds| !sds.presences.is_empty()) {
-        let names: Vec<Name> = sds.presences.keys().cloned().collect();
-        sds.presences.insert(random.pick(&names).expect("there is one"), Presence::of(unused));
+    if let Some(sds) = sds_where(random, schema, |sds| !sds.named.is_empty()) {
+        let names: Vec<Name> = sds.named.keys().cloned().collect();
+        sds.named.insert(random.pick(&names).expect("there is one"), Presence::of(unused));
     }
 }
 
@@ -758,9 +807,9 @@ fn sds_0_changed(random: &mut Random, schema: &mut Schema) {
     let system = schema.sdss.get_mut(&0).expect("a used SDS");
     match (random.below(8), random.pick(&used)) {
         (0, _) => system.name = Name::new("systems"),
-        (1, _) => system.presences = [(Name::new("objects"), Presence::of(0))].into(),
-        (2, _) => system.presences.clear(),
-        (3, Some(ty)) if has_presence => _ = system.presences.insert(Name::new("other"), Presence::of(ty)),
+        (1, _) => system.named = [(Name::new("objects"), Presence::of(0))].into(),
+        (2, _) => system.named.clear(),
+        (3, Some(ty)) if has_presence => _ = system.named.insert(Name::new("other"), Presence::of(ty)),
         (4, Some(link)) if has_end => _ = system.ends.insert(End { link, side: Side::Origin, object: 0 }),
         (5, Some(parent)) => put_parent(schema, 0, parent),
         (6, _) => _ = schema.types.insert(0, Type::Attribute { value_kind: 0 }),
@@ -774,7 +823,7 @@ fn two_sdss_of_one_name(random: &mut Random, schema: &mut Schema) {
     let used: Vec<usize> = schema.sdss.keys().copied().collect();
     let number = if random.one_in(2) { random.pick(&used) } else { Some(random.below(Schema::SDSS)) };
     let number = number.expect("there is SDS 0");
-    schema.sdss.entry(number).or_insert(Sds::named(b"")).name = name;
+    schema.sdss.entry(number).or_insert(Sds::new(b"")).name = name;
 }
 
 /// An SDS other than SDS 0, or one that was not used, gets the name of another in another spelling.
@@ -784,20 +833,21 @@ fn two_sdss_in_two_spellings(random: &mut Random, schema: &mut Schema) {
     let name = Name(random.respelt(&schema.sdss[&other].name));
     let numbers: Vec<usize> = (1..Schema::SDSS).filter(|&sds| sds != other).collect();
     let number = random.pick(&numbers).expect("there are many");
-    schema.sdss.entry(number).or_insert(Sds::named(b"")).name = name;
+    schema.sdss.entry(number).or_insert(Sds::new(b"")).name = name;
 }
 
+/// A blank one is none, where an object type may go without: that can leave the base sound.
 fn malformed_name(random: &mut Random, schema: &mut Schema) {
     let malformed: [&[u8]; 9] = [b"", b"0a", b"_", b"a b", b"a\0b", b"a-", b"{", b"\x80", b"abcdefghijklmno."];
     let malformed = Name::new(malformed[random.below(malformed.len())]);
-    if let Some(sds) = sds_where(random, schema, |sds| !sds.presences.is_empty()) {
+    if let Some(sds) = sds_where(random, schema, |sds| !sds.named.is_empty()) {
         if random.one_in(3) {
             sds.name = malformed;
         } else {
-            let names: Vec<Name> = sds.presences.keys().cloned().collect();
+            let names: Vec<Name> = sds.named.keys().cloned().collect();
             let name = random.pick(&names).expect("there is one");
-            let present = sds.presences.remove(&name).expect("it is borne");
-            sds.presences.insert(malformed, present);
+            let present = sds.named.remove(&name).expect("it is borne");
+            sds.named.insert(malformed, present);
         }
     }
 }
@@ -916,7 +966,7 @@ fn many_pairs(random: &mut Random) -> Schema {
     let sdss: Vec<usize> = random.shuffled((1..Schema::SDSS).collect());
     let count = 2 + random.below(5);
     for (place, &sds) in sdss[..count].iter().enumerate() {
-        let mut here = Sds::named(format!("sds{sds}").as_bytes());
+        let mut here = Sds::new(format!("sds{sds}").as_bytes());
         let order = random.below(3);
         for (n, group) in groups.iter().enumerate() {
             // Two hold every type, so that each pair is shared.
@@ -929,7 +979,7 @@ fn many_pairs(random: &mut Random) -> Schema {
                 _ => ["a", "b"].map(|last| format!("p{:04}_{n}{last}", random.below(10_000))),
             };
             let types = random.shuffled(group.clone());
-            here.presences.extend(names.map(Name::new).into_iter().zip(types.into_iter().map(Presence::of)));
+            here.named.extend(names.map(Name::new).into_iter().zip(types.into_iter().map(Presence::of)));
         }
         s.sdss.insert(sds, here);
     }
@@ -999,6 +1049,265 @@ fn one_of_a_pair_as_elsewhere(random: &mut Random, schema: &mut Schema) {
     let changed = if random.one_in(2) { vec![(one, modes[1])] } else { vec![(one, modes[1]), (other, modes[0])] };
     for (sds, modes) in changed {
         schema.sdss.get_mut(&sds).expect("a used SDS").set_modes(&types[..1], modes);
+    }
+}
+
+// Ways that spoil nameless presences (02, Q-8), some of which leave the base sound.
+
+/// Takes the names of presences away, of a type of the kind alone or with its reverse, in an SDS other than SDS 0.
+fn take_names(random: &mut Random, schema: &mut Schema, count: usize, is_wanted: fn(&Schema, usize) -> bool) {
+    if let Some((here, types, _)) = presence_where(random, schema, is_wanted) {
+        types.into_iter().take(count).for_each(|ty| take_name(here, ty));
+    }
+}
+
+fn nameless_attribute_type(random: &mut Random, schema: &mut Schema) {
+    take_names(random, schema, 1, Schema::is_attribute);
+}
+
+fn nameless_link_type(random: &mut Random, schema: &mut Schema) {
+    take_names(random, schema, 1, Schema::is_link);
+}
+
+fn nameless_pair(random: &mut Random, schema: &mut Schema) {
+    take_names(random, schema, 2, is_paired);
+}
+
+/// Type 0 has no name there, or another object type comes in without one.
+fn nameless_in_sds_0(random: &mut Random, schema: &mut Schema) {
+    let objects = types_where(schema, |ty| ty != 0 && schema.parents(ty) == [0].into());
+    let has_room = schema.presence_count() < Schema::PRESENCES;
+    let system = schema.sdss.get_mut(&0).expect("a used SDS");
+    match random.pick(&objects) {
+        Some(ty) if has_room && random.one_in(2) => _ = system.nameless.insert(ty, Modes::ALL),
+        _ => take_name(system, 0),
+    }
+}
+
+/// An SDS other than SDS 0 in which a type is nameless, to be changed, and one such type.
+fn nameless_where<'a>(random: &mut Random, schema: &'a mut Schema) -> Option<(&'a mut Sds, usize)> {
+    let (sds, ty) = random.pick(&nameless(schema).into_iter().collect::<Vec<_>>())?;
+    Some((schema.sdss.get_mut(&sds)?, ty))
+}
+
+/// In the place of one that is used.
+fn nameless_of_an_unused_type(random: &mut Random, schema: &mut Schema) {
+    let unused = unused_type(random, schema);
+    let used = schema.clone();
+    if let Some((here, ty)) = nameless_where(random, schema) {
+        let modes = here.modes_of(ty).unwrap_or(Modes::ALL);
+        if used.children(ty).is_empty() {
+            here.nameless.remove(&ty);
+        } else if used.presence_count() == Schema::PRESENCES {
+            return;
+        }
+        here.nameless.insert(unused, modes);
+    }
+}
+
+/// A type has two presences in an SDS, of which one has no name.
+fn nameless_and_named(random: &mut Random, schema: &mut Schema) {
+    if schema.presence_count() == Schema::PRESENCES {
+        return;
+    }
+    if random.one_in(2) {
+        if let Some((here, ty)) = nameless_where(random, schema) {
+            here.named.insert(Name::new("twice"), Presence::of(ty));
+        }
+    } else if let Some((here, types, modes)) = presence_where(random, schema, Schema::is_object) {
+        here.nameless.insert(types[0], modes);
+        here.named.insert(Name::new("twice"), Presence::of(types[0]));
+    }
+}
+
+fn nameless_of_unknown_modes(random: &mut Random, schema: &mut Schema) {
+    let unknown = unknown_set(random);
+    if let Some((here, ty)) = nameless_where(random, schema) {
+        let modes = match random.below(2) {
+            0 => Modes { usage: unknown, ..Modes::ALL },
+            _ => Modes { definition: unknown, ..Modes::ALL },
+        };
+        here.nameless.insert(ty, modes);
+    }
+}
+
+/// The rows of presences, and the places among them of nameless ones for which `is_wanted` holds, by the next row.
+fn nameless_rows(base: &[u8], is_wanted: fn(&[u8], Option<&Vec<u8>>) -> bool) -> (Vec<Vec<u8>>, Vec<usize>) {
+    let rows = used_rows(base, PRESENCES);
+    let is_so = |at: &usize| !is_named(&rows[*at]) && is_wanted(&rows[*at], rows.get(at + 1));
+    let places = (0..rows.len()).filter(is_so).collect();
+    (rows, places)
+}
+
+/// Two neighbours that should stand by type.
+fn nameless_rows_swapped(random: &mut Random, base: &mut [u8]) {
+    let (mut rows, places) =
+        nameless_rows(base, |row, next| next.is_some_and(|next| next[0] == row[0] && !is_named(next)));
+    if let Some(at) = random.pick(&places) {
+        rows.swap(at, at + 1);
+        put_rows(base, PRESENCES, &rows);
+    }
+}
+
+/// Behind the first of its SDS that is named, or the last.
+fn nameless_behind_a_named(random: &mut Random, base: &mut [u8]) {
+    let (mut rows, places) = nameless_rows(base, |_, _| true);
+    let named = |row: &Vec<u8>| rows.iter().filter(|other| other[0] == row[0] && is_named(other)).count();
+    let places: Vec<usize> = places.into_iter().filter(|&at| named(&rows[at]) > 0).collect();
+    if let Some(at) = random.pick(&places) {
+        let count = if random.one_in(2) { 1 } else { named(&rows[at]) };
+        let row = rows.remove(at);
+        let first = rows.iter().position(|other| other[0] == row[0] && is_named(other)).expect("tested above");
+        rows.insert(first + count, row);
+        put_rows(base, PRESENCES, &rows);
+    }
+}
+
+fn nameless_row_doubled(random: &mut Random, base: &mut [u8]) {
+    let (mut rows, places) = nameless_rows(base, |_, _| true);
+    if let Some(at) = random.pick(&places).filter(|_| rows.len() < PRESENCES.rows) {
+        rows.insert(at, rows[at].clone());
+        put_rows(base, PRESENCES, &rows);
+    }
+}
+
+/// The modes of the second are other ones, at times rising.
+fn nameless_twice(random: &mut Random, base: &mut [u8]) {
+    let (mut rows, places) = nameless_rows(base, |_, _| true);
+    if let Some(at) = random.pick(&places).filter(|_| rows.len() < PRESENCES.rows) {
+        let mut again = rows[at].clone();
+        again[USAGE] ^= 1 << random.below(5);
+        rows.insert(at + random.below(2), again);
+        put_rows(base, PRESENCES, &rows);
+    }
+}
+
+/// A byte of the field of a nameless type that is not the first: of a name, or any.
+fn stray_byte(random: &mut Random, base: &mut [u8]) {
+    if let Some(row) = row_where(random, base, PRESENCES, |row| !is_named(row)) {
+        let at = if random.one_in(4) { Schema::NAME } else { 2 + random.below(Schema::NAME - 1) };
+        row[at] = if random.one_in(2) { b'a' } else { 1 + random.byte() % 255 };
+    }
+}
+
+fn gap_behind_nameless(random: &mut Random, base: &mut [u8]) {
+    let (mut rows, places) = nameless_rows(base, |_, next| next.is_some());
+    if let Some(at) = random.pick(&places).filter(|_| rows.len() < PRESENCES.rows) {
+        rows.insert(at + 1, vec![0; PRESENCES.width]);
+        put_rows(base, PRESENCES, &rows);
+    }
+}
+
+/// A gap in its place; the last row would leave none.
+fn nameless_row_emptied(random: &mut Random, base: &mut [u8]) {
+    let (mut rows, places) = nameless_rows(base, |_, next| next.is_some());
+    if let Some(at) = random.pick(&places) {
+        rows[at].fill(0);
+        put_rows(base, PRESENCES, &rows);
+    }
+}
+
+/// An object type's, and where the row would have to stand elsewhere.
+fn name_made_blank_in_place(random: &mut Random, base: &mut [u8]) {
+    let mut rows = used_rows(base, PRESENCES);
+    let is_object = |row: &[u8]| TYPES.rows(base).nth(row[TYPE].into()).is_some_and(|ty| ty[0] == 1);
+    let is_behind =
+        |row: &[u8], before: &[u8]| before[0] == row[0] && (is_named(before) || before[TYPE] > row[TYPE]);
+    let can_be = |at: &usize| is_named(&rows[*at]) && is_object(&rows[*at]) && is_behind(&rows[*at], &rows[at - 1]);
+    if let Some(at) = random.pick(&(1..rows.len()).filter(can_be).collect::<Vec<_>>()) {
+        rows[at][1..TYPE].fill(0);
+        put_rows(base, PRESENCES, &rows);
+    }
+}
+
+/// A presence goes that has a child there.
+fn ancestor_missing(random: &mut Random, schema: &mut Schema, is_wanted: fn(&Sds, usize) -> bool) {
+    let has_child = |here: &Sds, ty: usize| schema.children(ty).into_iter().any(|child| here.holds(child));
+    let all = schema.sdss.range(1..).flat_map(|(&sds, here)| {
+        present(here, |ty| is_wanted(here, ty) && has_child(here, ty)).into_iter().map(move |ty| (sds, ty))
+    });
+    if let Some((sds, ty)) = random.pick(&all.collect::<Vec<_>>()) {
+        let here = schema.sdss.get_mut(&sds).expect("a used SDS");
+        here.take_away(ty);
+        // Nothing else is wrong.
+        here.applications.retain(|application| application.to != ty);
+        here.ends.retain(|end| end.object != ty);
+    }
+}
+
+fn nameless_ancestor_missing(random: &mut Random, schema: &mut Schema) {
+    ancestor_missing(random, schema, |here, ty| here.nameless.contains_key(&ty));
+}
+
+fn named_ancestor_missing(random: &mut Random, schema: &mut Schema) {
+    ancestor_missing(random, schema, |here, ty| here.name_of(ty).is_some());
+}
+
+/// Another schema. The base stays sound.
+fn full_of_presences(random: &mut Random, schema: &mut Schema) {
+    *schema = nameless::full(random);
+}
+
+/// The same, but that its last two rows, of nameless types, stand the other way round.
+fn full_and_last_rows_swapped(random: &mut Random, base: &mut [u8]) {
+    let last = PRESENCES.rows - 1;
+    let mut rows = loop {
+        base.copy_from_slice(&to_bytes(&nameless::full(random)));
+        let rows = used_rows(base, PRESENCES);
+        if rows[last - 1][0] == rows[last][0] {
+            break rows;
+        }
+    };
+    rows.swap(last - 1, last);
+    put_rows(base, PRESENCES, &rows);
+}
+
+/// The SDSs other than SDS 0 and the object types that have a name there.
+fn named_objects(schema: &Schema) -> Vec<(usize, usize)> {
+    let sdss = schema.sdss.range(1..);
+    let named = sdss.flat_map(|(&sds, here)| here.named.values().map(move |present| (sds, present.ty)));
+    named.filter(|&(_, ty)| schema.is_object(ty)).collect()
+}
+
+/// The row is moved to its place: the base stays sound.
+fn name_taken_away(random: &mut Random, schema: &mut Schema) {
+    if let Some((sds, ty)) = random.pick(&named_objects(schema)) {
+        take_name(schema.sdss.get_mut(&sds).expect("a used SDS"), ty);
+    }
+}
+
+/// The base stays sound.
+fn every_object_type_nameless(_: &mut Random, schema: &mut Schema) {
+    for (sds, ty) in named_objects(schema) {
+        take_name(schema.sdss.get_mut(&sds).expect("a used SDS"), ty);
+    }
+}
+
+/// The base stays sound.
+fn modes_of_a_nameless_type(random: &mut Random, schema: &mut Schema) {
+    if let Some((here, ty)) = nameless_where(random, schema) {
+        let modes = here.modes_of(ty).expect("it is held");
+        here.nameless.insert(ty, other_modes(random, modes));
+    }
+}
+
+/// An attribute type is applied to a nameless type, or that is an end of a link type. The base stays sound.
+fn nameless_type_joined(random: &mut Random, schema: &mut Schema) {
+    let has_room = [schema.application_count() < Schema::APPLICATIONS, schema.end_count() + 2 <= Schema::ENDS];
+    let joined = nameless(schema).into_iter().flat_map(|(sds, ty)| {
+        let others = present(&schema.sdss[&sds], |other| !schema.is_object(other));
+        others.into_iter().map(move |other| (sds, ty, other))
+    });
+    let Some((sds, ty, other)) = random.pick(&joined.collect::<Vec<_>>()) else { return };
+    let (is_attribute, reverse) = (schema.is_attribute(other), schema.reverse(other));
+    let here = schema.sdss.get_mut(&sds).expect("a used SDS");
+    if is_attribute && has_room[0] {
+        here.applications.insert(Application { to: ty, attribute: other });
+    } else if !is_attribute && has_room[1] {
+        let side = if random.one_in(2) { Side::Origin } else { Side::Destination };
+        let end = End { link: other, side, object: ty };
+        here.ends.insert(end);
+        here.ends.extend(reverse.map(|reverse| end.mirror(reverse)));
     }
 }
 

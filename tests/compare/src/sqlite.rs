@@ -72,9 +72,10 @@ fn rows(schema: &Schema, list: &[u8]) -> String {
         }
     }
     for (number, sds) in &schema.sdss {
-        for (name, present) in &sds.presences {
+        for (name, present) in &sds.named {
             insert("presence", format!("{number}, '{}', {}", name.escape_ascii(), present.ty));
         }
+        assert!(sds.nameless.is_empty(), "a name is part of the key of that table");
         for application in &sds.applications {
             insert("application", format!("{number}, {}, {}", application.to, application.attribute));
         }

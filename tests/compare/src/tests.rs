@@ -8,6 +8,7 @@ use crate::cases::printed;
 use crate::coverage::{Counts, Traits};
 use crate::joins;
 use crate::modes::{self, Gone};
+use crate::nameless::{self, take_name, Since};
 use crate::random::{free_places, Mode, Random};
 use crate::removals::{self, traits};
 use crate::run::Run;
@@ -75,8 +76,16 @@ fn remove_type(sds: usize, name: &str) -> Call {
     Call::RemoveType { sds, name: name.into() }
 }
 
+fn remove_number(sds: usize, ty: usize) -> Call {
+    Call::RemoveNumber { sds, ty }
+}
+
 fn rename(sds: usize, name: &str, new_name: &str) -> Call {
     Call::Rename { sds, name: name.into(), new_name: new_name.into() }
+}
+
+fn rename_number(sds: usize, ty: usize, new_name: &str) -> Call {
+    Call::RenameNumber { sds, ty, new_name: new_name.into() }
 }
 
 fn set_modes(sds: usize, name: &str, usage: usize, definition: usize) -> Call {
@@ -246,7 +255,7 @@ fn refused_calls() -> Vec<(usize, Call)> {
         (7, import(2, 1, "sees", "", "new")),
         (9, import(2, 1, "size", "thing", "")),
         (9, import(1, 1, "has", "unit", "unit")),
-        (10, import(2, 1, "part", "thing", "")),
+        (11, import(2, 1, "part", "thing", "")),
         (11, import(2, 1, "unit", "", "")),
         (11, import(2, 1, "has", "unit", "")),
         (11, import(2, 1, "has", "", "unit")),
@@ -310,6 +319,23 @@ fn refused_calls() -> Vec<(usize, Call)> {
         (4, rename(1, "", "unit")),
         (6, rename(1, "nope", "unit")),
         (11, rename(1, "part", "unit")),
+        (2, remove_number(16, 128)),
+        (2, remove_number(4, 0)),
+        (3, remove_number(0, 128)),
+        (3, remove_number(0, 0)),
+        (6, remove_number(1, 128)),
+        (6, remove_number(2, UNIT)),
+        (6, remove_number(3, 0)),
+        (2, rename_number(16, 128, "0")),
+        (2, rename_number(4, 0, "new")),
+        (3, rename_number(0, 128, "0")),
+        (3, rename_number(0, 0, "object")),
+        (4, rename_number(1, 128, "0")),
+        (4, rename_number(1, UNIT, "")),
+        (6, rename_number(1, 128, "unit")),
+        (6, rename_number(2, UNIT, "thing")),
+        (11, rename_number(1, PART, "unit")),
+        (11, rename_number(2, SIZE, "Thing")),
         (2, set_modes(16, "0", 32, 32)),
         (2, set_modes(4, "unit", 0, 0)),
         (3, set_modes(0, "0", 32, 32)),
@@ -392,6 +418,11 @@ fn telling_calls() -> Vec<(usize, usize, Call)> {
         (17, UNIT, remove_type(1, "size")),
         (18, UNIT, remove_type(1, "has")),
         (18, UNIT, remove_type(1, "of")),
+        (16, UNIT, remove_number(1, 0)),
+        (16, PART, remove_number(1, UNIT)),
+        (17, UNIT, remove_number(1, SIZE)),
+        (18, UNIT, remove_number(1, HAS)),
+        (18, UNIT, remove_number(1, 6)),
     ]
 }
 
@@ -548,7 +579,9 @@ fn numbers_are_tested_at_full_width() {
             add_destination(1 + over, "has", "part"),
             remove_destination(1 + over, "of", "unit"),
             remove_type(1 + over, "part"),
+            remove_number(1 + over, PART),
             rename(1 + over, "part", "part"),
+            rename_number(1 + over, PART, "part"),
             name(1 + over, UNIT),
             set_modes(1 + over, "unit", 1, 1),
         ] {
@@ -569,6 +602,8 @@ fn numbers_are_tested_at_full_width() {
             profile(&[1], UNIT + over),
             depth(&[1], UNIT + over),
             name(1, UNIT + over),
+            remove_number(1, PART + over),
+            rename_number(1, PART + over, "part"),
             descendant_set(&[1], UNIT + over),
             modes(&[1], UNIT + over),
         ] {
@@ -1181,7 +1216,7 @@ fn which_names_are_the_same() {
 #[test]
 fn every_drawn_schema_is_sound() {
     let mut random = Random::new(1);
-    for draw in [removals::draw, spellings::draw, modes::draw, joins::draw] {
+    for draw in [removals::draw, spellings::draw, modes::draw, nameless::draw, nameless::full, joins::draw] {
         for s in (0..200).map(|_| draw(&mut random)) {
             assert!(is_sound(&to_bytes(&s)));
         }
@@ -1216,7 +1251,7 @@ fn taken_in_another_spelling() {
         (11, import(2, 1, "has", "New", "new")),
         (0, import(2, 1, "has", "OF", "HAS")),
         (9, import(2, 1, "SIZE", "", "")),
-        (10, import(2, 1, "Part", "", "")),
+        (0, import(2, 1, "Part", "", "")),
         (11, rename(1, "Part", "UNIT")),
         (0, rename(1, "Part", "PARTS")),
         (8, new_object(1, "new", "Unit unit")),
@@ -1561,6 +1596,328 @@ fn traits_of_modes() {
     has_traits(import(2, 1, "size", "", ""), &["0, of fewer"]);
 }
 
+// Nameless presences (02, Q-8).
+
+/// SDS 1 holds unit 1, box 2, lid 3 and cap 4, one below the other, and mass 5; SDSs 2 and 3 hold nothing.
+fn chained_base() -> Lent {
+    let mut lent = Lent::fresh();
+    for call in [
+        new_sds("one"),
+        new_sds("two"),
+        new_sds("three"),
+        import(1, 0, "object", "", ""),
+        new_object(1, "unit", "object"),
+        new_object(1, "box", "unit"),
+        new_object(1, "lid", "box"),
+        new_object(1, "cap", "lid"),
+        new_attribute(1, "mass", 3),
+    ] {
+        lent.done(&call);
+    }
+    lent
+}
+
+const LID: usize = 3;
+const CAP: usize = 4;
+
+/// The rows of an SDS, each as its name and its type.
+fn rows_of(lent: &Lent, sds: u8) -> Vec<(String, u8)> {
+    let rows = PRESENCES.rows(&lent.0).filter(|row| row[0] == sds && row[1..].iter().any(|&byte| byte != 0));
+    let text = |field: &[u8]| String::from_utf8(field.to_vec()).expect("a name").trim_end_matches('\0').to_string();
+    rows.map(|row| (text(&row[1..17]), row[17])).collect()
+}
+
+fn are_rows(lent: &Lent, sds: u8, expected: &[(&str, u8)]) -> bool {
+    rows_of(lent, sds).iter().map(|(name, ty)| (name.as_str(), *ty)).eq(expected.iter().copied())
+}
+
+#[test]
+fn a_chain_comes_along() {
+    let mut lent = chained_base();
+    lent.done(&set_modes(1, "unit", 1, 2));
+    lent.done(&set_modes(1, "lid", 0, 0));
+    assert_eq!(lent.call(&import(2, 1, "cap", "", "")), [0, CAP, 0, 0]);
+    assert!(are_rows(&lent, 2, &[("", 0), ("", 1), ("", 2), ("", 3), ("cap", 4)]));
+    for ty in 0..=CAP {
+        assert_eq!(lent.call(&modes(&[2], ty)), [0, 31, 31, 0]);
+    }
+    assert_eq!(lent.call(&modes(&[1], LID)), [0; 4]);
+    // The field of a name stands one behind the row's start: row 7 is the first of SDS 2.
+    assert_eq!(lent.call(&name(2, 0)), [0, 1421, 0, 0]);
+    assert_eq!(lent.call(&name(2, LID)), [0, 1481, 0, 0]);
+    assert_eq!(lent.call(&name(2, CAP)), [0, 1501, 3, 0]);
+    // They are there, and no name means them.
+    assert_eq!(lent.list(&scan_object(&[2], CAP, 3)).1, [0, 1, 2, 3]);
+    assert_eq!(lent.list(&scan_object(&[2], 1, 1)).1, [2, 3, 4]);
+    assert_eq!(lent.list(&profile(&[2], LID)), ([3, 0, 0], vec![0, 1, 2]));
+    assert_eq!(lent.call(&depth(&[2], LID)), [0, 3, 0, 0]);
+    assert_eq!(lent.call(&descendant_set(&[2], 0)), [0, 0b11110, 0, 4]);
+    for call in [
+        (6, find(&[2], "lid")),
+        (4, find(&[2], "")),
+        (6, new_object(2, "new", "lid")),
+        (4, new_object(2, "new", "cap ")),
+        (6, remove_type(2, "lid")),
+        (6, rename(2, "lid", "new")),
+        (6, set_modes(2, "lid", 0, 0)),
+        (9, import(2, 1, "lid", "", "")),
+        (9, import(2, 1, "lid", "cap", "")),
+        (6, import(3, 2, "lid", "", "")),
+        (4, import(3, 2, "", "", "")),
+    ] {
+        assert_eq!(lent.number(&call.1), call.0, "{:?}", call.1);
+    }
+    assert_eq!(lent.done(&find(&[2, 1], "lid")), LID);
+}
+
+/// Each comes once: box and lid are of unit, cap of both, and gap, with the lowest number, of cap.
+#[test]
+fn a_diamond_comes_along() {
+    let mut lent = two_sdss();
+    for call in [
+        new_attribute(1, "low", 0),
+        new_object(1, "unit", "object"),
+        new_object(1, "box", "unit"),
+        new_object(1, "lid", "unit object"),
+        new_object(1, "cap", "box lid"),
+        remove_type(1, "low"),
+        new_object(1, "gap", "cap"),
+    ] {
+        lent.done(&call);
+    }
+    assert_eq!(lent.call(&import(2, 1, "gap", "", "")), [0, 1, 0, 0]);
+    assert!(are_rows(&lent, 2, &[("", 2), ("", 3), ("", 4), ("", 5), ("gap", 1), ("object", 0)]));
+    assert_eq!(lent.list(&scan_object(&[2], 1, 3)).1, [0, 2, 3, 4, 5]);
+}
+
+#[test]
+fn what_is_there_stays_as_it_is() {
+    let mut lent = chained_base();
+    lent.done(&import(2, 1, "box", "Case", ""));
+    lent.done(&set_modes(2, "case", 1, 0));
+    assert!(are_rows(&lent, 2, &[("", 0), ("", 1), ("Case", 2)]));
+    // Shared ancestors come with the first import, and above one that is there nothing is missing.
+    lent.done(&import(2, 1, "cap", "", ""));
+    assert!(are_rows(&lent, 2, &[("", 0), ("", 1), ("", 3), ("cap", 4), ("Case", 2)]));
+    assert_eq!(lent.call(&modes(&[2], 2)), [0, 1, 0, 0]);
+    // A type may have the name that one above it has in the source; a name that is taken lets nothing come.
+    lent.done(&import(3, 1, "box", "Object", ""));
+    assert!(are_rows(&lent, 3, &[("", 0), ("", 1), ("Object", 2)]));
+    assert_eq!(lent.number(&import(3, 1, "cap", "objecT", "")), 11);
+    assert!(are_rows(&lent, 3, &[("", 0), ("", 1), ("Object", 2)]));
+    lent.done(&import(3, 1, "cap", "unit", ""));
+    assert!(are_rows(&lent, 3, &[("", 0), ("", 1), ("", 3), ("Object", 2), ("unit", 4)]));
+    assert_eq!(lent.done(&find(&[3], "unit")), CAP);
+}
+
+/// As many places as it takes, and one less; what is there takes none.
+#[test]
+fn room_for_ancestors() {
+    for (free, there, number) in
+        [(4, "object", 0), (3, "object", 14), (3, "unit", 0), (2, "unit", 14), (1, "unit", 14)]
+    {
+        // Four types and what is there, with type 0, take so many.
+        let mut lent = full_presences(free + 5 + usize::from(there == "unit"));
+        lent.done(&new_sds("last"));
+        for call in [
+            new_object(1, "unit", "object"),
+            new_object(1, "box", "unit"),
+            new_object(1, "lid", "box"),
+            new_object(1, "cap", "lid"),
+            import(7, 1, there, "", ""),
+        ] {
+            lent.done(&call);
+        }
+        assert_eq!(Schema::PRESENCES - from_bytes(&lent.0).unwrap().presence_count(), free);
+        assert_eq!(lent.number(&import(7, 1, "cap", there, "")), 11);
+        assert_eq!(lent.number(&import(7, 1, "cap", "", "")), number, "{free} {there}");
+        assert_eq!(lent.number(&import(7, 1, "only_here", "", "")), if number == 0 { 14 } else { 0 });
+    }
+}
+
+#[test]
+fn named_by_its_number() {
+    let mut lent = chained_base();
+    lent.done(&import(2, 1, "cap", "", ""));
+    let before = lent.0.clone();
+    for (number, call) in [
+        (4, rename_number(2, LID, "")),
+        (4, rename_number(2, LID, "abcdefghijklmnopq")),
+        (6, rename_number(2, 5, "lid")),
+        (6, rename_number(3, LID, "lid")),
+        (11, rename_number(2, LID, "cap")),
+        (11, rename_number(2, LID, "CAP")),
+    ] {
+        assert_eq!(lent.number(&call), number, "{call:?}");
+    }
+    assert!(lent.0 == before);
+    assert_eq!(lent.call(&rename_number(2, LID, "Lid")), [0; 4]);
+    assert!(are_rows(&lent, 2, &[("", 0), ("", 1), ("", 2), ("cap", 4), ("Lid", 3)]));
+    assert_eq!(lent.done(&find(&[2], "LID")), LID);
+    lent.done(&set_modes(2, "lid", 3, 4));
+    // Its own name, the spelling alone, and another.
+    let before = lent.0.clone();
+    assert_eq!(lent.call(&rename_number(2, LID, "Lid")), [0; 4]);
+    assert!(lent.0 == before);
+    lent.done(&rename_number(2, LID, "LID"));
+    assert!(are_rows(&lent, 2, &[("", 0), ("", 1), ("", 2), ("cap", 4), ("LID", 3)]));
+    lent.done(&rename_number(2, LID, "abcdefghijklmnop"));
+    assert!(are_rows(&lent, 2, &[("", 0), ("", 1), ("", 2), ("abcdefghijklmnop", 3), ("cap", 4)]));
+    assert_eq!(lent.call(&modes(&[2], LID)), [0, 3, 4, 0]);
+    // Names are unique among those that there are.
+    lent.done(&new_attribute(2, "unit", 0));
+    assert_eq!(lent.number(&rename_number(2, 1, "unit")), 11);
+    lent.done(&rename_number(2, 1, "object"));
+    assert_eq!(lent.number(&rename_number(2, 0, "object")), 11);
+    assert_eq!(lent.done(&find(&[2], "object")), 1);
+}
+
+#[test]
+fn any_kind_by_its_number() {
+    let mut lent = some_base();
+    for (ty, new_name) in [(0, "a"), (SIZE, "b"), (4, "c"), (HAS, "d"), (6, "e")] {
+        lent.done(&rename_number(1, ty, new_name));
+        assert_eq!(lent.done(&find(&[1], new_name)), ty);
+    }
+    lent.done(&unapply_link(1, "d", "unit"));
+    lent.done(&import(2, 1, "d", "", ""));
+    lent.done(&set_modes(2, "d", 1, 2));
+    lent.done(&rename_number(2, 6, "of"));
+    assert_eq!(lent.call(&modes(&[2], 6)), [0, 1, 2, 0]);
+    // A pair goes together, by either number; an SDS that has it still keeps it.
+    for (sds, ty) in [(1, 6), (2, HAS)] {
+        assert_eq!(lent.call(&remove_number(sds, ty)), [0, ty, 0, 0]);
+        assert_eq!([lent.number(&name(sds, HAS)), lent.number(&name(sds, 6))], [6, 6]);
+    }
+    assert_eq!(lent.call(&remove_number(1, 4)), [0, 4, 0, 0]);
+    assert_eq!(lent.call(&new_pair(1, "has", "of", 0, 3)), [0, 4, 5, 0]);
+}
+
+#[test]
+fn ancestors_left_over() {
+    let mut lent = chained_base();
+    lent.done(&import(2, 1, "cap", "", ""));
+    let calls = [
+        (remove_type(2, "cap"), [0, CAP]),
+        (remove_sds(2), [12, 0]),
+        (remove_number(2, 0), [16, 1]),
+        (remove_number(2, 1), [16, 2]),
+        (remove_number(2, 2), [16, LID]),
+        (remove_number(2, CAP), [6, 0]),
+        (remove_number(2, LID), [0, LID]),
+        (remove_number(2, LID), [6, 0]),
+        // A nameless child holds one that has a name too.
+        (rename_number(2, 1, "unit"), DONE),
+        (remove_type(2, "unit"), [16, 2]),
+        (remove_number(2, 1), [16, 2]),
+        (remove_number(2, 2), [0, 2]),
+        (remove_sds(2), [12, 0]),
+        (remove_type(2, "unit"), [0, 1]),
+        (remove_sds(2), [12, 0]),
+        (remove_number(2, 0), DONE),
+        (remove_sds(2), DONE),
+        // Whatever is nowhere is gone, and its number free.
+        (new_sds("two"), [0, 2]),
+        (import(2, 1, "cap", "", ""), [0, CAP]),
+        (remove_type(1, "cap"), [0, CAP]),
+        (remove_type(1, "lid"), [0, LID]),
+        (remove_number(2, LID), [16, CAP]),
+        (remove_number(2, CAP), [0, CAP]),
+        (depth(&[2], LID), [0, 3]),
+        (remove_number(2, LID), [0, LID]),
+        (new_attribute(1, "new", 0), [0, LID]),
+    ];
+    answer_in_turn(lent, &calls);
+}
+
+/// In a base that is lent nameless types have any modes, applications and ends.
+#[test]
+fn nameless_types_in_a_lent_base() {
+    let mut s = from_bytes(&scanned_base().0).unwrap();
+    let here = s.sdss.get_mut(&1).unwrap();
+    here.set_modes(&[1], Modes { usage: 5, definition: 0 });
+    [1, 2, 4].into_iter().for_each(|ty| take_name(here, ty));
+    let mut lent = Lent(to_bytes(&s));
+    assert!(is_sound(&lent.0));
+    assert_eq!(lent.call(&modes(&[1], 1)), [0, 5, 0, 0]);
+    assert_eq!(lent.call(&modes(&[1, 2], 1)), [0, 31, 31, 0]);
+    assert_eq!(lent.list(&scan_object(&[1], 4, 5)).1, [5, 6]);
+    assert_eq!(lent.list(&scan_object(&[1], 2, 6)).1, [7]);
+    assert_eq!(lent.list(&scan_object(&[1], 4, 7)).1, [7, 9]);
+    assert_eq!(lent.list(&scan_link(&[1], 9, 3)).1, [1, 2, 3, 4]);
+    assert_eq!(lent.list(&profile(&[1], 4)), ([4, 2, 2], vec![0, 1, 2, 3, 5, 6, 7, 9]));
+    let calls = [
+        (remove_type(1, "five"), [17, 4]),
+        (remove_number(1, 6), [17, 1]),
+        (remove_type(1, "seven"), [18, 2]),
+        (remove_number(1, 8), [18, 2]),
+        (remove_type(1, "right"), [16, 4]),
+        (remove_type(1, "object"), [16, 1]),
+        (remove_number(1, 4), [17, 5]),
+        (remove_number(1, 2), [16, 4]),
+        // What is applied to one without a name stays, by any name but its number's.
+        (unapply(1, "five", "low"), [6, 0]),
+        (unapply_link(1, "nine", "low"), [6, 0]),
+        (rename_number(1, 4, "low"), DONE),
+        (unapply(1, "five", "low"), DONE),
+        (remove_number(1, 4), [18, 9]),
+        (unapply_link(1, "nine", "low"), DONE),
+        (remove_number(1, 4), [0, 4]),
+        (remove_number(1, 2), [18, 7]),
+        (rename_number(1, 1, "top"), DONE),
+    ];
+    answer_in_turn(Lent(lent.0.clone()), &calls);
+    lent.done(&rename_number(1, 1, "top"));
+    assert_eq!(lent.call(&modes(&[1], 1)), [0, 5, 0, 0]);
+}
+
+#[test]
+fn traits_of_nameless_types() {
+    let (mut lent, mut since) = (chained_base(), Since::default());
+    let mut has_traits = |call: Call, expected: &[&str]| {
+        let before = from_bytes(&lent.0).unwrap();
+        let mut traits = Traits::of(&call);
+        nameless::add_traits(&mut traits, &before, &since, &call);
+        let answer = lent.call(&call);
+        if answer[0] == 0 && !call.asks() {
+            since.keep(&nameless::nameless(&before), &from_bytes(&lent.0).unwrap());
+        }
+        let name = CALLS[call.index()].name;
+        let expected: Vec<String> = expected.iter().map(|what| format!("{name} {what}")).collect();
+        assert_eq!(traits.answered(answer).collect::<Vec<_>>(), expected, "{call:?}");
+    };
+    let named = "0, an ancestor with a name in the source";
+    has_traits(set_modes(1, "unit", 1, 1), &[]);
+    let one = ["0, brings 2", "0, type 0", named, "0, an ancestor of fewer modes", "0, into an empty SDS"];
+    has_traits(import(2, 1, "box", "", ""), &one);
+    let more = ["0, brings 1", "0, an ancestor there by name", "0, an ancestor there, nameless"];
+    let more = [&more[..], &["0, an ancestor there, brought before", named]].concat();
+    has_traits(import(2, 1, "cap", "", ""), &more);
+    has_traits(import(2, 1, "lid", "CAP", ""), &["9, nameless there", "9, nameless there, before 11"]);
+    has_traits(import(3, 2, "lid", "", ""), &["6, nameless in the source"]);
+    has_traits(find(&[2], "lid"), &["6, its name"]);
+    has_traits(find(&[2], ""), &["4, blank"]);
+    has_traits(find(&[2, 1], "unit"), &["0, nameless in one listed before"]);
+    has_traits(modes(&[2], 1), &["0, nameless", "0, brought"]);
+    has_traits(modes(&[1, 2], 1), &["0, nameless and named"]);
+    has_traits(name(2, 0), &["0, nameless"]);
+    has_traits(name(2, 2), &["0, named, behind nameless rows"]);
+    has_traits(remove_type(2, "box"), &["16, by a nameless type"]);
+    has_traits(remove_number(2, 2), &["16, of a named type", "16, by a nameless type"]);
+    has_traits(remove_sds(2), &["12, the lowest nameless"]);
+    has_traits(remove_number(2, 256 + 1), &["6", "6, 128 or more", "6, by its high bytes alone"]);
+    has_traits(rename_number(2, LID, ""), &["4", "4, blank"]);
+    has_traits(rename_number(2, LID, "BOX"), &["11, in another spelling", "11, a nameless type"]);
+    has_traits(new_attribute(2, "unit", 0), &["0, its name"]);
+    let to_its_name = ["0, a nameless type", "0, a nameless type, brought", "0, a nameless type to its name"];
+    has_traits(rename_number(2, LID, "lid"), &to_its_name);
+    has_traits(find(&[2], "lid"), &["0, named by its number"]);
+    has_traits(depth(&[2], 1), &["0, of a nameless type"]);
+    has_traits(scan_object(&[2], 0, 1), &[]);
+    has_traits(rename_number(2, LID, "lid"), &["0, an object type", "0, to its own name"]);
+    has_traits(remove_number(2, CAP), &["0, an object type"]);
+}
+
 // The base in bytes.
 
 #[test]
@@ -1617,13 +1974,36 @@ fn each_sentence_of_soundness() {
     // A name in another spelling is no fault, unless it is that of another or in SDS 0.
     assert!(is_sound_after(|s| one(s).name = Name::new("ONE")));
     assert!(is_sound_after(|s| {
-        one(s).presences.remove(&Name::new("part"));
-        one(s).presences.insert(Name::new("paRt"), Presence::of(PART));
+        one(s).named.remove(&Name::new("part"));
+        one(s).named.insert(Name::new("paRt"), Presence::of(PART));
     }));
     // Other modes are none, where a pair has the same; in each SDS they may be others.
     assert!(is_sound_after(|s| one(s).set_modes(&[0, UNIT, SIZE, 4], Modes::NONE)));
     assert!(is_sound_after(|s| one(s).set_modes(&[HAS, 6], Modes { usage: 0, definition: 31 })));
-    let faults: [fn(&mut Schema); 57] = [
+    // An object type without a name is none, with an application, an end, a child and any modes.
+    for ty in [0, UNIT, PART] {
+        let mut schema = from_bytes(&some_base().0).unwrap();
+        take_name(one(&mut schema), ty);
+        assert!(is_sound(&to_bytes(&schema)));
+        one(&mut schema).set_modes(&[ty], Modes { usage: 0, definition: 17 });
+        assert!(is_sound(&to_bytes(&schema)));
+    }
+    assert!(is_sound_after(|s| [0, UNIT, PART].into_iter().for_each(|ty| take_name(one(s), ty))));
+    assert!(is_sound_after(|s| s.sdss.get_mut(&3).unwrap().nameless = [(0, Modes::NONE), (1, Modes::ALL)].into()));
+    let faults: [fn(&mut Schema); 70] = [
+        |s| take_name(one(s), SIZE),
+        |s| take_name(one(s), 4),
+        |s| take_name(one(s), HAS),
+        |s| [HAS, 6].into_iter().for_each(|ty| take_name(one(s), ty)),
+        |s| take_name(s.sdss.get_mut(&0).unwrap(), 0),
+        |s| _ = s.sdss.get_mut(&0).unwrap().nameless.insert(UNIT, Modes::ALL),
+        |s| _ = s.sdss.get_mut(&0).unwrap().nameless.insert(0, Modes::ALL),
+        |s| _ = one(s).nameless.insert(UNIT, Modes::ALL),
+        |s| _ = one(s).nameless.insert(7, Modes::ALL),
+        |s| _ = one(s).nameless.insert(128, Modes::ALL),
+        |s| _ = s.sdss.get_mut(&2).unwrap().nameless.insert(PART, Modes::ALL),
+        |s| _ = s.sdss.get_mut(&2).unwrap().nameless.insert(UNIT, Modes { usage: 32, ..Modes::ALL }),
+        |s| s.sdss.get_mut(&3).unwrap().nameless = [(1, Modes::ALL)].into(),
         |s| s.sdss.get_mut(&0).unwrap().set_modes(&[0], Modes { usage: 30, ..Modes::ALL }),
         |s| s.sdss.get_mut(&0).unwrap().set_modes(&[0], Modes { definition: 15, ..Modes::ALL }),
         |s| one(s).set_modes(&[UNIT], Modes { usage: 32, ..Modes::ALL }),
@@ -1637,26 +2017,26 @@ fn each_sentence_of_soundness() {
         |s| one(s).name = Name::new("twO"),
         |s| one(s).name = Name::new("System"),
         |s| {
-            one(s).presences.remove(&Name::new("part"));
-            one(s).presences.insert(Name::new("Unit"), Presence::of(PART));
+            one(s).named.remove(&Name::new("part"));
+            one(s).named.insert(Name::new("Unit"), Presence::of(PART));
         },
         |s| {
-            one(s).presences.remove(&Name::new("part"));
-            one(s).presences.insert(Name::new("uniT"), Presence::of(PART));
+            one(s).named.remove(&Name::new("part"));
+            one(s).named.insert(Name::new("uniT"), Presence::of(PART));
         },
         |s| s.sdss.get_mut(&0).unwrap().name = Name::new("System"),
-        |s| s.sdss.get_mut(&0).unwrap().presences = [(Name::new("Object"), Presence::of(0))].into(),
+        |s| s.sdss.get_mut(&0).unwrap().named = [(Name::new("Object"), Presence::of(0))].into(),
         |s| one(s).name = Name::new("o ne"),
         |s| {
-            one(s).presences.remove(&Name::new("part"));
-            one(s).presences.insert(Name::new("pa rt"), Presence::of(PART));
+            one(s).named.remove(&Name::new("part"));
+            one(s).named.insert(Name::new("pa rt"), Presence::of(PART));
         },
-        |s| _ = one(s).presences.insert(Name::new("again"), Presence::of(SIZE)),
-        |s| _ = one(s).presences.insert(Name::new("unused"), Presence::of(7)),
-        |s| _ = one(s).presences.insert(Name::new("unused"), Presence::of(128)),
-        |s| _ = s.sdss.get_mut(&0).unwrap().presences.insert(Name::new("size"), Presence::of(SIZE)),
+        |s| _ = one(s).named.insert(Name::new("again"), Presence::of(SIZE)),
+        |s| _ = one(s).named.insert(Name::new("unused"), Presence::of(7)),
+        |s| _ = one(s).named.insert(Name::new("unused"), Presence::of(128)),
+        |s| _ = s.sdss.get_mut(&0).unwrap().named.insert(Name::new("size"), Presence::of(SIZE)),
         |s| s.sdss.get_mut(&0).unwrap().name = Name::new("systems"),
-        |s| s.sdss.get_mut(&0).unwrap().presences = [(Name::new("thing"), Presence::of(0))].into(),
+        |s| s.sdss.get_mut(&0).unwrap().named = [(Name::new("thing"), Presence::of(0))].into(),
         |s| _ = s.sdss.remove(&0),
         |s| _ = s.types.insert(0, Type::Attribute { value_kind: 0 }),
         |s| _ = s.types.insert(0, object(&[UNIT])),
@@ -1678,9 +2058,9 @@ fn each_sentence_of_soundness() {
         |s| _ = s.types.insert(HAS, Type::Link { category: 0, reverse: None }),
         |s| _ = s.types.insert(4, Type::Link { category: 2, reverse: None }),
         |s| _ = s.types.insert(4, link(2, HAS)),
-        |s| _ = one(s).presences.remove(&Name::new("unit")),
-        |s| _ = one(s).presences.remove(&Name::new("of")),
-        |s| _ = one(s).presences.remove(&Name::new("size")),
+        |s| _ = one(s).named.remove(&Name::new("unit")),
+        |s| _ = one(s).named.remove(&Name::new("of")),
+        |s| _ = one(s).named.remove(&Name::new("size")),
         |s| _ = one(s).applications.insert(Application { to: SIZE, attribute: SIZE }),
         |s| _ = one(s).applications.insert(Application { to: UNIT, attribute: PART }),
         |s| _ = s.sdss.get_mut(&2).unwrap().applications.insert(Application { to: UNIT, attribute: SIZE }),
@@ -1722,6 +2102,34 @@ fn each_rule_of_the_layout() {
     // Rows that are not rising, and rows behind a gap.
     assert!(!spoilt(presence(1) + 1, b"p\0\0"));
     assert!(!spoilt(presence(11) + 17, &[1]));
+    // A name taken away where the row stands: of the first of an SDS, of another, and of other kinds.
+    let blank = [0; 16];
+    let mut lent = chained_base();
+    lent.done(&import(2, 1, "cap", "", ""));
+    let spoilt_in = |at: usize, bytes: &[u8]| {
+        let mut base = lent.0.clone();
+        base[at..][..bytes.len()].copy_from_slice(bytes);
+        is_sound(&base)
+    };
+    // Rows 1 and 2 are box and cap, 7 to 11 types 0 to 3 without a name, and cap.
+    assert!(spoilt_in(presence(1) + 1, &blank) && !spoilt_in(presence(2) + 1, &blank));
+    assert!(spoilt_in(presence(7) + 1, &blank) && spoilt_in(presence(11) + 1, &blank));
+    assert!(!spoilt_in(presence(1) + 1, &blank[..1]) && !spoilt_in(presence(1) + 1, &blank[..2]));
+    assert!(
+        !spoilt(presence(1) + 1, &blank) && !spoilt(presence(2) + 1, &blank) && !spoilt(presence(5) + 1, &blank)
+    );
+    assert!(!spoilt_in(presence(0) + 1, &blank));
+    // By type, each once; a name, and no byte but that; behind one that has a name none comes without.
+    assert!(!spoilt_in(presence(8) + 17, &[2]) && !spoilt_in(presence(8) + 17, &[0]));
+    assert!(!spoilt_in(presence(8) + 17, &[2, 31, 31, 2, 0, 0]));
+    for at in 2..=16 {
+        assert!(!spoilt_in(presence(10) + at, b"a"), "{at}");
+    }
+    assert!(spoilt_in(presence(10) + 1, b"a") && !spoilt_in(presence(9) + 1, b"a"));
+    assert!(!spoilt_in(presence(10) + 1, b"d"));
+    assert!(!spoilt_in(presence(10), &[0; 20]) && !spoilt_in(presence(7), &[0; 20]));
+    assert!(!spoilt_in(presence(12), &[2, 0]) && !spoilt_in(presence(12) + 17, &[1]));
+    assert!(spoilt_in(presence(9) + 18, &[0, 0]) && !spoilt_in(presence(9) + 18, &[32]));
     // Modes, and some of an unused row.
     assert!(spoilt(presence(5) + 18, &[0, 31]));
     assert!(!spoilt(presence(5) + 18, &[32, 31]));
@@ -1743,26 +2151,34 @@ fn each_rule_of_the_layout() {
 fn every_way_of_spoiling() {
     let mut random = Random::new(1);
     let base = scanned_base().0;
+    let schema = from_bytes(&base).unwrap();
     for (name, way) in WAYS.iter().filter(|(name, _)| EXPECTED.iter().all(|(expected, _)| expected != name)) {
-        let bases = (0..200).map(|_| spoiled(way, &mut random, &base));
+        let bases = (0..200).map(|_| spoiled(way, &mut random, &base, &schema));
         assert!(bases.filter(|spoiled| !is_sound(spoiled)).count() > 40, "{name}");
     }
 }
 
 /// Where there is something to spoil, a base stays sound or it doesn't, always.
 #[test]
-fn every_way_of_spoiling_spellings_or_modes() {
+fn every_way_of_spoiling_on_purpose() {
     let mut random = Random::new(1);
     for (name, stays_sound) in EXPECTED {
         let (_, way) = WAYS.iter().find(|(way, _)| *way == name).expect("a way");
-        let mut changed = 0;
-        for _ in 0..200 {
-            let base = to_bytes(&modes::draw(&mut random));
-            let spoiled = spoiled(way, &mut random, &base);
-            changed += usize::from(spoiled != base);
-            assert_eq!(is_sound(&spoiled), stays_sound || spoiled == base, "{name}");
+        let draws: &[fn(&mut Random) -> Schema] = match name.contains("nameless") {
+            true => &[nameless::draw],
+            false => &[modes::draw, nameless::draw],
+        };
+        for draw in draws {
+            let mut changed = 0;
+            for _ in 0..200 {
+                let schema = draw(&mut random);
+                let base = to_bytes(&schema);
+                let spoiled = spoiled(way, &mut random, &base, &schema);
+                changed += usize::from(spoiled != base);
+                assert_eq!(is_sound(&spoiled), stays_sound || spoiled == base, "{name}");
+            }
+            assert!(changed > 150, "{name} {changed}");
         }
-        assert!(changed > 150, "{name} {changed}");
     }
 }
 
@@ -1790,6 +2206,10 @@ fn lines_of_the_cases() {
         ("set_modes 1 unit 7", " = 0 0 0 0"),
         ("modes 1 1", " = 0 7 0 0"),
         ("set_modes 1 unit 4294967297 1", " = 19 0 0 0"),
+        ("rename_number 1 1 Unit", " = 0 0 0 0"),
+        ("rename_number 1 1", " = 4 0 0 0"),
+        ("remove_number 1 3", " = 6 0 0 0"),
+        ("remove_number 1", " = 16 1 0 0"),
         ("scan_object 1 0 1", " = 15 0 0 0"),
         ("scan_object 1 0 1 9999", " = 0 1 0 0 : 1"),
         ("output 2", " : 1 0"),
@@ -1798,9 +2218,9 @@ fn lines_of_the_cases() {
     ];
     let stdin = lines.map(|(line, _)| line).join("\n");
     let stdout = lines.map(|(line, behind)| format!("{line}{behind}\n")).concat();
-    assert_eq!(printed(stdin.as_bytes()), (stdout.clone().into_bytes(), 19));
+    assert_eq!(printed(stdin.as_bytes()), (stdout.clone().into_bytes(), 23));
     // Of a longer line no more is printed.
-    assert_eq!(printed((stdin + "aa\n").as_bytes()), (stdout.into_bytes(), 19));
+    assert_eq!(printed((stdin + "aa\n").as_bytes()), (stdout.into_bytes(), 23));
 }
 
 /// A run in each mode finds no fault. Where a table is to be full, it has none, one and two places left. Every code is

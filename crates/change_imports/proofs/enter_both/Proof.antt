@@ -32,7 +32,7 @@ same-length c = search needs
 returns : tie.Need-returns
 returns c =
     kept-refused (c .before .before .before .before .before .before .before .pre .0)
-    (stops (enter-left _ _ _ _ _) (sym (c .before .before .are-taken .ensures) ∙ c .before .if1 .taken)) (c .refused .ensures)
+    (stops (enter-left _ _ _ _ _ _) (sym (c .before .before .are-taken .ensures) ∙ c .before .if1 .taken)) (c .refused .ensures)
 
 presence-count-requires : tie.Need-presence-count-requires
 presence-count-requires c κs = sound-long (c .before .before .before .before .before .before .before .pre .0)
@@ -50,7 +50,7 @@ returns-2 : tie.Need-returns-2
 returns-2 c =
     let first = c .before .before .before .before in
     kept-refused (first .before .before .before .before .before .before .pre .0)
-    (stops (passes (enter-left _ _ _ _ _) (sym (first .before .are-taken .ensures) ∙ first .if1 .left))
+    (stops (passes (enter-left _ _ _ _ _ _) (sym (first .before .are-taken .ensures) ∙ first .if1 .left))
     (no-room _ 2 (let h = c .before .if2 .taken in omega (arith, c .before .before .presence-count .ensures .is)))) (c .refused2 .ensures)
 
 put-presence-requires : tie.Need-put-presence-requires
@@ -95,7 +95,7 @@ returns-3 : tie.Need-returns-3
 returns-3 c =
     let first = c .before .before .before .before .before .before .before .before .before .before .before .before in
     kept-done (first .before .before .before .before .before .before .pre .0)
-    (ends (passes (passes (enter-left _ _ _ _ _) (sym (first .before .are-taken .ensures) ∙ first .if1 .left))
+    (ends (passes (passes (enter-left _ _ _ _ _ _) (sym (first .before .are-taken .ensures) ∙ first .if1 .left))
     (some-room _ 2 (fits-2 (c .before .before .before .before .before .before .before .before .before)))))
     (c .done .ensures) (entered-both _ _ _ _ (c .before .before .before .before .before .before .before .put-presence .ensures) _ _
     (c .before .before .before .put-presence2 .ensures))

@@ -1,4 +1,4 @@
--- An import: the rule comes to `enter` of one presence or of two, under the names filled in. Assumes nothing.
+-- An import: the rule comes to `enter` of one named presence with its missing ancestors, or of two. Assumes nothing.
 use borrow.Author.Needs.{needs}
 use native.Mathlib.Omega.{arith}
 use mathlib.Core.Path.{_≡_, ap, _∙_}
@@ -6,7 +6,7 @@ use Rattle.rules.specs.03-Names.{well-formed}
 use Rattle.base.proofs.Back.{sound-good}
 use Rattle.base.proofs.TestedLaws.{tested-stops}
 use Rattle.change_imports.proofs.ImportLaws.{Importable, importable, import-left, import-one, import-both}
-use Rattle.change_imports.proofs.ImportLaws.{reverse-below, reverse-there, filled-formed, cut-is}
+use Rattle.change_imports.proofs.ImportLaws.{reverse-below, reverse-there, reverse-named, filled-formed, cut-is}
 use Rattle.change_imports.proofs.import.Statement.{statement}
 use Rattle.change_imports.proofs.import.Tie as tie
 
@@ -41,6 +41,9 @@ slice-aggregate-name-length c = search needs
 name-length-requires : tie.Need-name-length-requires
 name-length-requires c κs = search needs
 
+missing-requires : tie.Need-missing-requires
+missing-requires c κs = let r = ready-1 (c .before .before .before .before .before .before .before) in (r .sound, (r .small, r .below))
+
 sub-enter-one : tie.Need-sub-enter-one
 sub-enter-one c = search needs
 
@@ -52,23 +55,28 @@ part-enter-one-end c = search needs
 
 enter-one-requires : tie.Need-enter-one-requires
 enter-one-requires c κs =
-    let x = c .before .before .before .before .before .before .before .before .before .before .before .before .before .before .before .before .before .args in
-    let v = c .before .before .before .before .before .before .before .before .before .before .before .named-by .result in
-    let r = ready-1 (c .before .before .before .before .before .before .before .before .before) in
-    let name = cut-is (c .before .before .before .before .before .name-length .ensures) ∙
-    c .before .before .before .before .before .before .before .filled .ensures in
-    let formed = ap well-formed name ∙ filled-formed (sound-good (r .sound)) (x .source) (v .one) (x .new .now) (r .there) (r .formed) in
-    (r .sound, record { small = r .small; outside = r .outside; below = r .below; formed = formed })
+    let named = c .before .before .before .before .before .before .before in
+    let first = named .before .before .before .before in
+    let x = first .before .before .before .before .before .before .before .before .args in
+    let v = first .before .before .named-by .result in
+    let r = ready-1 first in
+    let name = cut-is (named .name-length .ensures) ∙ named .before .before .filled .ensures in
+    let formed = ap well-formed name ∙ filled-formed (sound-good (r .sound)) (x .source) (v .one) (x .new .now) (r .there) (r .named) (r .formed) in (
+      r .sound,
+      (
+        record { small = r .small; outside = r .outside; below = r .below; formed = formed },
+        record { lacks = r .lacks; are = c .before .before .before .missing .ensures },
+      ),
+    )
 
 same-length-2 : tie.Need-same-length-2
 same-length-2 c = search needs
 
 returns-2 : tie.Need-returns-2
 returns-2 c =
-    import-one (ready-1 (c .before .before .before .before .before .before .before .before .before .before .before .before))
-    (alone-2 (c .before .before .before .before .before .before))
-    (cut-is (c .before .before .before .before .before .before .before .before .name-length .ensures) ∙
-    c .before .before .before .before .before .before .before .before .before .before .filled .ensures) (c .before .before .enter-one .ensures)
+    let named = c .before .before .before .before .before .before .before .before .before .before in
+    import-one (ready-1 (named .before .before .before .before)) (alone-2 (c .before .before .before .before .before .before .before .before))
+    (cut-is (named .name-length .ensures) ∙ named .before .before .filled .ensures) (c .before .before .before .before .before .before .missing .ensures) (c .before .before .enter-one .ensures)
 
 filled-requires-2 : tie.Need-filled-requires-2
 filled-requires-2 c κs =
@@ -116,13 +124,13 @@ enter-both-requires c κs =
           small = r .small;
           outside = r .outside;
           below = r .below;
-          formed = ap well-formed name ∙ filled-formed good (x .source) (v .one) (x .new .now) (r .there) (r .formed);
+          formed = ap well-formed name ∙ filled-formed good (x .source) (v .one) (x .new .now) (r .there) (r .named) (r .formed);
         },
         record {
           small = r .small;
           outside = r .outside;
           below = reverse-below r e;
-          formed = ap well-formed other ∙ filled-formed good (x .source) (v .two) (x .new-reverse .now) (reverse-there r e) (r .formed-reverse);
+          formed = ap well-formed other ∙ filled-formed good (x .source) (v .two) (x .new-reverse .now) (reverse-there r e) (reverse-named r e) (r .formed-reverse);
         },
       ),
     )
@@ -151,6 +159,7 @@ import-spec =
     filled-requires
     slice-aggregate-name-length
     name-length-requires
+    missing-requires
     sub-enter-one
     part-enter-one-start
     part-enter-one-end

@@ -6,7 +6,6 @@ use mathlib.Core.Path.{_≡_, sym, _∙_}
 use mathlib.Core.Bool.{true}
 use borrow.Author.Tests.{not-true, not-false}
 use Rattle.rules.specs.04-Schema.{present, bears, type-named}
-use Rattle.rules.specs.09-Refusals.{missing-parent}
 use Rattle.base.specs.Back.{schema-of}
 use Rattle.base.proofs.Kept.{sound-long}
 use Rattle.rules.proofs.NameTests.{system-stops, system-passes, name-there, name-missing}
@@ -55,25 +54,15 @@ at-9 c =
     (idle-is (x .new-reverse .now) (type-5 (c .before .before .before) .1) (c .before .before .reverse-of .ensures)
     (c .before .is-idle .ensures) ∙ c .if6 .left)
 
-at-10 : (c : tie.Else7) → let x = c .before .before .before .before .before .before .before .before .before .before .before .before .before .before
+at-11 : (c : tie.Else7) → let x = c .before .before .before .before .before .before .before .before .before .before .before .before .before .before
     .before .before .before .before .args in
-    Past (x .base .now) (first-refusals (x .target) (x .source) (x .name .now) (x .new .now) (x .new-reverse .now) (schema-of (x .base .now))) 10
-at-10 c =
+    Past (x .base .now) (first-refusals (x .target) (x .source) (x .name .now) (x .new .now) (x .new-reverse .now) (schema-of (x .base .now))) 11
+at-11 c =
     let x = c .before .before .before .before .before .before .before .before .before .before .before .before .before .before .before .before .before .before
     .args in
     come-next (at-9 (c .before .before))
     (of-named (present (schema-of (x .base .now)) (x .target)) (type-5 (c .before .before .before .before .before) .1)
     (c .before .is-present .ensures) ∙ c .if7 .left)
-
-at-11 : (c : tie.Else8) → let x = c .before .before .before .before .before .before .before .before .before .before .before .before .before .before
-    .before .before .before .before .before .before .args in
-    Past (x .base .now) (first-refusals (x .target) (x .source) (x .name .now) (x .new .now) (x .new-reverse .now) (schema-of (x .base .now))) 11
-at-11 c =
-    let x = c .before .before .before .before .before .before .before .before .before .before .before .before .before .before .before .before .before
-    .before .before .before .args in
-    come-next (at-10 (c .before .before))
-    (of-named (missing-parent (schema-of (x .base .now)) (x .target)) (type-5 (c .before .before .before .before .before .before .before) .1)
-    (c .before .is-parent-missing .ensures) ∙ c .if8 .left)
 
 is-sound-requires : tie.Need-is-sound-requires
 is-sound-requires c κs = search needs
@@ -155,26 +144,10 @@ returns-7 c =
     (c .before .before .is-present .ensures) ∙ c .before .if7 .taken)
     (c .refused7 .ensures) (omega arith)
 
-is-parent-missing-requires : tie.Need-is-parent-missing-requires
-is-parent-missing-requires c κs = (at-10 c .sound, type-5 (c .before .before .before .before .before) .0)
-
-refused-requires-8 : tie.Need-refused-requires-8
-refused-requires-8 c κs = search needs
-
 returns-8 : tie.Need-returns-8
 returns-8 c =
-    let x = c .before .before .before .before .before .before .before .before .before .before .before .before .before .before .before .before .before
-    .before .before .before .before .args in
-    refused-here (at-10 (c .before .before .before))
-    (of-named (missing-parent (schema-of (x .base .now)) (x .target)) (type-5
-    (c .before .before .before .before .before .before .before .before) .1) (c .before .before .is-parent-missing .ensures) ∙ c .before .if8 .taken)
-    (c .refused8 .ensures) (omega arith)
-
-returns-9 : tie.Need-returns-9
-returns-9 c =
-    let t = type-5 (c .before .before .before .before .before .before .before) in
-    passed-by (come-through (at-11 c)) (record
-    { type = record { below = t .0; named = t .1 }; pair = c .before .before .before .before .before .before .reverse-of .ensures })
+    let t = type-5 (c .before .before .before .before .before) in
+    passed-by (come-through (at-11 c)) (record { type = record { below = t .0; named = t .1 }; pair = c .before .before .before .before .reverse-of .ensures })
 
 pub named-by-spec : {M : Type 1} → statement M
 named-by-spec =
@@ -201,7 +174,4 @@ named-by-spec =
     is-present-requires
     refused-requires-7
     returns-7
-    is-parent-missing-requires
-    refused-requires-8
-    returns-8
-    returns-9)
+    returns-8)

@@ -1,6 +1,7 @@
 -- `check_presences::presences_fine` meets its contract: the tests, with a count that they confirm, find what `Presences-fine` asks and
 -- nothing else. Assumes nothing.
 use borrow.Author.Needs.{needs}
+use native.Mathlib.Omega.{arith}
 use mathlib.Core.Path.{_≡_, sym, _∙_}
 use mathlib.Core.Bool.{true}
 use borrow.Author.Tests.{not-true, not-false}
@@ -50,7 +51,7 @@ returns-3 c =
 rows-fine-requires : tie.Need-rows-fine-requires
 rows-fine-requires c κs =
     let x = c .before .before .before .before .before .before .before .before .before in (
-      (x .pre .0, x .pre .1 .0 .fits),
+      (x .pre .0, omega (arith, x .pre .1 .0 .is, x .pre .1 .0 .halved .fits)),
       ((is-first (c .before .before .before .before .before), is-used (c .before .before .before)), x .pre .1 .1),
     )
 

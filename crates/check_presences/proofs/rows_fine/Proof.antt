@@ -40,11 +40,7 @@ key-4 c = key-3 (c .before .before)
 next-row : (c : tie.After-presence-key2 Inv-loop μ-loop) → let at = c .before .before in
     Next (start at .args .base .now) (start at .args .n) (at .loop .last) (at .loop .row) (at .loop .held) (c .presence-key2 .result)
 next-row c =
-    let at = c .before .before in
-    let x = start at in record {
-      long = x .pre .0 .0;
-      few = x .pre .0 .1;
-      bytes = λ j. at .before .before .before .shared-slice-known .given j .fits;
+    let at = c .before .before in record {
       passed = at .loop .inv .1;
       below = c .before .loop-test .taken;
       key = c .presence-key2 .ensures;
@@ -88,14 +84,14 @@ add-i c = search needs
 presence-key-requires-2 : tie.Need-presence-key-requires-2 Inv-loop μ-loop
 presence-key-requires-2 c κs = search needs
 
-key-before-requires : tie.Need-key-before-requires Inv-loop μ-loop
-key-before-requires c κs = search needs
+in-order-requires : tie.Need-in-order-requires Inv-loop μ-loop
+in-order-requires c κs = search needs
 
 same-length : tie.Need-same-length Inv-loop μ-loop
 same-length c = room (c .before .before .before .before)
 
 returns : tie.Need-returns Inv-loop μ-loop
-returns c = rows-refused (not-rising (next-row (c .before .before)) (c .before .key-before .ensures) (not-true _ (c .if1 .taken)))
+returns c = rows-refused (not-rising (next-row (c .before .before)) (c .before .in-order .ensures) (not-true _ (c .if1 .taken)))
 
 cast-d : tie.Need-cast-d Inv-loop μ-loop
 cast-d c = search needs
@@ -176,7 +172,7 @@ loop-again c =
     let type = row .presence-type in
     let d = next .presence-key2 .result .sds in (
       omega (arith, next .before .loop-test .taken),
-      passed-more (next-row next) (type .result) d (type .ensures .is) refl (places row .0) (places row .1) (tested .before .key-before .ensures)
+      passed-more (next-row next) (type .result) d (type .ensures .is) refl (places row .0) (places row .1) (tested .before .in-order .ensures)
           (not-false _ (tested .if1 .left)) (in-used row) (row-fine row) (sym (bit-masked _ d) ∙ ne-eqb _ 1 (c .if4 .left)),
     )
 
@@ -198,7 +194,7 @@ rows-fine-spec =
     add-loop
     add-i
     presence-key-requires-2
-    key-before-requires
+    in-order-requires
     same-length
     returns
     cast-d

@@ -2,7 +2,7 @@
 use borrow.Author.Needs.{needs}
 use mathlib.Core.Path.{sym, _∙_}
 use Rattle.rules.specs.04-Schema.{Presence, new-presence, with-modes}
-use Rattle.rules.proofs.03-Names.{formed-long}
+use Rattle.rules.proofs.03-Names.{name-fits}
 use Rattle.base.proofs.Shown.{presences-long}
 use Rattle.base.proofs.StoredLaws.{stored-long}
 use Rattle.base.proofs.Tables.{keeps-presences}
@@ -13,7 +13,7 @@ use Rattle.edit.proofs.put_with_modes.Tie as tie
 presence-bytes-requires : tie.Need-presence-bytes-requires
 presence-bytes-requires c κs =
     let x = c .before .before in
-    ((x .pre .1 .0 .1 .0, (x .pre .1 .0 .1 .1, formed-long (x .args .name .now) (x .pre .1 .1 .0) .1)), x .pre .1 .1 .1 .1 .1)
+    ((x .pre .1 .0 .1 .0, (x .pre .1 .0 .1 .1, name-fits (x .args .name .now) (x .pre .1 .1 .0) .short)), x .pre .1 .1 .1 .1 .1)
 
 presence-count-requires : tie.Need-presence-count-requires
 presence-count-requires c κs = stored-long (c .before .before .before .before .pre .0)

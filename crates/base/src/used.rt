@@ -78,13 +78,13 @@ pub fn presences_halved(base: &[u8]) -> usize
     requires { ⌜ length (now base) ≡ base-length ⌝ }
     ensures { λ r. ⌜ Presences-halved (now (base .entry)) r ⌝ }
 {
-    1
-        + rows::used::halved(
-            base,
-            Base::PRESENCES_AT + Base::PRESENCE_WIDTH,
-            Base::PRESENCE_WIDTH,
-            Limits::PRESENCES - 1,
-        )
+    let behind = rows::used::halved(
+        base,
+        Base::PRESENCES_AT + Base::PRESENCE_WIDTH,
+        Base::PRESENCE_WIDTH,
+        Limits::PRESENCES - 1,
+    );
+    1 + behind
 }
 
 // By the SDS, which is never SDS 0.

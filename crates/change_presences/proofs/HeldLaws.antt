@@ -5,11 +5,9 @@ use mathlib.Core.List.{List}
 use mathlib.Core.Bool.{true}
 use lib.Dec.{eqb}
 use borrow.Author.Tests.{eqb-true, ltb-true}
-use Rattle.rules.specs.03-Names.{Name}
-use Rattle.rules.specs.04-Schema.{Schema, Presence, holds-type, present, bears, type-named, with-presences}
+use Rattle.rules.specs.04-Schema.{Schema, Presence, holds-type, present, with-presences}
 use Rattle.rules.specs.06-Good.{Good}
 use Rattle.rules.proofs.Bools.{and-both}
-use Rattle.rules.proofs.08-Working.{named-present}
 use Rattle.base.specs.Back.{schema-of, presence-count, presence-shown}
 use Rattle.lookup.specs.Found.{Presence-row}
 use Rattle.base.specs.Stored.{less-row, Shows, Stored}
@@ -28,9 +26,6 @@ module _ {s : Schema} (good : Good s) where
         let (z, w) = and-both (eqb (q .sds) d) (eqb (q .type) t) g in
         good .one-presence p q i j (eqb-true (p .sds) d x ∙ sym (eqb-true (q .sds) d z)) (eqb-true (p .type) t y ∙ sym (eqb-true (q .type) t w));
   }
-
-  pub held-named : {d t : ℕ} (n : Name) → bears s d n ≡ true → t ≡ type-named s d n → Held-once s d t
-  held-named {d} {t} n e q = held d t (named-present s d n e q)
 
 pub held-row : {b : List ℕ} → Good (schema-of b) → {d t r : ℕ} → Presence-row b (presence-count b) d t r → r < presence-count b
     → Held-once (schema-of b) d t

@@ -1,5 +1,5 @@
 -- The ancestors that an SDS lacks, and how they come into it, one after the other. Assumes nothing.
-use Prim.Native.Nat.{ℕ, zero, suc, _+_, _%_, _≤_, _<_}
+use Prim.Native.Nat.{ℕ, zero, suc, _%_, _<_}
 use native.Mathlib.Omega.{arith}
 use mathlib.Core.Path.{_≡_, refl, sym, ap, ap₂, _∙_, subst}
 use mathlib.Core.List.{List, [], _∷_, map}
@@ -27,7 +27,7 @@ use Rattle.kin.specs.Kin.{ancestors-of}
 use Rattle.kin.proofs.KinLaws.{above}
 use Rattle.visible.specs.Shown.{held-in}
 use Rattle.visible.proofs.Rules.{visible-are}
-use Rattle.change_imports.specs.Import.{nameless-of, brought, Lacking}
+use Rattle.change_imports.specs.Import.{brought, Lacking}
 
 -- ---- those that are missing
 

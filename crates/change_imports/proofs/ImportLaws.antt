@@ -2,7 +2,6 @@
 use Prim.Native.Nat.{ℕ, _+_, _-_, _≤_, _<_}
 use native.Mathlib.Omega.{arith}
 use mathlib.Core.Path.{_≡_, refl, sym, ap, _∙_}
-use mathlib.Core.Logic.{⊎-elim}
 use mathlib.Core.List.{List, [], _∷_, _++_, map, append-nil}
 use mathlib.Core.Bool.{Bool, true, false, not, cond, _&&_, _||_, and-false, true≢false}
 use lib.Dec.{leb, ltb, eqb}
@@ -13,7 +12,7 @@ use Rattle.rules.specs.declared.Answer.{Answer}
 use Rattle.rules.specs.01-Lists.{all, put, put-all}
 use Rattle.rules.specs.03-Names.{Name, well-formed, blank, same-name}
 use Rattle.rules.specs.04-Schema.{Schema, Presence, new-presence, used-sds, kind-of, is-object, reverse, holds-type, holds-name, present, bears}
-use Rattle.rules.specs.04-Schema.{type-named, type-presence, local-name, with-presences}
+use Rattle.rules.specs.04-Schema.{type-named, local-name, with-presences}
 use Rattle.rules.specs.04-Schema.Kind.{paired}
 use Rattle.rules.specs.05-Descent.{descends, members}
 use Rattle.rules.specs.06-Good.{presence-before, Good}
@@ -22,7 +21,7 @@ use Rattle.rules.specs.09-Refusals.{Outcome, verdict, unknown-sds, malformed, m
 use Rattle.rules.specs.09-Refusals.Outcome.{done}
 use Rattle.rules.specs.10-Changes.{filled, imported, missing, nameless, incoming, import}
 use Rattle.rules.specs.12-Contracts.{Kept}
-use Rattle.rules.proofs.Bools.{and-rest, and-both, or-neither, or-cases, fails}
+use Rattle.rules.proofs.Bools.{and-rest, and-both, or-neither, fails}
 use Rattle.rules.proofs.01-Lists.{numbers-none}
 use Rattle.rules.proofs.05-Descent.{descendant-object, descends-sound}
 use Rattle.rules.proofs.Edits.{put-long, put-none}
@@ -50,7 +49,7 @@ use Rattle.conditions.specs.Aimed.{With-reverse, Refused-or}
 use Rattle.conditions.proofs.ReverseLaws.{one-is, none-is}
 use Rattle.base.proofs.TestedLaws.{tested-sound, tested-passes}
 use Rattle.conditions.proofs.AimedLaws.{system-not, formed as name-formed, name-borne, all-passed}
-use Rattle.rules.proofs.08-Working.{named-present, holder, bearer-named, other-named}
+use Rattle.rules.proofs.08-Working.{named-present, bearer-named, other-named}
 use Rattle.type_set.proofs.Members.{members-alike}
 use Rattle.change_imports.specs.Import.{first-refusals, enter-refusals, enter, nameless-of, brought, Lacking, Missing}
 
@@ -117,21 +116,6 @@ given-formed n e h = go (well-formed n) (and-rest (not (blank n)) (not (well-for
 
 pub given-long : (n : Name) → malformed-new n ≡ false → (length n ≡ 0 → ⊥) → length n ≤ 16
 given-long n e h = formed-long n (given-formed n e h) .1
-
-local-formed : {s : Schema} → Good s → (d t : ℕ) → present s d t ≡ true → blank (local-name s d t) ≡ false → well-formed (local-name s d t) ≡ true
-unfolding local-name
-local-formed {s} good d t e named =
-    let p = type-presence s d t in
-    ⊎-elim (λ b. absurd (true≢false (sym b ∙ named))) (λ w. w)
-    (or-cases (blank (p .name)) (well-formed (p .name)) (good .presence-named p (holder s d t e .0)))
-
-pub filled-formed : {s : Schema} → Good s → (d t : ℕ) (new : Name) → present s d t ≡ true → blank (local-name s d t) ≡ false
-    → malformed-new new ≡ false → well-formed (filled s d t new) ≡ true
-filled-formed {s} good d t new e named f = go (blank new) refl
-  where
-    go : (x : Bool) → blank new ≡ x → well-formed (cond x (local-name s d t) new) ≡ true
-    go true q = local-formed good d t e named
-    go false q = given-formed new f (λ z. true≢false (sym (eq-eqb (length new) 0 z) ∙ q))
 
 -- a name written into a field of zeros is the name in it
 pub given-filled : (s : Schema) (d t : ℕ) (n field : Name) → malformed-new n ≡ false → (length n ≡ 0 → ⊥)

@@ -5,7 +5,6 @@ use mathlib.Core.Path.{_≡_, refl, sym, ap, _∙_, subst}
 use mathlib.Core.Logic.{inl, inr, ⊎-elim}
 use mathlib.Core.List.{List, _∷_, _++_, tail-eq-of-cons-eq, append-cancel-right}
 use mathlib.Core.Bool.{Bool, true, cond, _||_}
-use lib.Dec.{eqb}
 use lib.ListN.{length, getD, take, drop, replicate}
 use lib.Seq.{drop-drop, take-add}
 use borrow.Author.Tests.{eqb-true}

@@ -5,13 +5,13 @@ use mathlib.Core.Path.{_≡_, refl, sym, ap, _∙_, subst}
 use mathlib.Core.Logic.{inl, inr, ⊎-elim}
 use mathlib.Core.List.{List, [], _∷_, map, Memᴰ·append-left, Memᴰ·append-right, List·Memᴰ·append-cases, List·Memᴰ·cases-cons}
 use mathlib.Core.List.List·Memᴰ.{List·Memᴰ·head, List·Memᴰ·tail}
-use mathlib.Core.Bool.{Bool, true, false, not, cond, _&&_, _||_, true≢false, false≢true}
+use mathlib.Core.Bool.{Bool, true, false, not, _||_, true≢false, false≢true}
 use lib.ListN.{length, getD}
 use borrow.Author.Tests.{not-true, not-false}
 use Rattle.rules.specs.01-Lists.{_∈_, put-all}
 use Rattle.rules.specs.03-Names.{Name, well-formed, blank}
 use Rattle.rules.specs.04-Schema.{Schema, Presence, kind-of, is-used, is-object, reverse-in, reverse, with-reverse, present, bears, type-named, local-name}
-use Rattle.rules.specs.04-Schema.{new-presence, type-presence, with-presences}
+use Rattle.rules.specs.04-Schema.{new-presence, with-presences}
 use Rattle.rules.specs.06-Good.{presence-before, Good}
 use Rattle.rules.specs.04-Schema.Kind.{paired}
 use Rattle.rules.specs.05-Descent.{Parent, Descends, descends}
@@ -21,13 +21,14 @@ use Rattle.rules.specs.09-Refusals.Outcome.{done}
 use Rattle.rules.specs.10-Changes.{filled, imported, missing, nameless, incoming, import, import-refusals}
 use Rattle.rules.specs.13-History.{next}
 use Rattle.rules.specs.Parts.{of-presences}
-use Rattle.rules.proofs.Bools.{or-cases, or-neither, and-both, and-of, fails}
+use Rattle.rules.proofs.Bools.{or-neither, and-both, and-of, fails}
 use Rattle.rules.proofs.01-Lists.{Different, rising-different, map-in}
 use Rattle.rules.proofs.03-Names.{formed-named, formed-allowed}
 use Rattle.rules.proofs.05-Descent.{members-in, members-of, members-rising, object-used, object-below, past, child-object, descendant-object}
 use Rattle.rules.proofs.05-Descent.{ancestor-object, descends-sound, descends-full}
 use Rattle.rules.proofs.Edits.{map-of, put-all-in, put-all-old, put-all-new}
-use Rattle.rules.proofs.08-Working.{holder, bearer-named, other-named, present-used}
+use Rattle.rules.proofs.08-Working.{bearer-named, other-named, present-used}
+use Rattle.rules.proofs.NameTests.{filled-formed}
 use Rattle.rules.proofs.09-Refusals.{verdict-keeps}
 use Rattle.rules.proofs.Parts.{presence-there, parent-of, parts-of}
 use Rattle.history.proofs.KindLaws.{alone-or-pair, one-reverse, is-reverse, has-reverse}
@@ -36,19 +37,6 @@ use Rattle.history.proofs.Passed.{formed, named-present, names-free, bo
 use Rattle.history.proofs.Rows.{present-over, Row-fits, row-fits, Other, others, Apart, rows-all, with-more-good}
 
 module _ (s : Schema) (g : Good s) where
-  -- the name in the source is well formed where there is one, and so is one that is given
-  filled-formed : (source u : ℕ) (new : Name) → present s source u ≡ true → blank (local-name s source u) ≡ false → malformed-new new ≡ false
-      → well-formed (filled s source u new) ≡ true
-  unfolding local-name malformed-new
-  filled-formed source u new there named e = go (blank new) e
-    where
-      go : (b : Bool) → not b && malformed new ≡ false → well-formed (cond b (local-name s source u) new) ≡ true
-      go true e =
-          let p = type-presence s source u in
-          ⊎-elim (λ b. absurd (true≢false (sym b ∙ named))) (λ w. w)
-          (or-cases (blank (p .name)) (well-formed (p .name)) (g .presence-named p (holder s source u there .0)))
-      go false e = formed new e
-
   -- an SDS that lacks a type lacks its reverse
   pair-lacks : (d t c r : ℕ) → kind-of s t ≡ paired c r → present s d t ≡ false → present s d r ≡ false
   pair-lacks d t c r k lacks =
@@ -171,12 +159,12 @@ module _ (target source t : ℕ) (new new-reverse : Name) (s : Schema) where
         (well′ : malformed-new new-reverse ≡ false) (here : present s source t ≡ true) (named : blank (local-name s source t) ≡ false)
         (lacks : present s target t ≡ false) (names : names-taken s target (map (λ p. p .name) (imported target source t new new-reverse s)) ≡ false) where
       formed-t : well-formed (filled s source t new) ≡ true
-      formed-t = filled-formed s g source t new here named well
+      formed-t = filled-formed g source t new here named well
 
       formed-r : (c r : ℕ) → kind-of s t ≡ paired c r → well-formed (filled s source r new-reverse) ≡ true
       formed-r c r k =
           let here′ = g .reverse-present source t c r here k in
-          filled-formed s g source r new-reverse here′ (other-named g source r here′ (ap is-object (g .reverse-in-turn t c r k .1))) well′
+          filled-formed g source r new-reverse here′ (other-named g source r here′ (ap is-object (g .reverse-in-turn t c r k .1))) well′
 
       -- each may be put in, is other than those before it, and has there what its type asks
       fits : (p : Presence) → p ∈ coming → Row-fits (s .sdss) (s .presences) p

@@ -22,7 +22,7 @@ use Rattle.rows.specs.Rows.{Counted}
 use Rattle.rows.proofs.Rows.{part-byte}
 use Rattle.base.specs.Tables.{Blank-from, Presences-halved, presences, applications, ends}
 use Rattle.base.specs.Rows.{presence-at, application-at, end-at}
-use Rattle.base.specs.Back.{schema-of, presence-count, application-count, end-count, presence-shown, application-shown, end-shown}
+use Rattle.base.specs.Back.{schema-of, presence-count, application-count, end-count, application-shown, end-shown}
 use Rattle.base.proofs.Back.{rows-few, sound-canonical, sound-good}
 use Rattle.base.proofs.Halved.{presences-right}
 use Rattle.base.proofs.Kept.{sound-long}

@@ -1,14 +1,18 @@
 -- The tests of an SDS and of names, one after the other. Assumes nothing.
 use Prim.Native.Nat.{ℕ}
 use mathlib.Core.Path.{_≡_, sym, ap, _∙_}
+use mathlib.Core.Logic.{⊎-elim}
 use mathlib.Core.List.{[], _∷_}
-use mathlib.Core.Bool.{Bool, true, false, not, _||_, or-false}
+use mathlib.Core.Bool.{Bool, true, false, not, cond, _&&_, _||_, or-false, true≢false}
 use borrow.Author.Tests.{eq-eqb, ne-eqb, not-false}
 use Rattle.rules.specs.01-Lists.{any}
-use Rattle.rules.specs.03-Names.{Name, well-formed, same-name}
-use Rattle.rules.specs.04-Schema.{Schema, present, bears}
-use Rattle.rules.specs.09-Refusals.{system-sds, malformed, no-such-name, not-present, names-taken}
-use Rattle.rules.proofs.Bools.{or-neither}
+use Rattle.rules.specs.03-Names.{Name, blank, well-formed, same-name}
+use Rattle.rules.specs.04-Schema.{Schema, present, bears, type-presence, local-name}
+use Rattle.rules.specs.06-Good.{Good}
+use Rattle.rules.specs.09-Refusals.{system-sds, malformed, malformed-new, no-such-name, not-present, names-taken}
+use Rattle.rules.specs.10-Changes.{filled}
+use Rattle.rules.proofs.Bools.{or-cases, or-neither}
+use Rattle.rules.proofs.08-Working.{holder}
 
 pub system-stops : (d : ℕ) → d ≡ 0 → system-sds d ≡ true
 unfolding system-sds
@@ -47,6 +51,20 @@ type-missing s d t e = ap not e
 pub type-present : (s : Schema) (d t : ℕ) → not-present s d t ≡ false → present s d t ≡ true
 unfolding not-present
 type-present s d t e = not-false (present s d t) e
+
+-- ---- a new name of an import: the name in the source where there is one, or the one that is given
+
+pub filled-formed : {s : Schema} → Good s → (source t : ℕ) (new : Name) → present s source t ≡ true → blank (local-name s source t) ≡ false
+    → malformed-new new ≡ false → well-formed (filled s source t new) ≡ true
+unfolding local-name malformed-new malformed
+filled-formed {s} good source t new there named e = go (blank new) e
+  where
+    go : (b : Bool) → not b && not (well-formed new) ≡ false → well-formed (cond b (local-name s source t) new) ≡ true
+    go true e =
+        let p = type-presence s source t in
+        ⊎-elim (λ b. absurd (true≢false (sym b ∙ named))) (λ w. w)
+        (or-cases (blank (p .name)) (well-formed (p .name)) (good .presence-named p (holder s source t there .0)))
+    go false e = not-false (well-formed new) e
 
 -- ---- new names: one, or the two of a call
 

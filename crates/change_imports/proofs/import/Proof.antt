@@ -3,10 +3,11 @@ use borrow.Author.Needs.{needs}
 use native.Mathlib.Omega.{arith}
 use mathlib.Core.Path.{_≡_, ap, _∙_}
 use Rattle.rules.specs.03-Names.{well-formed}
+use Rattle.rules.proofs.NameTests.{filled-formed}
 use Rattle.base.proofs.Back.{sound-good}
 use Rattle.base.proofs.TestedLaws.{tested-stops}
 use Rattle.change_imports.proofs.ImportLaws.{Importable, importable, import-left, import-one, import-both}
-use Rattle.change_imports.proofs.ImportLaws.{reverse-below, reverse-there, reverse-named, filled-formed, cut-is}
+use Rattle.change_imports.proofs.ImportLaws.{reverse-below, reverse-there, reverse-named, cut-is}
 use Rattle.change_imports.proofs.import.Statement.{statement}
 use Rattle.change_imports.proofs.import.Tie as tie
 

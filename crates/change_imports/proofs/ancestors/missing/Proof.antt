@@ -31,10 +31,11 @@ without-requires c κs = tt
 
 returns : tie.Need-returns
 returns c = λ k.
-    let x = c .before .before .before .before .before .before .before .before .pre in
+    let all = c .before .before .before .before in
+    let x = all .before .before .before .before .pre in
     c .without .ensures k
-    ∙ missing-are _ _ _ (x .1 .0) (x .1 .1) (c .before .before .before .before .before .before .empty .ensures) (c .before .before .before .before .before .add .ensures) (c .before .before .before .before .ancestors-of .ensures) (c .before .before .listed .ensures)
-    (c .before .visible .ensures) k
+    ∙ missing-are _ _ _ (x .1 .0) (x .1 .1) (all .before .before .empty .ensures) (all .before .add .ensures) (all .ancestors-of .ensures)
+    (c .before .before .listed .ensures) (c .before .visible .ensures) k
 
 pub missing-spec : {M : Type 1} → statement M
 missing-spec =

@@ -166,7 +166,7 @@ module _ (b : List ℕ) (d : ℕ) (n : Name) (t : ℕ) {b₁ : List ℕ}
       shows-has (Lacking d types) out (record {
         room = omega (arith, put-long presence-before (new-presence d n t) ((schema-of b) .presences), presences-long b);
         lacked = λ k e.
-            let (above, out) = and-both (descends (schema-of b) t k) (not (present (schema-of b) d k)) (sym (missing .are k) ∙ e) in
+            let (above, out) = and-both (descends (schema-of b) t k) (not (present (schema-of b) d k)) (sym (missing k) ∙ e) in
             put-none presence-before (holds-type d k) (new-presence d n t) ((schema-of b) .presences)
             (rw (ne-eqb t k (λ same. good .acyclic t (descends-sound good t t (ap (descends (schema-of b) t) same ∙ above)))) (and-false (eqb d d)))
             (not-true (present (schema-of b) d k) out);
@@ -229,7 +229,6 @@ pub record Importable (b : List ℕ) (target source : ℕ) (n new new-reverse : 
   pub below : t < 128
   pub there : present (schema-of b) source t ≡ true
   pub named : blank (local-name (schema-of b) source t) ≡ false
-  pub lacks : present (schema-of b) target t ≡ false
   pub reversed : Reverse-of (schema-of b) t u
   pub formed : malformed-new new ≡ false
   pub formed-reverse : malformed-new new-reverse ≡ false
@@ -255,7 +254,6 @@ importable {b} {target} {source} {n} {new} {new-reverse} {t = t} told z =
       below = found .type .below;
       there = named-present s source n borne named;
       named = ap (λ (u : ℕ). blank (local-name s source u)) named ∙ bearer-named (sound-good sound) source n given borne;
-      lacks = ap (present s target) named ∙ passed .fails 9;
       reversed = found .pair;
       formed = formed;
       formed-reverse = formed-reverse;
@@ -267,7 +265,7 @@ importable {b} {target} {source} {n} {new} {new-reverse} {t = t} told z =
 module _ {b : List ℕ} {target source : ℕ} {n new new-reverse : Name} {t u : ℕ} (i : Importable b target source n new new-reverse t u) where
   -- it has no reverse: its ancestors that are missing come with it
   pub import-one : u ≡ 128 → {name after : List ℕ} {a : Answer} {types : ℕ → Bool} → name ≡ filled (schema-of b) source t new
-      → ((k : ℕ) → types k ≡ descends (schema-of b) t k && not-present (schema-of b) target k)
+      → Missing target t types (schema-of b)
       → Kept b (enter target (new-presence target name t ∷ []) (nameless-of target types) t 0) a after
       → Kept b (import target source n new new-reverse) a after
   unfolding missing

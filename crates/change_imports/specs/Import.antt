@@ -50,7 +50,6 @@ pub record Lacking (d : ℕ) (types : ℕ → Bool) (s : Schema) : Type 0 where
   pub room : length (s .presences) + length (members types) ≤ limits .presences
   pub lacked : (k : ℕ) → types k ≡ true → present s d k ≡ false
 
--- the types are the ancestors of type t that SDS d lacks, and it lacks t
-pub record Missing (d t : ℕ) (types : ℕ → Bool) (s : Schema) : Type 0 where
-  pub lacks : present s d t ≡ false
-  pub are : (k : ℕ) → types k ≡ descends s t k && not-present s d k
+-- the types are the ancestors of type t that SDS d lacks
+abbrev pub Missing : ℕ → ℕ → (ℕ → Bool) → Schema → Type 0
+Missing d t types s = (k : ℕ) → types k ≡ descends s t k && not-present s d k

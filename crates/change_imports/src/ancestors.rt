@@ -2,21 +2,18 @@
 use rules::Limits;
 use type_set::TypeSet;
 ghost use mathlib.Core.Path.{_≡_};
-ghost use mathlib.Core.Bool.{_&&_};
-ghost use Prim.Native.Nat.{ℕ, _<_};
+ghost use Prim.Native.Nat.{_<_};
 ghost use Rattle.rules.specs.02-Limits.{limits};
-ghost use Rattle.rules.specs.05-Descent.{descends};
 ghost use Rattle.rules.specs.07-Picture.{Sound};
-ghost use Rattle.rules.specs.09-Refusals.{not-present};
 ghost use Rattle.base.specs.Back.{schema-of};
 ghost use Rattle.base.specs.Stored.{Stored, Shows};
 ghost use Rattle.type_set.specs.Set.{has};
-ghost use Rattle.change_imports.specs.Import.{Lacking, brought};
+ghost use Rattle.change_imports.specs.Import.{Lacking, Missing, brought};
 
 // Those of type t that SDS d lacks.
 pub fn missing(base: &[u8], d: usize, t: usize) -> TypeSet
     requires { ⌜ Sound (now base) × ((d < limits .sdss) × (t < limits .types)) ⌝ }
-    ensures { λ r. ⌜ ((k : ℕ) → has r k ≡ descends (schema-of (now (base .entry))) t k && not-present (schema-of (now (base .entry))) d k) ⌝ }
+    ensures { λ r. ⌜ Missing d t (has r) (schema-of (now (base .entry))) ⌝ }
 {
     let none = TypeSet::empty();
     let all = kin::ancestors_of(base, none.add(t));

@@ -66,7 +66,7 @@ enter-one-requires c κs =
       r .sound,
       (
         record { small = r .small; outside = r .outside; below = r .below; formed = formed },
-        record { lacks = r .lacks; are = c .before .before .before .missing .ensures },
+        c .before .before .before .missing .ensures,
       ),
     )
 

@@ -7,6 +7,8 @@ demo:
 	@bash scripts/demo
 session:
 	@bash scripts/session
+inspect:
+	@bash scripts/inspect '$(FILE)'
 check:
 	@bash .ci/run
 bench:
@@ -16,4 +18,4 @@ install:
 help:
 	@sed -n 's/^# make /make /p' scripts/* .ci/run tests/run
 
-.PHONY: build demo session check bench install help
+.PHONY: build demo session inspect check bench install help

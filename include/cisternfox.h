@@ -2,8 +2,8 @@
  *
  * Every function takes every input, a base with spoiled bytes included, and ends in an answer or a numbered refusal. A
  * refusal leaves all that was lent byte for byte as it was. Where several numbers would apply, the first of them is told,
- * in the order 1 to 5, 19, 6 to 12, 16, 17, 18, 13, 14, 15. Numbers are tested at their full width. Nothing is kept
- * between calls, and nothing is allocated.
+ * in the order 1, 20, 21, 2 to 5, 19, 6 to 12, 16, 17, 18, 13, 14, 15. Numbers are tested at their full width. Nothing is
+ * kept between calls, and nothing is allocated.
  *
  * What the host owes. A pointer of a length above 0 points to so many bytes; one of length 0 may be NULL. None needs to
  * be aligned. What a call may write, a base or an output, overlaps nothing else that is lent, and no other thread reads
@@ -28,7 +28,7 @@
 #include <stddef.h>
 #include <stdint.h>
 
-#define CF_VERSION "0.6.0"
+#define CF_VERSION "0.7.0"
 
 /* What a base has room for, and its length in bytes. tests/c/test.c holds these to the library. */
 #define CF_BASE_LENGTH 14336
@@ -51,14 +51,17 @@ enum cf_mode {
     CF_ALL_MODES = 31
 };
 
-/* So many bytes of output are enough for every call: an entry has two, a list has each type once, and the three lists
+/* So many bytes of output are enough for every list: an entry has two, a list has each type once, and the three lists
  * of a profile are of three kinds of types. */
 #define CF_OUTPUT_LENGTH (2 * CF_TYPES)
+
+/* So many bytes are enough for the exchange file of every base, and no longer file is read in. */
+#define CF_FILE_MOST 14876
 
 /* What `no` in an answer says. A call's own comment says which of these it can answer, and what each means there. */
 enum cf_no {
     CF_DONE = 0,
-    CF_NOT_SOUND = 1,       /* the base is not sound; of cf_fresh: the length is wrong */
+    CF_NOT_SOUND = 1,       /* the base is not sound; of cf_fresh and cf_read_file: its length is wrong */
     CF_NO_SDS = 2,          /* no SDS has that number */
     CF_SYSTEM = 3,          /* SDS 0, "system", never changes */
     CF_MALFORMED = 4,       /* a name is malformed */
@@ -77,11 +80,14 @@ enum cf_no {
     CF_HAS_CHILD = 16,      /* the type has a child there; one: the lowest */
     CF_APPLIED = 17,        /* the type is applied or has anything applied to it there; one: the lowest of these */
     CF_HAS_END = 18,        /* the type is or has an end there; one: the lowest of these */
-    CF_UNKNOWN_MODE = 19    /* a set of modes has one that is none of the five */
+    CF_UNKNOWN_MODE = 19,   /* a set of modes has one that is none of the five */
+    CF_FILE_MALFORMED = 20, /* the file is malformed; one: how many of its first bytes some well-formed file has too */
+    CF_FILE_NOT_SOUND = 21  /* the file is well formed, but over a limit or no sound base's */
 };
 
 /* `no` is a number of the above; then the values that the call gives, in order. All others are 0. A refusal gives no
- * value, but for 12, 16, 17 and 18: one is the lowest type that stands in the way of a removal, which may be type 0. */
+ * value, but for 12, 16, 17 and 18: one is the lowest type that stands in the way of a removal, which may be type 0; and
+ * for 20: one is the length of the longest start that the bytes share with some well-formed file, which may be 0. */
 typedef struct {
     size_t no, one, two, three;
 } cf_answer;
@@ -114,6 +120,8 @@ static inline const char *cf_words(size_t no)
     case CF_APPLIED: return "the type is applied or has anything applied to it there";
     case CF_HAS_END: return "the type is or has an end there";
     case CF_UNKNOWN_MODE: return "a mode is unknown";
+    case CF_FILE_MALFORMED: return "the file is malformed";
+    case CF_FILE_NOT_SOUND: return "the file is well formed, but over a limit or not sound";
     default: return "no such number";
     }
 }
@@ -306,6 +314,28 @@ cf_answer cf_descendant_set(const uint8_t *base, size_t base_len, const uint8_t 
 /* The modes of a type of any kind: those that it has in any of the listed SDSs that hold it. one: usage; two: definition.
  * 1: the base is not sound; 2: no SDS has a number listed; 6: the type is not visible; 8: an SDS is listed twice. */
 cf_answer cf_modes(const uint8_t *base, size_t base_len, const uint8_t *schema, size_t schema_len, size_t type);
+
+/* The calls below are for the exchange file: a whole base in the bytes of docs/FILE.md, so that others can hold sets of
+ * their own and hand them over. A base has one file, and a file that is read in gives one base: what is written and read
+ * is the same base byte for byte, what is read and written the same file. It has no checksum: a byte that changes on
+ * the way can make another file that is accepted. */
+
+/* Writes a base as a file, at the start of the output; what lies behind it there stays as it was. one: the length of the
+ * file in bytes, at most CF_FILE_MOST.
+ * 1: the base is not sound; 15: the output is shorter than the file. */
+cf_answer cf_write_file(const uint8_t *base, size_t base_len, uint8_t *output, size_t output_len);
+
+/* Reads a file in: writes the base that it tells of over any bytes of the right length, as cf_fresh does. The file is all
+ * of the bytes that are lent; it must not overlap the base. A refusal leaves the base as it was, whatever it was.
+ * The whole base is first made on the stack: this call needs up to 18,432 bytes of it, every other up to 1,024.
+ * 1: the length is not that of a base; 20: the file is malformed: its sections, counts or the order of its entries are
+ * not right, or bytes stand behind it. one: the length of the longest start that it shares with some well-formed file,
+ * so that of all of it where it is cut short, and elsewhere the place of the first byte that is wrong. 21: it is well
+ * formed, but over a limit or not what a sound base is written as. */
+cf_answer cf_read_file(uint8_t *base, size_t base_len, const uint8_t *file, size_t file_len);
+
+/* The bytes that are enough for every file: CF_FILE_MOST, as the library that is linked has it. */
+size_t cf_file_most(void);
 
 #ifdef __cplusplus
 }

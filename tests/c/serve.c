@@ -1,9 +1,10 @@
 /* Makes calls of the library for the benchmark and, where the comparison (tests/compare) cannot link the archive, for
  * that: the archive is x86-64 code, so on another machine this program alone runs under an emulator.
  *
- * It writes one line, the length of a base and the names of the functions below, and then answers requests until its
- * input ends. A request is a `struct request`, then one area of bytes that holds all that the call is lent. A reply is
- * a `struct reply`, then the whole area as the call left it. Nothing is compared here, and nothing is kept. */
+ * It writes one line, the length of a base, the most that a file has and the names of the functions below, and then
+ * answers requests until its input ends. A request is a `struct request`, then one area of bytes that holds all that the
+ * call is lent. A reply is a `struct reply`, then the whole area as the call left it. Nothing is compared here, and
+ * nothing is kept. */
 #include "cisternfox.h"
 #include "clock.h"
 #include <stdio.h>
@@ -46,6 +47,7 @@ struct lent {
     CALL(rename, BASE, NUMBER(0), TEXT(0), TEXT(1)) \
     CALL(rename_number, BASE, NUMBER(0), NUMBER(1), TEXT(0)) \
     CALL(set_modes, BASE, NUMBER(0), TEXT(0), NUMBER(1), NUMBER(2)) \
+    CALL(read_file, BASE, TEXT(0)) \
     CALL(name, BASE, NUMBER(0), NUMBER(1)) \
     CALL(scan_object, BASE, TEXT(0), NUMBER(0), NUMBER(1), OUTPUT) \
     CALL(scan_link, BASE, TEXT(0), NUMBER(0), NUMBER(1), OUTPUT) \
@@ -53,7 +55,8 @@ struct lent {
     CALL(find, BASE, TEXT(0), TEXT(1)) \
     CALL(depth, BASE, TEXT(0), NUMBER(0)) \
     CALL(descendant_set, BASE, TEXT(0), NUMBER(0)) \
-    CALL(modes, BASE, TEXT(0), NUMBER(0))
+    CALL(modes, BASE, TEXT(0), NUMBER(0)) \
+    CALL(write_file, BASE, OUTPUT)
 
 #ifdef ANSWER_BY_POINTER
 /* The library's x86-64 module compiled for another machine (tests/native): there as on x86-64 the caller hands over
@@ -134,7 +137,7 @@ int main(void)
     struct request request;
     setvbuf(stdin, in, _IOFBF, sizeof in);
     setvbuf(stdout, out, _IOFBF, sizeof out);
-    printf("%zu%s\n", cf_base_length(), names);
+    printf("%zu %zu%s\n", cf_base_length(), cf_file_most(), names);
     fflush(stdout);
     while (fread(&request, sizeof request, 1, stdin) == 1) {
         if (request.function >= sizeof functions / sizeof *functions || request.area_length > sizeof area)

@@ -1257,6 +1257,467 @@ static const char *numbered(size_t number)
     return name;
 }
 
+/* The exchange file (02, Q-3), as docs/FILE.md has it. It lies between guards, and its area has the same byte all over
+ * before it is written; there is room for a file that is too long. */
+enum { FILE_ROOM = CF_FILE_MOST + 64 };
+static uint8_t file_area[GUARD + FILE_ROOM + GUARD];
+static uint8_t *const file = file_area + GUARD;
+static size_t file_length;
+
+#define WRITE_FILE(room) cf_write_file(base, LENGTH, file, room)
+#define READ_FILE() cf_read_file(base, LENGTH, file, file_length)
+
+static void clear_file(void) { memset(file_area, 0xa5, sizeof file_area); }
+
+static void take_file(const void *bytes, size_t length)
+{
+    clear_file();
+    memcpy(file, bytes, length);
+    file_length = length;
+}
+
+/* Writes the base where there is just room for its file, and gives its length; with a byte less, and with none, it is
+ * refused and the output is left as it was. */
+static size_t write_base(void)
+{
+    static uint8_t kept[FILE_ROOM];
+    keep();
+    clear_file();
+    cf_answer answer = WRITE_FILE(FILE_ROOM);
+    file_length = answer.one;
+    EXPECT(same(answer, (cf_answer){0, file_length, 0, 0}) && file_length >= 53 && file_length <= CF_FILE_MOST);
+    if (file_length == 0)
+        return 0;
+    EXPECT(is_blank(file_area, GUARD) && is_blank(file + file_length, FILE_ROOM - file_length + GUARD));
+    memcpy(kept, file, file_length);
+    clear_file();
+    ANSWERS(WRITE_FILE(0), 15, 0, 0, 0);
+    ANSWERS(WRITE_FILE(file_length - 1), 15, 0, 0, 0);
+    EXPECT(is_blank(file_area, sizeof file_area));
+    ANSWERS(WRITE_FILE(file_length), 0, file_length, 0, 0);
+    EXPECT(memcmp(kept, file, file_length) == 0);
+    EXPECT(is_blank(file_area, GUARD) && is_blank(file + file_length, FILE_ROOM - file_length + GUARD));
+    EXPECT(is_kept());
+    return file_length;
+}
+
+/* Whether the base, written, spoiled and read in, is as it was, and its file is when it is written again. */
+static int goes_round(void)
+{
+    static uint8_t first[FILE_ROOM], kept[LENGTH];
+    size_t length = write_base();
+    memcpy(first, file, FILE_ROOM);
+    memcpy(kept, base, LENGTH);
+    memset(base, 0xa5, LENGTH);
+    ANSWERS(READ_FILE(), 0, 0, 0, 0);
+    EXPECT(memcmp(first, file, FILE_ROOM) == 0);
+    return memcmp(kept, base, LENGTH) == 0 && write_base() == length && memcmp(first, file, length) == 0 && is_guarded();
+}
+
+/* Whether the file is refused with that answer, by a base that is sound and by bytes that are none, which are left. */
+static int is_refused(size_t no, size_t one)
+{
+    static uint8_t kept[LENGTH];
+    int is_so = 1;
+    memcpy(kept, base, LENGTH);
+    for (int spoiled = 0; spoiled < 2; spoiled++) {
+        if (spoiled)
+            memset(base, 0xa5, LENGTH);
+        keep();
+        is_so = is_so && same(READ_FILE(), (cf_answer){no, one, 0, 0}) && is_kept() && is_guarded();
+    }
+    memcpy(base, kept, LENGTH);
+    return is_so;
+}
+
+enum section { IN_SDSS, IN_TYPES, IN_PARENTS, IN_PRESENCES, IN_APPLICATIONS, IN_ENDS };
+static const size_t widths[] = {17, 4, 2, 20, 3, 4};
+
+/* The place of an entry, from 0, in the file. */
+static size_t place(enum section section, size_t number)
+{
+    size_t at = 0;
+    for (int n = 0; n < (int)section; n++)
+        at += 2 + widths[n] * (size_t)(file[at] | file[at + 1] << 8);
+    return at + 2 + widths[section] * number;
+}
+
+/* One entry more, before that of the number. */
+static void put_entry(enum section section, size_t number, const void *entry)
+{
+    size_t at = place(section, number), count = place(section, 0) - 2;
+    memmove(file + at + widths[section], file + at, file_length - at);
+    memcpy(file + at, entry, widths[section]);
+    file_length += widths[section];
+    if (++file[count] == 0)
+        file[count + 1]++;
+}
+
+static const uint8_t fresh_file[53] = {
+    0x01, 0x00,
+    0x00, 0x73, 0x79, 0x73, 0x74, 0x65, 0x6d, 0x00, 0x00, 0x00, 0x00, 0x00, 0x00, 0x00, 0x00, 0x00, 0x00,
+    0x01, 0x00,
+    0x00, 0x01, 0x00, 0x00,
+    0x00, 0x00,
+    0x01, 0x00,
+    0x00, 0x00, 0x6f, 0x62, 0x6a, 0x65, 0x63, 0x74, 0x00, 0x00, 0x00, 0x00, 0x00, 0x00, 0x00, 0x00, 0x00, 0x00, 0x1f, 0x1f,
+    0x00, 0x00,
+    0x00, 0x00,
+};
+
+/* The worked sequence's, entry by entry as docs/FILE.md shows it; examples/sequence.cff has the same bytes. */
+static const uint8_t sequence[222] = {
+    0x02, 0x00,
+    0x00, 0x73, 0x79, 0x73, 0x74, 0x65, 0x6d, 0x00, 0x00, 0x00, 0x00, 0x00, 0x00, 0x00, 0x00, 0x00, 0x00,
+    0x01, 0x62, 0x75, 0x73, 0x00, 0x00, 0x00, 0x00, 0x00, 0x00, 0x00, 0x00, 0x00, 0x00, 0x00, 0x00, 0x00,
+    0x06, 0x00,
+    0x00, 0x01, 0x00, 0x00,
+    0x01, 0x01, 0x00, 0x00,
+    0x02, 0x01, 0x00, 0x00,
+    0x03, 0x01, 0x00, 0x00,
+    0x04, 0x01, 0x00, 0x00,
+    0x05, 0x01, 0x00, 0x00,
+    0x06, 0x00,
+    0x01, 0x00,
+    0x02, 0x01,
+    0x03, 0x01,
+    0x04, 0x05,
+    0x05, 0x02,
+    0x05, 0x03,
+    0x07, 0x00,
+    0x00, 0x00, 0x6f, 0x62, 0x6a, 0x65, 0x63, 0x74, 0x00, 0x00, 0x00, 0x00, 0x00, 0x00, 0x00, 0x00, 0x00, 0x00, 0x1f, 0x1f,
+    0x01, 0x00, 0x6f, 0x62, 0x6a, 0x65, 0x63, 0x74, 0x00, 0x00, 0x00, 0x00, 0x00, 0x00, 0x00, 0x00, 0x00, 0x00, 0x1f, 0x1f,
+    0x01, 0x01, 0x75, 0x6e, 0x69, 0x74, 0x00, 0x00, 0x00, 0x00, 0x00, 0x00, 0x00, 0x00, 0x00, 0x00, 0x00, 0x00, 0x1f, 0x1f,
+    0x01, 0x02, 0x74, 0x65, 0x6d, 0x70, 0x6c, 0x61, 0x74, 0x65, 0x00, 0x00, 0x00, 0x00, 0x00, 0x00, 0x00, 0x00, 0x1f, 0x1f,
+    0x01, 0x03, 0x72, 0x61, 0x64, 0x69, 0x6f, 0x00, 0x00, 0x00, 0x00, 0x00, 0x00, 0x00, 0x00, 0x00, 0x00, 0x00, 0x1f, 0x1f,
+    0x01, 0x04, 0x61, 0x64, 0x63, 0x00, 0x00, 0x00, 0x00, 0x00, 0x00, 0x00, 0x00, 0x00, 0x00, 0x00, 0x00, 0x00, 0x1f, 0x1f,
+    0x01, 0x05, 0x66, 0x69, 0x66, 0x6f, 0x32, 0x00, 0x00, 0x00, 0x00, 0x00, 0x00, 0x00, 0x00, 0x00, 0x00, 0x00, 0x1f, 0x1f,
+    0x00, 0x00,
+    0x00, 0x00,
+};
+
+/* The base at the end of 01's worked sequence. */
+static void the_worked_base(void)
+{
+    fresh();
+    new_sds("bus");
+    IMPORT(1, 0, "object", "", "");
+    NEW_OBJECT(1, "unit", "object");
+    NEW_OBJECT(1, "template", "unit");
+    NEW_OBJECT(1, "radio", "unit");
+    NEW_OBJECT(1, "fifo", "template radio");
+    NEW_OBJECT(1, "fifo2", "radio template");
+    REMOVE_TYPE(1, "fifo");
+    ANSWERS(NEW_OBJECT(1, "adc", "fifo2"), 0, ADC, 0, 0);
+}
+
+static void files_byte_for_byte(void)
+{
+    fresh();
+    EXPECT(write_base() == sizeof fresh_file && memcmp(file, fresh_file, sizeof fresh_file) == 0);
+    the_worked_base();
+    EXPECT(write_base() == sizeof sequence && memcmp(file, sequence, sizeof sequence) == 0);
+    /* the same by other ways: what was there and is gone leaves no trace, and names stand by type */
+    NEW_ATTRIBUTE(1, "state", 5);
+    REMOVE_TYPE(1, "state");
+    RENAME(1, "unit", "zone");
+    RENAME(1, "zone", "unit");
+    EXPECT(write_base() == sizeof sequence && memcmp(file, sequence, sizeof sequence) == 0);
+    /* read over a base that holds more */
+    a_base_with_links();
+    take_file(fresh_file, sizeof fresh_file);
+    ANSWERS(READ_FILE(), 0, 0, 0, 0);
+    memcpy(before, base, LENGTH);
+    fresh();
+    EXPECT(memcmp(before, base, LENGTH) == 0);
+    EXPECT(is_guarded());
+}
+
+static void files_go_round(void)
+{
+    fresh();
+    EXPECT(goes_round());
+    the_worked_base();
+    EXPECT(goes_round());
+    a_base_with_links();
+    EXPECT(goes_round());
+    /* types of 0 in every field that can be, and modes */
+    SET_MODES(1, "top", 0, 0);
+    SET_MODES(2, "eight", 3, 16);
+    EXPECT(goes_round());
+    ANSWERS(MODES("\2", SEVEN), 0, 3, 16, 0);
+    /* nameless presences, and names by type in the file and by lowered bytes in the base */
+    a_base_with_adc();
+    IMPORT(2, 1, "adc", "Zig", "");
+    EXPECT(goes_round());
+    EXPECT(is_nameless(2, UNIT) && is_named(2, ADC, "Zig"));
+    RENAME_NUMBER(2, 0, "ZIG_");
+    RENAME_NUMBER(2, FIFO2, "aa");
+    EXPECT(goes_round());
+    a_base_with_names(by_lowered);
+    EXPECT(goes_round());
+    /* calls go on from what was read in */
+    take_file(sequence, sizeof sequence);
+    ANSWERS(READ_FILE(), 0, 0, 0, 0);
+    ANSWERS(FIND("\1", "ADC"), 0, ADC, 0, 0);
+    ANSWERS(DEPTH("\1", ADC), 0, 4, 0, 0);
+    ANSWERS(REMOVE_TYPE(1, "template"), 16, FIFO2, 0, 0);
+    ANSWERS(NEW_OBJECT(1, "dac", "adc"), 0, 6, 0, 0);
+    EXPECT(is_guarded());
+}
+
+/* Every start of a file tells its own length, and a byte behind a file that of the file. */
+static void files_cut_short(void)
+{
+    the_worked_base();
+    for (size_t length = 0; length < sizeof sequence; length++) {
+        take_file(sequence, length);
+        EXPECT(is_refused(20, length));
+    }
+    for (int last = 0; last < 2; last++) {
+        take_file(sequence, sizeof sequence);
+        file[file_length++] = (uint8_t)(last * 0xff);
+        EXPECT(is_refused(20, sizeof sequence));
+        file[file_length++] = 0;
+        EXPECT(is_refused(20, sizeof sequence));
+    }
+    a_base_with_links();
+    size_t whole = write_base();
+    for (file_length = 0; file_length < whole; file_length++)
+        EXPECT(is_refused(20, file_length));
+    file_length++;
+    EXPECT(is_refused(20, whole));
+}
+
+/* The worked file with other bytes at a place. */
+#define WITH(at, bytes) (take_file(sequence, sizeof sequence), (void)memcpy(file + (at), bytes, sizeof(bytes) - 1))
+
+static void files_out_of_order(void)
+{
+    the_worked_base();
+    WITH(66, "\0");
+    EXPECT(is_refused(20, 66));
+    WITH(66, "\3");
+    EXPECT(is_refused(20, 69));
+    WITH(158, "\2");
+    EXPECT(is_refused(20, 178));
+    /* a field is not looked at, 20 comes before 21 */
+    WITH(65, "\xff");
+    EXPECT(is_refused(21, 0));
+    file_length--;
+    EXPECT(is_refused(20, sizeof sequence - 1));
+    /* enough strings must stand above an entry for those to come */
+    WITH(70, "\xff\xfd");
+    EXPECT(is_refused(20, 72));
+    WITH(70, "\xff\xfe");
+    EXPECT(is_refused(20, 71));
+    WITH(72, "\xff\xfe\xff\xff");
+    EXPECT(is_refused(21, 0));
+    WITH(72, "\xff\xff\xff\xff");
+    EXPECT(is_refused(20, 73));
+    WITH(74, "\xff\xff");
+    EXPECT(is_refused(21, 0));
+    WITH(198, "\xff\xff\xff\xff\xff\xff\xff\xff\xff\xff\xff\xff\xff\xff\xff\xff\xff\xff\xff\xff");
+    EXPECT(is_refused(21, 0));
+    WITH(178, "\xff\xff\xff\xff\xff\xff\xff\xff\xff\xff\xff\xff\xff\xff\xff\xff\xff\xff\xff\xff");
+    EXPECT(is_refused(20, 197));
+    WITH(178, "\xff\xff\xff\xff\xff\xff\xff\xff\xff\xff\xff\xff\xff\xff\xff\xff\xff\xff\xff\xfe");
+    EXPECT(is_refused(20, 198));
+    /* 65,535 parents: the first is 00 00 or 00 01 */
+    take_file(fresh_file, 25);
+    file_length = 29;
+    memcpy(file + 25, "\xff\xff\0\1", 4);
+    EXPECT(is_refused(20, 29));
+    memcpy(file + 25, "\xff\xff\0\2", 4);
+    EXPECT(is_refused(20, 28));
+    memcpy(file + 25, "\xff\xff\1\0", 4);
+    EXPECT(is_refused(20, 27));
+    memcpy(file + 25, "\xfe\xff\0\2", 4);
+    EXPECT(is_refused(20, 29));
+    /* an entry that comes twice, in each section: the second is wrong at its last byte */
+    a_base_with_links();
+    for (int section = IN_SDSS; section <= IN_ENDS; section++) {
+        uint8_t entry[20];
+        write_base();
+        memcpy(entry, file + place((enum section)section, 1), widths[section]);
+        put_entry((enum section)section, 1, entry);
+        EXPECT(is_refused(20, place((enum section)section, 3) - 1));
+    }
+}
+
+/* Well formed, and written by no sound base. */
+static void files_not_sound(void)
+{
+    /* one name in two spellings, of types and of SDSs; another spelling in SDS 0 */
+    the_worked_base();
+    WITH(120, "Adc\0");
+    EXPECT(is_refused(21, 0));
+    WITH(20, "SYSTEM");
+    EXPECT(is_refused(21, 0));
+    WITH(3, "System");
+    EXPECT(is_refused(21, 0));
+    WITH(80, "Object");
+    EXPECT(is_refused(21, 0));
+    WITH(100, "Object");
+    ANSWERS(READ_FILE(), 0, 0, 0, 0);
+    EXPECT(is_named(1, 0, "Object"));
+    /* two SDSs and two types of one number, with other bytes behind it */
+    take_file(sequence, sizeof sequence);
+    put_entry(IN_SDSS, 2, "\1car\0\0\0\0\0\0\0\0\0\0\0\0\0");
+    EXPECT(is_refused(21, 0));
+    take_file(sequence, sizeof sequence);
+    put_entry(IN_TYPES, 6, "\5\2\0\0");
+    EXPECT(is_refused(21, 0));
+    /* its own parent, its own ancestor, a parent for type 0; four parents, and five */
+    WITH(64, "\1\1");
+    EXPECT(is_refused(21, 0));
+    take_file(sequence, sizeof sequence);
+    put_entry(IN_PARENTS, 6, "\5\4");
+    EXPECT(is_refused(21, 0));
+    take_file(sequence, sizeof sequence);
+    put_entry(IN_PARENTS, 0, "\0\0");
+    EXPECT(is_refused(21, 0));
+    take_file(sequence, sizeof sequence);
+    put_entry(IN_PARENTS, 3, "\4\0");
+    put_entry(IN_PARENTS, 4, "\4\1");
+    put_entry(IN_PARENTS, 5, "\4\2");
+    ANSWERS(READ_FILE(), 0, 0, 0, 0);
+    put_entry(IN_PARENTS, 6, "\4\3");
+    EXPECT(is_refused(21, 0));
+    /* a type that is nowhere, and an SDS that is not there */
+    take_file(sequence, sizeof sequence);
+    put_entry(IN_TYPES, 6, "\6\2\0\0");
+    EXPECT(is_refused(21, 0));
+    put_entry(IN_PRESENCES, 7, "\1\6state\0\0\0\0\0\0\0\0\0\0\0\x1f\x1f");
+    ANSWERS(READ_FILE(), 0, 0, 0, 0);
+    file[place(IN_PRESENCES, 7)] = 2;
+    EXPECT(is_refused(21, 0));
+    /* a byte behind the zeros of a name, a mode that is none, a field that the kind lacks */
+    WITH(135, "x");
+    EXPECT(is_refused(21, 0));
+    WITH(136, "\x20");
+    EXPECT(is_refused(21, 0));
+    WITH(136, "\0\0");
+    ANSWERS(READ_FILE(), 0, 0, 0, 0);
+    ANSWERS(MODES("\1", UNIT), 0, 0, 0, 0);
+    WITH(61, "\1");
+    EXPECT(is_refused(21, 0));
+    /* blank: an object type may be, no attribute type, and none in SDS 0 */
+    a_base_with_links();
+    write_base();
+    memset(file + place(IN_PRESENCES, 1 + LEFT) + 2, 0, 16);
+    ANSWERS(READ_FILE(), 0, 0, 0, 0);
+    EXPECT(is_nameless(1, LEFT) && is_named(2, LEFT, "left"));
+    memset(file + place(IN_PRESENCES, 1 + FIVE) + 2, 0, 16);
+    EXPECT(is_refused(21, 0));
+    take_file(fresh_file, sizeof fresh_file);
+    memset(file + place(IN_PRESENCES, 0) + 2, 0, 16);
+    EXPECT(is_refused(21, 0));
+    /* a pair with other modes, and an end with no mirror */
+    a_base_with_links();
+    write_base();
+    file[place(IN_PRESENCES, 1 + SEVEN) + 18] = 1;
+    EXPECT(is_refused(21, 0));
+    file[place(IN_PRESENCES, 1 + EIGHT) + 18] = 1;
+    ANSWERS(READ_FILE(), 0, 0, 0, 0);
+    put_entry(IN_ENDS, 1, ((uint8_t[]){1, SEVEN, 1, TOP}));
+    EXPECT(is_refused(21, 0));
+    put_entry(IN_ENDS, 2, ((uint8_t[]){1, EIGHT, 0, TOP}));
+    ANSWERS(READ_FILE(), 0, 0, 0, 0);
+    EXPECT(is_guarded());
+}
+
+/* The longest file: every table full, and as many parents as there can be beside an attribute type and a link type. */
+static void the_longest_base(void)
+{
+    fresh();
+    for (size_t sds = 1; sds < CF_SDSS; sds++)
+        new_sds(numbered(sds));
+    IMPORT(1, 0, "object", "", "");
+    for (size_t type = 1; type < 126; type++) {
+        char name[4], parents[20] = "object";
+        if (type > 1)
+            strcpy(parents, "object ");
+        for (size_t parent = type < 5 ? 1 : type - 3; parent < type; parent++) {
+            strcat(parents, numbered(parent));
+            if (parent + 1 < type)
+                strcat(parents, " ");
+        }
+        memcpy(name, numbered(type), 4);
+        ANSWERS(NEW_OBJECT(1, name, parents), 0, type, 0, 0);
+    }
+    ANSWERS(NEW_ATTRIBUTE(1, numbered(126), 5), 0, 126, 0, 0);
+    ANSWERS(NEW_DESIGNATION(1, numbered(127)), 0, 127, 0, 0);
+    for (size_t sds = 2; sds < 5; sds++) {
+        IMPORT(sds, 0, "object", "", "");
+        for (size_t type = 127; type > 125; type--)
+            IMPORT(sds, 1, numbered(type), "", "");
+        for (size_t type = 1; type < (sds < 4 ? 126 : 125); type++)
+            ANSWERS(IMPORT(sds, 1, numbered(type), "", ""), 0, type, 0, 0);
+    }
+    for (size_t made = 0; made < CF_APPLICATIONS; made++) {
+        char attribute[4];
+        memcpy(attribute, numbered(126), 4);
+        ANSWERS(APPLY(1 + made / 125, attribute, numbered(1 + made % 125)), 0, 0, 0, 0);
+    }
+    for (size_t made = 0; made < CF_ENDS; made += 2) {
+        char link[4];
+        memcpy(link, numbered(127), 4);
+        ANSWERS(APPLY_LINK(1 + made / 250, link, numbered(1 + made / 2 % 125)), 0, 0, 0, 0);
+        ANSWERS(ADD_DESTINATION(1 + made / 250, link, numbered(1 + made / 2 % 125)), 0, 0, 0, 0);
+    }
+}
+
+static void files_at_the_limits(void)
+{
+    EXPECT(cf_file_most() == CF_FILE_MOST && CF_FILE_MOST == 14876);
+    the_longest_base();
+    EXPECT(IMPORT(4, 1, numbered(125), "", "").no == CF_FULL);
+    EXPECT(write_base() == 14840);
+    EXPECT(goes_round());
+    /* one more presence, application or end is over a limit, and nothing else is wrong */
+    put_entry(IN_PRESENCES, 1 + 128 + 128 + 128 + 125, "\4\x7dxxx\0\0\0\0\0\0\0\0\0\0\0\0\0\x1f\x1f");
+    EXPECT(is_refused(21, 0));
+    write_base();
+    put_entry(IN_APPLICATIONS, 256, "\4\1\x7e");
+    EXPECT(is_refused(21, 0));
+    write_base();
+    put_entry(IN_ENDS, 512, "\4\x7f\0\1");
+    EXPECT(is_refused(21, 0));
+    /* more SDSs than there can be; and a well-formed file is longer than any that is accepted */
+    write_base();
+    put_entry(IN_SDSS, 16, "\x10more\0\0\0\0\0\0\0\0\0\0\0\0");
+    EXPECT(is_refused(21, 0));
+    put_entry(IN_SDSS, 17, "\x10mores\0\0\0\0\0\0\0\0\0\0\0");
+    put_entry(IN_SDSS, 18, "\xff\0\0\0\0\0\0\0\0\0\0\0\0\0\0\0\0");
+    EXPECT(file_length > CF_FILE_MOST);
+    EXPECT(is_refused(21, 0));
+    file_length--;
+    EXPECT(is_refused(20, file_length));
+}
+
+/* 1 comes before 20, and before 15; what a base holds is nothing to a read. */
+static void files_and_lengths_of_bases(void)
+{
+    the_worked_base();
+    take_file(sequence, sizeof sequence);
+    keep();
+    ANSWERS(cf_read_file(base, LENGTH - 1, file, file_length), 1, 0, 0, 0);
+    ANSWERS(cf_read_file(base, 0, file, file_length), 1, 0, 0, 0);
+    ANSWERS(cf_read_file(area, LENGTH + 1, file, file_length), 1, 0, 0, 0);
+    ANSWERS(cf_read_file(base, LENGTH - 1, file, 0), 1, 0, 0, 0);
+    ANSWERS(cf_write_file(base, LENGTH - 1, file, FILE_ROOM), 1, 0, 0, 0);
+    ANSWERS(cf_write_file(area, LENGTH + 1, file, 0), 1, 0, 0, 0);
+    base[LENGTH - 1] = before[LENGTH - 1] = 1;
+    ANSWERS(WRITE_FILE(FILE_ROOM), 1, 0, 0, 0);
+    ANSWERS(WRITE_FILE(0), 1, 0, 0, 0);
+    EXPECT(is_kept() && is_guarded());
+    EXPECT(memcmp(file, sequence, sizeof sequence) == 0 && is_blank(file + file_length, FILE_ROOM - file_length + GUARD));
+    ANSWERS(READ_FILE(), 0, 0, 0, 0);
+    base[LENGTH - 1] = before[LENGTH - 1] = 0;
+    EXPECT(is_kept() && is_guarded());
+}
+
 /* As many things of each kind as the header says, and not one more. */
 static void the_limits(void)
 {
@@ -1328,12 +1789,12 @@ static void the_limits(void)
 /* Each number has words of its own. */
 static void words_for_numbers(void)
 {
-    for (size_t no = 0; no <= CF_UNKNOWN_MODE; no++) {
+    for (size_t no = 0; no <= CF_FILE_NOT_SOUND; no++) {
         EXPECT(strcmp(cf_words(no), "no such number") != 0);
         for (size_t other = 0; other < no; other++)
             EXPECT(strcmp(cf_words(no), cf_words(other)) != 0);
     }
-    EXPECT(strcmp(cf_words(CF_UNKNOWN_MODE + 1), "no such number") == 0);
+    EXPECT(strcmp(cf_words(CF_FILE_NOT_SOUND + 1), "no such number") == 0);
     EXPECT(strcmp(cf_words(SIZE_MAX), "no such number") == 0);
 }
 
@@ -1390,6 +1851,8 @@ static void null_with_length_0(void)
     ALIKE(cf_depth(none, 0, SCHEMA("\1"), TOP));
     ALIKE(cf_descendant_set(none, 0, SCHEMA("\1"), TOP));
     ALIKE(cf_modes(none, 0, SCHEMA("\1"), TOP));
+    ALIKE(cf_write_file(none, 0, file, FILE_ROOM));
+    ALIKE(cf_read_file(room, 0, sequence, sizeof sequence));
 
     ALIKE(cf_new_sds(base, LENGTH, none, 0));
     ALIKE(cf_new_object(base, LENGTH, 1, none, 0, TEXT("top")));
@@ -1435,6 +1898,10 @@ static void null_with_length_0(void)
     ALIKE(cf_depth(base, LENGTH, none, 0, TOP));
     ALIKE(cf_descendant_set(base, LENGTH, none, 0, TOP));
     ALIKE(cf_modes(base, LENGTH, none, 0, TOP));
+
+    /* a file of no bytes, and no room for one */
+    ALIKE(cf_read_file(base, LENGTH, none, 0));
+    ALIKE(cf_write_file(base, LENGTH, room, 0));
     EXPECT(is_guarded());
 }
 
@@ -1494,6 +1961,13 @@ int main(void)
     refusals_in_order();
     asked_at_full_width();
     a_spoiled_base_asked();
+    files_byte_for_byte();
+    files_go_round();
+    files_cut_short();
+    files_out_of_order();
+    files_not_sound();
+    files_at_the_limits();
+    files_and_lengths_of_bases();
     the_limits();
     words_for_numbers();
     null_with_length_0();

@@ -135,9 +135,9 @@ module _ {A : Type 0} {t : Table A} {o : Sorted t} (l : Sorts o) {rs : List A} (
     }
 
     module _ (a : A) (less : length rs < t .room) {count : ℕ} {key : List ℕ} (many : count ≡ length rs) (is : key ≡ t .row a) where
-      -- the place of a row is found by halving, and there is room for it
-      pub put-ready : Rises b (t .start) (o .named) (length key) count × (t .start + count * length key + length key ≤ length b)
-      put-ready = rw (is, many, l .wide a) (rises a, omega (arith, table-fits, row-fits (t .width) less))
+      -- there is room for a row
+      pub put-ready : (o .named < length key) × (t .start + count * length key + length key ≤ length b)
+      put-ready = rw (is, many, l .wide a) (l .name, omega (arith, table-fits, row-fits (t .width) less))
 
       -- put in at its place among the bytes it is put in at its place in the list
       pub put-opened : o .Fit a → {b′ : List ℕ} → Put-in b (t .start) (o .named) count key b′ → b′ ≡ pre ++ (bytes-of t (put (o .before) a rs) ++ post)
@@ -145,10 +145,11 @@ module _ {A : Type 0} {t : Table A} {o : Sorted t} (l : Sorts o) {rs : List A} (
           let x : Put-in b (t .start) (o .named) (length rs) (t .row a) b′ = rw (is, many) at x₀ in
           let i = x .at in
           let p = x .place in
+          let r : Rises b (t .start) (o .named) (length (t .row a)) (length rs) = rw (l .wide a) (rises a) in
           let there : (j : ℕ) → j < length rs → o .before (getD rs j a) a ≡ row-before (o .named) (row-at b (t .start) (length (t .row a)) j) (t .row a)
           = λ j m. rw (l .wide a, row-is a j m) (sym (l .order (getD rs j a) a (fit-at a j m) f)) in
           let here : put (o .before) a rs ≡ take i rs ++ a ∷ drop i rs
-          = put-place (o .before) a a rs i (p .most) (λ j m. there j (omega (arith, p .most)) ∙ p .earlier j m) (λ m. there i m ∙ p .later i (omega arith) m) in
+          = put-place (o .before) a a rs i (p .most) (λ j m. there j (omega (arith, p .most)) ∙ p .earlier r j m) (λ m. there i m ∙ p .later r i (omega arith) m) in
           x .is ∙ rw (l .wide a, whole, long, here) (table-opened (t .width) (t .row) (l .wide) (t .room) rs pre post i a (p .most) less)
 
     pub take-closed : {count : ℕ} → count ≡ length rs → (i : ℕ) → i < count

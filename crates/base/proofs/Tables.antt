@@ -5,7 +5,7 @@ use native.Mathlib.Nat.{mul-le-mul-right}
 use native.Mathlib.Omega.{arith}
 use mathlib.Core.Path.{_≡_, refl, sym, ap, ap₂, _∙_}
 use mathlib.Core.List.{List, [], _∷_, _++_, append-assoc, append-nil}
-use mathlib.Core.Bool.{Bool, false, _&&_, _||_, and-false, or-false}
+use mathlib.Core.Bool.{Bool, _&&_, _||_}
 use lib.Dec.{ltb, eqb}
 use lib.ListN.{length, getD, set, length-append}
 use lib.Seq.{take-at}
@@ -15,6 +15,7 @@ use Rattle.rules.specs.04-Schema.{Schema, Presence, with-sdss, with-types, with
 use Rattle.rules.specs.06-Good.{presence-before, application-before, end-before}
 use Rattle.rules.specs.07-Picture.{pad, presence-row, application-row, end-row, type-table, presence-table, application-table, end-table, picture}
 use Rattle.rules.specs.02-Limits.{limits}
+use Rattle.rules.proofs.Bools.{last-byte}
 use Rattle.rules.proofs.03-Names.{spelled-before, pad-before, name-fits}
 use Rattle.rules.proofs.07-Picture.{length-pad, length-table, wide-sds, wide-type, wide-presence, wide-application, wide-end, behind-name, presence-back}
 use Rattle.rules.proofs.07-Picture.{application-back, end-back}
@@ -93,9 +94,6 @@ pub record Sorts {A : Type 0} {t : Table A} (o : Sorted t) : Type 0 where
   pub back : (a : A) → o .Fit a → t .read (t .row a) ≡ a
   pub order : (x y : A) → o .Fit x → o .Fit y → row-before (o .named) (t .row x) (t .row y) ≡ o .before x y
   pub first : (a : A) → getD (t .row a) 0 0 ≡ o .sds a
-
-last-byte : (x y : ℕ) → ltb x y || (eqb x y && false) ≡ ltb x y
-last-byte x y = rw (and-false (eqb x y)) (or-false (ltb x y))
 
 -- what a presence is compared by
 presence-ranked : (p : Presence) → ranked (limits .name) (presence-row p)

@@ -1,6 +1,7 @@
 // The call that a line begins with.
 use super::asks;
 use super::changes;
+use super::files;
 use super::read;
 use rules::Answer;
 
@@ -20,6 +21,10 @@ pub fn call(base: &mut [u8], line: &[u8], out: &mut [u8]) -> Answer {
     let changed = change(base, line);
     if read::is_call(changed.no) {
         return changed;
+    }
+    let filed = files::any(base, line, out);
+    if read::is_call(filed.no) {
+        return filed;
     }
     let asked = asks::with_type(base, line, out);
     if read::is_call(asked.no) {

@@ -1,7 +1,7 @@
 // The call that a line begins with, and its inputs, by the words of the line.
 use rules::Answer;
 use run_words::Word;
-ghost use Prim.Native.Nat.{_≤_};
+ghost use Prim.Native.Nat.{_≤_, _<_};
 ghost use mathlib.Core.Path.{_≡_};
 ghost use lib.ListN.{length};
 ghost use Rattle.io.specs.Counts.{Counts};
@@ -117,6 +117,74 @@ pub fn schema_at(line: &[u8], i: usize, list: &mut [u8]) -> usize
     while at < end {
         n = with_sds(list, n, line[at]);
         at += 1;
+    }
+    n
+}
+
+// What a hexadecimal digit stands for, 16 where it is none.
+fn hexadecimal(c: u8) -> usize
+    ensures { λ r. ⌜ r ≤ 16 ⌝ }
+{
+    if c < b'0' {
+        return 16;
+    }
+    if c <= b'9' {
+        return (c - b'0') as usize;
+    }
+    if c < b'a' {
+        return 16;
+    }
+    if c <= b'f' {
+        return (c - b'a') as usize + 10;
+    }
+    16
+}
+
+// The byte of the two digits at `at`, 256 where they are none.
+fn pair_at(line: &[u8], at: usize, end: usize) -> usize
+    requires { ⌜ (at < end) × (end ≤ length (now line)) ⌝ }
+    ensures { λ r. ⌜ r ≤ 256 ⌝ }
+{
+    if end - at < 2 {
+        return 256;
+    }
+    let high = hexadecimal(line[at]);
+    let low = hexadecimal(line[at + 1]);
+    if high == 16 {
+        return 256;
+    }
+    if low == 16 {
+        return 256;
+    }
+    high * 16 + low
+}
+
+// One byte more behind n of them; one more than there is room for where it is none, or does not fit.
+fn with_byte(bytes: &mut [u8], n: usize, x: usize) -> usize
+    requires { ⌜ x ≤ 256 ⌝ }
+    ensures { λ r. ⌜ length (now (bytes .exit)) ≡ length (now (bytes .entry)) ⌝ }
+{
+    if x == 256 {
+        return bytes.len() + 1;
+    }
+    if n < bytes.len() {
+        bytes[n] = x as u8;
+        return n + 1;
+    }
+    bytes.len() + 1
+}
+
+// Word i as bytes of two digits each, - is none; how many, or more than there is room for where the word is not of that form.
+pub fn bytes_at(line: &[u8], i: usize, bytes: &mut [u8]) -> usize
+    ensures { λ r. ⌜ length (now (bytes .exit)) ≡ length (now (bytes .entry)) ⌝ }
+{
+    let word = place_at(line, i);
+    let end = word.end;
+    let mut at = word.start;
+    let mut n = 0;
+    while at < end {
+        n = with_byte(bytes, n, pair_at(line, at, end));
+        at += 2;
     }
     n
 }

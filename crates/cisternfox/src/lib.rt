@@ -7,8 +7,10 @@ ghost use Rattle.rules.specs.10-Changes.{apply-link, unapply-link, add-destinat
 ghost use Rattle.rules.specs.10-Changes.{rename-number, set-modes};
 ghost use Rattle.rules.specs.11-Asks.{scan-object, scan-link, profile, find, depth-of, name, descendant-set, modes-of};
 ghost use Rattle.rules.specs.07-Picture.{base-length};
-ghost use Rattle.rules.specs.12-Contracts.{room, Kept, Listed, Answered, Freshened};
+ghost use Rattle.rules.specs.11-File.{write-file, file-most};
+ghost use Rattle.rules.specs.12-Contracts.{room, Kept, Listed, Answered, Freshened, Filed, Read-in};
 ghost use mathlib.Core.Path.{_≡_};
+ghost use lib.ListN.{length};
 
 #[no_mangle]
 pub extern "C" fn cf_base_length() -> usize
@@ -246,4 +248,28 @@ pub extern "C" fn cf_name(base: &[u8], sds: usize, t: usize) -> Answer
     ensures { λ r. ⌜ Answered (now (base .entry)) (name sds t) r ⌝ }
 {
     ask::name_place(base, sds, t)
+}
+
+// ---- the exchange file
+
+// How long a file is at most.
+#[no_mangle]
+pub extern "C" fn cf_file_most() -> usize
+    ensures { λ r. ⌜ r ≡ file-most ⌝ }
+{
+    file::MOST
+}
+
+#[no_mangle]
+pub extern "C" fn cf_write_file(base: &[u8], output: &mut [u8]) -> Answer
+    ensures { λ r. ⌜ Filed (now (base .entry)) (write-file (length (now (output .entry)))) r (now (output .entry)) (now (output .exit)) ⌝ }
+{
+    file::write_file(base, output)
+}
+
+#[no_mangle]
+pub extern "C" fn cf_read_file(base: &mut [u8], file: &[u8]) -> Answer
+    ensures { λ r. ⌜ Read-in (now (base .entry)) (now (file .entry)) r (now (base .exit)) ⌝ }
+{
+    file::read_file(base, file)
 }

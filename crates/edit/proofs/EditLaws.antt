@@ -18,7 +18,7 @@ use Rattle.rules.specs.Read.{name-offset, type-offset, usage-offset, definition
 use Rattle.rules.proofs.Bools.{and-of}
 use Rattle.rules.proofs.01-Lists.{any-at}
 use Rattle.rules.proofs.03-Names.{same-name-refl}
-use Rattle.rows.specs.Table.{Rises, Put-in, written, closed}
+use Rattle.rows.specs.Table.{Put-in, written, closed}
 use Rattle.rows.proofs.Written.{field-written}
 use Rattle.base.specs.Tables.{Table, Sorted, at, bytes-of, presences, applications, ends, by-name}
 use Rattle.base.specs.Back.{schema-of}
@@ -40,7 +40,7 @@ module _ {A : Type 0} {t : Table A} {o : Sorted t} {of : Schema → List A} {wit
   in-picture = x .shown ∙ placed .whole s
 
   module _ (a : A) (less : length (of s) < t .room) {count : ℕ} {key : List ℕ} (many : count ≡ length (of s)) (is : key ≡ t .row a) where
-    pub ready : Rises b (t .start) (o .named) (length key) count × (t .start + count * length key + length key ≤ length b)
+    pub ready : (o .named < length key) × (t .start + count * length key + length key ≤ length b)
     ready = put-ready (k .sorts) (k .kept (x .rows)) (placed .ahead s) (placed .behind s) (placed .long s) in-picture a less many is
 
     pub row-put : (o .sds a ≡ 0 → ⊥) → o .Fit a → Unlike t a (of s) → {b′ : List ℕ} → Put-in b (t .start) (o .named) count key b′

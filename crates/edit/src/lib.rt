@@ -12,12 +12,13 @@ ghost use Rattle.rules.specs.02-Limits.{limits};
 ghost use Rattle.rules.specs.03-Names.{blank, well-formed};
 ghost use Rattle.rules.specs.04-Schema.{new-presence, with-modes, present, bears, applied, has-end, with-presences, with-applications, with-ends};
 ghost use Rattle.rules.specs.06-Good.{presence-before, application-before, end-before};
-ghost use Rattle.rules.specs.07-Picture.{presence-row, sds-row, base-length};
+ghost use Rattle.rules.specs.07-Picture.{presence-width, presence-row, sds-row, base-length};
 ghost use Rattle.rules.specs.10-Changes.{nameless};
 ghost use Rattle.rules.specs.Read.{read-side};
 ghost use Rattle.base.specs.Back.{schema-of, presence-count, application-count, end-count};
 ghost use Rattle.base.specs.Stored.{Stored, Shows, less-row, modes-row, Type-written, type-fields};
-ghost use Rattle.rows.specs.Table.{written};
+ghost use Rattle.rows.specs.Table.{Put-in, written};
+ghost use Rattle.base.specs.Tables.{presences};
 ghost use Rattle.base.specs.Rows.{sds-at, presence-at};
 
 // ---- SDSs
@@ -56,6 +57,14 @@ fn presence_bytes(
     row
 }
 
+// A row goes in at its place among n presences. (By a function of its own: the compiler then knows how wide it is, whoever calls.)
+pub fn put_row(base: &mut [u8], n: usize, row: &[u8])
+    requires { ⌜ (length (now base) ≡ base-length) × ((n < limits .presences) × (length (now row) ≡ presence-width)) ⌝ }
+    ensures { λ _. ⌜ Put-in (now (base .entry)) (presences .start) (limits .name) n (now (row .entry)) (now (base .exit)) ⌝ }
+{
+    rows::table::put_in(base, Base::PRESENCES_AT, n, row, Limits::NAME);
+}
+
 // Type t gets a presence in SDS d with these modes, under a name that is free there, or where it is not there already.
 pub fn put_with_modes(
     base: &mut [u8],
@@ -76,7 +85,7 @@ pub fn put_with_modes(
 {
     let row = presence_bytes(d, name, t, usage, definition);
     let n = base::used::presence_count(base);
-    rows::table::put_in(base, Base::PRESENCES_AT, n, &row, Limits::NAME);
+    put_row(base, n, &row);
 }
 
 // With all five, as every new presence.

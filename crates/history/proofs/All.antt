@@ -1,14 +1,14 @@
--- Every change keeps a schema good, so every call does, and after any sequence of calls from a fresh base the schema is good.
--- Assumes nothing.
+-- Every change keeps a schema good, so every call does, and after any sequence of calls the schema is good. Assumes nothing.
 use mathlib.Core.List.{List, [], _∷_}
-use Rattle.rules.specs.04-Schema.{Schema, fresh}
+use Rattle.rules.specs.04-Schema.{Schema}
 use Rattle.rules.specs.04-Schema.Side.{origin, destination}
 use Rattle.rules.specs.06-Good.{Good}
 use Rattle.rules.specs.13-History.{Change, Call, change-rule, next, after, after-all}
 use Rattle.rules.specs.13-History.Change.{new-sds, remove-sds, new-object, new-attribute, new-designation, new-pair, import, apply, unapply}
 use Rattle.rules.specs.13-History.Change.{apply-link, unapply-link, add-destination, remove-destination, remove-type, remove-number, rename, rename-number}
 use Rattle.rules.specs.13-History.Change.{set-modes}
-use Rattle.rules.specs.13-History.Call.{begin-fresh, change, ask}
+use Rattle.rules.specs.13-History.Reading.{accepted, not-accepted}
+use Rattle.rules.specs.13-History.Call.{begin-fresh, change, ask, read}
 use Rattle.rules.proofs.06-Good.{fresh-good}
 use Rattle.history.proofs.Applications.{apply-keeps, unapply-keeps}
 use Rattle.history.proofs.EndChanges.{add-end-keeps, remove-end-keeps}
@@ -40,16 +40,15 @@ every-change-keeps (rename d n new) = rename-keeps d n new
 every-change-keeps (rename-number d t new) = rename-number-keeps d t new
 every-change-keeps (set-modes d n usage definition) = set-modes-keeps d n usage definition
 
--- an ask changes nothing
+-- an ask changes nothing, and what a read takes in is good
 pub call-keeps : (c : Call) (s : Schema) → Good s → Good (after s c)
 call-keeps begin-fresh s g = fresh-good
 call-keeps (change c) s g = every-change-keeps c s g
 call-keeps (ask q) s g = g
+call-keeps (read file (accepted s′ w)) s g = w .good
+call-keeps (read file (not-accepted n)) s g = g
 
-calls-keep : (cs : List Call) (s : Schema) → Good s → Good (after-all s cs)
+pub calls-keep : (cs : List Call) (s : Schema) → Good s → Good (after-all s cs)
 unfolding after-all
 calls-keep [] s g = g
 calls-keep (c ∷ cs) s g = calls-keep cs (after s c) (call-keeps c s g)
-
-pub history-good : (cs : List Call) → Good (after-all fresh cs)
-history-good cs = calls-keep cs fresh fresh-good

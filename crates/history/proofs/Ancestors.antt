@@ -28,8 +28,8 @@ use Rattle.rules.proofs.03-Names.{same-name-refl, same-blank, formed-named}
 use Rattle.rules.proofs.Edits.{put-new, put-all-in, put-all-old, put-all-new, first-in}
 use Rattle.rules.proofs.08-Working.{bearer, holder-is}
 use Rattle.rules.proofs.09-Refusals.{verdict-keeps, verdict-done}
+use Rattle.rules.proofs.12-Contracts.{no-of}
 use Rattle.history.proofs.Imports.{after, type-comes, missing-comes, type-there, missing-of, ancestor-there, import-keeps}
-use Rattle.history.proofs.Numbers.{no-of}
 use Rattle.history.proofs.Passed.{formed}
 use Rattle.history.proofs.Renames.{rename-number-keeps}
 

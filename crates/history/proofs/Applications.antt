@@ -22,7 +22,7 @@ use Rattle.rules.proofs.Edits.{put-each, without-in}
 use Rattle.rules.proofs.09-Refusals.{verdict-keeps}
 use Rattle.rules.proofs.Parts.{parts-of}
 use Rattle.history.proofs.Parts.{with-applications-good, ordered-less, ordered-more}
-use Rattle.history.proofs.Orders.{application-order}
+use Rattle.rules.proofs.Orders.{application-order}
 use Rattle.history.proofs.Passed.{named-present}
 
 module _ {ks : List Kind} {ps : List Presence} {xs : List Application} (g : Applications ks ps xs) where

@@ -29,7 +29,7 @@ use Rattle.rules.proofs.09-Refusals.{verdict-keeps}
 use Rattle.rules.proofs.Parts.{parts-of, ended-held}
 use Rattle.history.proofs.KindLaws.{alone-or-pair, no-pair, one-reverse}
 use Rattle.history.proofs.Parts.{with-ends-good, ordered-less, ordered-more}
-use Rattle.history.proofs.Orders.{side-is, end-order}
+use Rattle.rules.proofs.Orders.{side-is, end-order}
 use Rattle.history.proofs.Passed.{named-present}
 
 -- ---- an end is known by its four parts

@@ -22,8 +22,9 @@ use Rattle.rules.specs.10-Changes.{filled, imported, missing, nameless, incomin
 use Rattle.rules.specs.13-History.{next}
 use Rattle.rules.specs.Parts.{of-presences}
 use Rattle.rules.proofs.Bools.{or-neither, and-both, and-of, fails}
-use Rattle.rules.proofs.01-Lists.{Different, rising-different, map-in}
+use Rattle.rules.proofs.01-Lists.{Different, map-in}
 use Rattle.rules.proofs.03-Names.{formed-named, formed-allowed}
+use Rattle.rules.proofs.Orders.{number-order, rising-different}
 use Rattle.rules.proofs.05-Descent.{members-in, members-of, members-rising, object-used, object-below, past, child-object, descendant-object}
 use Rattle.rules.proofs.05-Descent.{ancestor-object, descends-sound, descends-full}
 use Rattle.rules.proofs.Edits.{map-of, put-all-in, put-all-old, put-all-new}
@@ -180,7 +181,7 @@ module _ (target source t : ℕ) (new new-reverse : Name) (s : Schema) where
       apart : Apart coming
       unfolding incoming missing reverse
       apart =
-          let rest = nameless-apart target (missing target t s) (rising-different (missing target t s) (members-rising _)) in
+          let rest = nameless-apart target (missing target t s) (rising-different number-order (missing target t s) (members-rising _)) in
           ⊎-elim
           (λ e. rw (imported-alone target source t new new-reverse s e)
           (others-nameless target t _ _ (none-missing t (List·Memᴰ·head refl)), rest))

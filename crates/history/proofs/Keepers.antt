@@ -15,14 +15,15 @@ use Rattle.rules.specs.09-Refusals.{Outcome, verdict, answer-of, success, malfo
 use Rattle.rules.specs.09-Refusals.Outcome.{done}
 use Rattle.rules.specs.10-Changes as Changes
 use Rattle.rules.specs.12-Contracts.{base-after}
-use Rattle.rules.specs.13-History.{Call, next, after, after-all, Allowed, Runs}
+use Rattle.rules.specs.13-History.{Call, next, after, after-all, Allowed, Runs, Begun}
 use Rattle.rules.specs.13-History.Change.{new-sds}
-use Rattle.rules.specs.13-History.Call.{begin-fresh, change, ask}
+use Rattle.rules.specs.13-History.Call.{begin-fresh, change, ask, read}
 use Rattle.rules.specs.13-History.Runs.{stop, step}
 use Rattle.rules.proofs.03-Names.{unlike-long}
 use Rattle.rules.proofs.06-Good.{fresh-good}
 use Rattle.rules.proofs.07-Picture.{picture-length, picture-same}
-use Rattle.history.proofs.Numbers.{no-of, allowed-not-1}
+use Rattle.rules.proofs.12-Contracts.{no-of, short-read}
+use Rattle.history.proofs.Numbers.{allowed-not-1}
 use Rattle.history.proofs.Demand.{demand-3}
 use Rattle.history.proofs.SdsChanges.{new-sds-keeps}
 
@@ -100,6 +101,7 @@ spoiled-1 : (c : Call) (a : Answer) (b : List ℕ) → Allowed c [] a b → a .n
 spoiled-1 begin-fresh a b k = no-of (k .wrong-length (λ h. omega arith) .0)
 spoiled-1 (change c) a b k = no-of (k .spoiled no-base .0)
 spoiled-1 (ask q) a b k = no-of (k .1 .spoiled no-base)
+spoiled-1 (read file r) a b k = no-of (short-read (λ h. omega arith) k .0)
 
 -- ---- the four
 
@@ -148,10 +150,10 @@ after-on s [] ds = refl
 after-on s (c ∷ cs) ds = after-on (after s c) cs ds
 
 -- whatever was called before, a keeper that leaves the base as it was does so because the rules leave the schema as it was
-pub never-feigns : (cs : List Call) (c : Call) (b : List ℕ) → Runs (picture fresh) cs b → Runs b (c ∷ []) b
-    → after (after-all fresh cs) c ≡ after-all fresh cs
+pub never-feigns : {s : Schema} {b : List ℕ} → Begun s b → (cs : List Call) (c : Call) (b′ : List ℕ) → Runs b cs b′ → Runs b′ (c ∷ []) b′
+    → after (after-all s cs) c ≡ after-all s cs
 unfolding after-all
-never-feigns cs c b r q =
-    let both : picture (after-all fresh (cs ++ (c ∷ []))) ≡ picture (after-all fresh cs)
-    = sym (demand-3 .bytes (cs ++ (c ∷ [])) b (runs-on r q)) ∙ demand-3 .bytes cs b r in
-    sym (after-on fresh cs (c ∷ [])) ∙ picture-same (demand-3 .good (cs ++ (c ∷ []))) (demand-3 .good cs) both
+never-feigns {s} begun cs c b r q =
+    let both : picture (after-all s (cs ++ (c ∷ []))) ≡ picture (after-all s cs)
+    = sym (demand-3 .bytes begun (cs ++ (c ∷ [])) b (runs-on r q)) ∙ demand-3 .bytes begun cs b r in
+    sym (after-on s cs (c ∷ [])) ∙ picture-same (demand-3 .good begun (cs ++ (c ∷ []))) (demand-3 .good begun cs) both

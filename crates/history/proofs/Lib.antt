@@ -1,5 +1,4 @@
 pub mod KindLaws
-pub mod Orders
 pub mod Parts
 pub mod Passed
 pub mod Rows
@@ -21,3 +20,4 @@ pub mod Told
 pub mod Keepers
 pub mod Demand
 pub mod Spellings
+pub mod Files

@@ -27,7 +27,7 @@ use Rattle.rules.proofs.03-Names.{formed-named, formed-allowed}
 use Rattle.rules.proofs.Edits.{put-each, put-old, put-all-long, put-all-in, set-either}
 use Rattle.rules.proofs.05-Descent.{members-in}
 use Rattle.rules.proofs.09-Refusals.{verdict-keeps}
-use Rattle.history.proofs.Orders.{number-order, put-all-rises}
+use Rattle.rules.proofs.Orders.{number-order, put-all-rises}
 use Rattle.rules.proofs.Parts.{parts-of}
 use Rattle.history.proofs.Parts.{Full, full, rows-of, placed-at}
 use Rattle.history.proofs.Passed.{formed, named-present, one-free, types-room}

@@ -20,7 +20,7 @@ use Rattle.rules.proofs.05-Descent.{object-used}
 use Rattle.rules.proofs.Edits.{put-all-long, without-long}
 use Rattle.rules.proofs.Parts.{present-each, parts-of, whole, applied-over, ended-over, applied-held, ended-held}
 use Rattle.history.proofs.KindLaws.{attribute-used, link-used, either-used, is-reverse, has-reverse}
-use Rattle.history.proofs.Orders.{Order, put-all-rises, without-rises}
+use Rattle.rules.proofs.Orders.{Order, put-all-rises, without-rises}
 
 -- the presences by themselves, before any type is asked about
 pub record Rows (ns : List Name) (ps : List Presence) : Type 0 where

@@ -23,7 +23,7 @@ use Rattle.rules.proofs.01-Lists.{any-at}
 use Rattle.rules.proofs.03-Names.{same-blank, same-turned}
 use Rattle.rules.proofs.Edits.{put-long, put-each, put-none, put-in, put-new, put-old, without-in, without-keeps, without-long}
 use Rattle.rules.proofs.Parts.{presence-there, present-each, parts-of, whole, closed-over}
-use Rattle.history.proofs.Orders.{presence-order, put-rises, without-rises}
+use Rattle.rules.proofs.Orders.{presence-order, put-rises, without-rises}
 use Rattle.history.proofs.Parts.{Rows, Placed, Stayed, Came, placed-at, presences-of, nameless-still, alike-still, applications-over}
 use Rattle.history.proofs.Parts.{ends-over}
 use Rattle.history.proofs.Passed.{known, aimed}

@@ -32,7 +32,7 @@ end-bytes b i h =
     ∙ ap (λ (l : List ℕ). getD b (at + 1) 0 ∷ l) (rw two (part-cons b (at + 2) 2 1 (omega arith) refl
     ∙ ap (λ (l : List ℕ). getD b (at + 2) 0 ∷ l) (rw three (part-cons b (at + 3) 1 0 (omega arith) refl)))))
 
-pub ends-rises : (b : List ℕ) (n : ℕ) → length b ≡ base-length → n ≤ limits .ends → In-order by-end b n
+ends-rises : (b : List ℕ) (n : ℕ) → length b ≡ base-length → n ≤ limits .ends → In-order by-end b n
     → Rises b (ends .start) (by-end .named) (ends .width) n
 ends-rises b n l m r = record { name = omega arith; room = omega arith; rise = rising-far (row-of ends b) n r }
 
@@ -64,18 +64,21 @@ module _ {b : List ℕ} {n d l s o r : ℕ} (long : length b ≡ base-length) (f
       let u = x .below in
       end-bytes b (x .place) (omega arith) ∙ (λ i. x .sds i ∷ x .link i ∷ x .turned i ∷ x .object i ∷ []) ∙ sym the-key
 
+  rises : Rises b (ends .start) (by-end .named) (ends .width) n
+  rises = ends-rises b n long few rise
+
   there : (x : End-row b n d l s o) → x .place ≡ r
   there x = go (ltb (x .place) r) refl (ltb r (x .place)) refl
     where
       go : (t : Bool) → ltb (x .place) r ≡ t → (v : Bool) → ltb r (x .place) ≡ v → x .place ≡ r
       go true q v w =
-          absurd (true≢false (sym (p .earlier (x .place) (ltb-true (x .place) r q))
+          absurd (true≢false (sym (p .earlier rises (x .place) (ltb-true (x .place) r q))
           ∙ ap (λ (k : List ℕ). bytes-before k sought) (row-key x) ∙ before-irreflexive sought))
       go false q true w =
           let u = x .below in
           let less = ltb-true r (x .place) w in
           absurd (true≢false (sym (rising-far (row-of ends b) n rise r (x .place) less u)
-          ∙ ap (bytes-before (part b (end-at r) end-width)) (row-key x) ∙ p .later r (omega arith) (omega arith)))
+          ∙ ap (bytes-before (part b (end-at r) end-width)) (row-key x) ∙ p .later rises r (omega arith) (omega arith)))
       go false q false w = omega (arith, ltb-false (x .place) r q, ltb-false r (x .place) w)
 
   pub end-found-none : (End-at b n r d l s o → ⊥) → End-found b n d l s o n

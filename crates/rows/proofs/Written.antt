@@ -1,4 +1,4 @@
--- Bytes written over others: behind a run, before one, over a field of zeros, over a row of a table. Assumes nothing.
+-- Bytes written over others: at the front, behind a run, before one, over a field of zeros, over a row of a table. Assumes nothing.
 use Prim.Native.Nat.{ℕ, zero, suc, _+_, _*_, _≤_, _<_}
 use native.Mathlib.Nat.{le-of-suc-le-suc, not-suc-le-zero}
 use native.Mathlib.Omega.{arith}
@@ -23,6 +23,11 @@ over-zeros [] m j h l = zeros m j l
 over-zeros (x ∷ xs) zero j h l = absurd (not-suc-le-zero h)
 over-zeros (x ∷ xs) (suc m) j h l = ap (λ (r : List ℕ). x ∷ r) (over-zeros xs m j (le-of-suc-le-suc h) (omega arith))
 
+-- at the front
+pub written-first : (b r : List ℕ) → written b 0 r ≡ r ++ drop (length r) b
+unfolding written
+written-first b r = let none : 0 + length r ≡ length r = omega arith in rw none
+
 -- behind p
 pub written-past : (p q r : List ℕ) (at m : ℕ) → at ≡ length p + m → written (p ++ q) at r ≡ p ++ written q m r
 unfolding written
@@ -32,8 +37,7 @@ written-past p q r at m e =
 
 -- over p
 pub written-over : (p q r : List ℕ) → length p ≡ length r → written (p ++ q) 0 r ≡ r ++ q
-unfolding written
-written-over p q r e = ap (λ (x : List ℕ). r ++ x) (drop-at p q (0 + length r) (omega (arith, e)))
+written-over p q r e = written-first (p ++ q) r ∙ ap (λ (x : List ℕ). r ++ x) (drop-at p q (length r) e)
 
 -- before q
 pub written-before : (p q r : List ℕ) (m : ℕ) → m + length r ≤ length p → written (p ++ q) m r ≡ written p m r ++ q
@@ -53,13 +57,12 @@ written-behind b p r at e =
 
 -- bytes over a field of zeros
 pub field-written : (p q n : List ℕ) (w at : ℕ) → at ≡ length p → length n ≤ w → written (p ++ (replicate w 0 ++ q)) at n ≡ p ++ (pad w n ++ q)
-unfolding written pad
+unfolding pad
 field-written p q n w at e h =
     let blank = replicate {A = ℕ} w 0 in
-    let none : 0 + length n ≡ length n = omega arith in
     written-past p (blank ++ q) n at 0 (omega arith)
     ∙ ap (λ (r : List ℕ). p ++ r) (written-before blank q n 0 (omega (arith, zeros-long w)))
-    ∙ rw none (ap (λ (r : List ℕ). p ++ (r ++ q)) (over-zeros n w w h (omega arith)))
+    ∙ ap (λ (r : List ℕ). p ++ (r ++ q)) (written-first blank n ∙ over-zeros n w w h (omega arith))
 
 -- ---- a row written over another
 

@@ -2,15 +2,15 @@
 -- Assumes nothing.
 use Prim.Native.Nat.{ℕ, zero, suc, _+_, _-_, _≤_, _<_}
 use native.Mathlib.Omega.{arith}
-use mathlib.Core.Path.{_≡_, refl, sym, ap, _∙_}
-use mathlib.Core.Logic.{⊎-elim, ∥∥₁-elim}
+use mathlib.Core.Path.{_≡_, refl, sym, ap, subst, _∙_}
+use mathlib.Core.Logic.{_⊎_, inl, inr, ⊎-elim, ∥∥₁-elim}
 use mathlib.Core.List.{List, [], _∷_, _++_, map, List·Memᴰ·not-nil, List·Memᴰ·cases-cons, List·Permᴰ, Perm}
 use mathlib.Core.List.List·Memᴰ.{List·Memᴰ·head, List·Memᴰ·tail}
 use mathlib.Core.List.List·Permᴰ.{List·Permᴰ·nil, List·Permᴰ·cons, List·Permᴰ·swap, List·Permᴰ·trans}
-use mathlib.Core.Bool.{Bool, true, false, not, cond, _&&_, _||_, Bool-set, true≢false, false≢true, and-false, or-assoc}
+use mathlib.Core.Bool.{Bool, true, false, cond, _&&_, _||_, Bool-set, true≢false, false≢true, or-assoc}
 use lib.Dec.{ltb, eqb}
 use lib.ListN.{length, getD}
-use borrow.Author.Tests.{ltb-true, ltb-false, lt-ltb, le-ltb, eqb-true, eqb-false, eq-eqb, ne-eqb}
+use borrow.Author.Tests.{ltb-true, ltb-false, lt-ltb, le-ltb, eqb-true, eqb-false, eq-eqb}
 use Rattle.rules.specs.01-Lists.{_∈_, same-bytes, bytes-before, any, all, first, among, repeated, rising, numbers}
 use Rattle.rules.proofs.Bools.{or-cases, or-left, or-right, or-neither, or-turned, or-crossed, and-both, and-of, and-rest, fails, eqb-turned}
 
@@ -103,11 +103,11 @@ same-bytes-refl (x ∷ a) = and-of (eqb x x) (same-bytes a a) (eq-eqb x x refl) 
 
 module _ (p : ℕ → Bool) where
   -- one number more
-  numbers-taken : (a m : ℕ) → p a ≡ true → numbers a (suc m) p ≡ a ∷ numbers (suc a) m p
+  pub numbers-taken : (a m : ℕ) → p a ≡ true → numbers a (suc m) p ≡ a ∷ numbers (suc a) m p
   unfolding numbers
   numbers-taken a m e = rw e
 
-  numbers-passed : (a m : ℕ) → p a ≡ false → numbers a (suc m) p ≡ numbers (suc a) m p
+  pub numbers-passed : (a m : ℕ) → p a ≡ false → numbers a (suc m) p ≡ numbers (suc a) m p
   unfolding numbers
   numbers-passed a m e = rw e
 
@@ -232,58 +232,40 @@ unfolding repeated
 unrepeated [] e = tt
 unrepeated (x ∷ l) e = let (once, rest) = or-neither (among l x) (repeated l) e in (λ i. true≢false (sym (in-among i) ∙ once), unrepeated l rest)
 
-pub rising-different : (l : List ℕ) → rising ltb l ≡ true → Different l
-rising-different [] e = tt
-rising-different (x ∷ l) e =
-    (λ i. let (j, h, same) = at-place 0 i in omega (arith, rising-past x l e j h), rising-different l (rising-tail x l e))
-
--- p less the number x
-abbrev less : ℕ → (ℕ → Bool) → ℕ → Bool
-less x p k = p k && not (eqb k x)
-
-less-other : (p : ℕ → Bool) (x k : ℕ) → (k ≡ x → ⊥) → less x p k ≡ p k
-less-other p x k h = rw (ne-eqb k x h) (mathlib.Core.Bool.and-true (p k))
-
-less-it : (p : ℕ → Bool) (x : ℕ) → less x p x ≡ false
-less-it p x = rw (eq-eqb x x refl) (and-false (p x))
-
 -- numbers that pass two tests alike
 pub numbers-alike : (p q : ℕ → Bool) (a m : ℕ) → ((k : ℕ) → a ≤ k → k < a + m → p k ≡ q k) → numbers a m p ≡ numbers a m q
 unfolding numbers
 numbers-alike p q a zero h = refl
 numbers-alike p q a (suc m) h = rw (numbers-alike p q (suc a) m (λ k l u. h k (omega arith) (omega arith)), h a (omega arith) (omega arith))
 
--- without one of them there is one fewer
-numbers-less : (p : ℕ → Bool) (x : ℕ) → p x ≡ true → (a m : ℕ) → a ≤ x → x < a + m → length (numbers a m p) ≡ suc (length (numbers a m (less x p)))
-numbers-less p x e a zero l u = absurd (omega arith)
-numbers-less p x e a (suc m) l u = go (eqb a x) refl (λ h. numbers-less p x e (suc a) m h (omega arith))
-  where
-    kept : (b : Bool) → p a ≡ b → (a ≡ x → ⊥) → length (numbers (suc a) m p) ≡ suc (length (numbers (suc a) m (less x p)))
-        → length (numbers a (suc m) p) ≡ suc (length (numbers a (suc m) (less x p)))
-    kept true g ne ih = rw (numbers-taken p a m g, numbers-taken (less x p) a m (less-other p x a ne ∙ g)) (ap suc ih)
-    kept false g ne ih = rw (numbers-passed p a m g, numbers-passed (less x p) a m (less-other p x a ne ∙ g)) ih
+-- the list less an element that stands in it
+one-fewer : {A : Type 0} {x : A} {m : List A} → x ∈ m → (k : List A) × (length m ≡ suc (length k)) × ((y : A) → y ∈ m → (y ≡ x) ⊎ (y ∈ k))
+one-fewer (List·Memᴰ·head {xs = m} h) = (m, refl, λ y j. ⊎-elim (λ e. inl (e ∙ sym h)) inr (List·Memᴰ·cases-cons j))
+one-fewer (List·Memᴰ·tail {x = z} {xs = m} i) =
+    let (k, long, f) = one-fewer i in
+    (z ∷ k, ap suc long, λ y j. ⊎-elim (λ e. inr (List·Memᴰ·head e)) (λ g. ⊎-elim inl (λ q. inr (List·Memᴰ·tail q)) (f y g)) (List·Memᴰ·cases-cons j))
 
-    go : (b : Bool) → eqb a x ≡ b → (suc a ≤ x → length (numbers (suc a) m p) ≡ suc (length (numbers (suc a) m (less x p))))
-        → length (numbers a (suc m) p) ≡ suc (length (numbers a (suc m) (less x p)))
-    go true g ih =
-        let same : a ≡ x = eqb-true a x g in
-        let rest : numbers (suc a) m p ≡ numbers (suc a) m (less x p)
-        = numbers-alike p (less x p) (suc a) m (λ k l u. sym (less-other p x k (λ h. omega arith))) in
-        rw (numbers-taken p a m (ap p same ∙ e), numbers-passed (less x p) a m (ap (less x p) same ∙ less-it p x), rest)
-    go false g ih = let ne = eqb-false a x g in kept (p a) refl ne (ih (omega arith))
+-- different ones that all stand in a list are no more than it has
+pub at-most-in : {A : Type 0} (l m : List A) → Different l → ((x : A) → x ∈ l → x ∈ m) → length l ≤ length m
+at-most-in [] m d h = omega arith
+at-most-in {A} (x ∷ l) m d h =
+    let (k, long, f) = one-fewer (h x (List·Memᴰ·head refl)) in
+    let fewer = at-most-in l k (d .1)
+    (λ y i. ⊎-elim (λ e. absurd (d .0 (subst (λ (z : A). z ∈ l) e i))) (λ j. j) (f y (h y (List·Memᴰ·tail i)))) in
+    omega (arith, fewer, long)
+
+-- different ones stay so where each is made another
+pub different-mapped : {A B : Type 0} (f : A → B) (l : List A) → ((x y : A) → x ∈ l → y ∈ l → f x ≡ f y → x ≡ y) → Different l → Different (map f l)
+different-mapped f [] h d = tt
+different-mapped {A} f (x ∷ l) h d = (
+  (λ i. let (y, j, e) = map-in f l i in d .0 (subst (λ (z : A). z ∈ l) (sym (h x y (List·Memᴰ·head refl) (List·Memᴰ·tail j) e)) j)),
+  different-mapped f l (λ y z i j. h y z (List·Memᴰ·tail i) (List·Memᴰ·tail j)) (d .1),
+)
 
 -- different numbers that pass are no more than all that pass
 pub at-most : (p : ℕ → Bool) (a m : ℕ) (l : List ℕ) → Different l → ((x : ℕ) → x ∈ l → (a ≤ x) × (x < a + m) × (p x ≡ true))
     → length l ≤ length (numbers a m p)
-at-most p a m [] d h = omega arith
-at-most p a m (x ∷ l) d h =
-    let (low, high, e) = h x (List·Memᴰ·head refl) in
-    let fewer = at-most (less x p) a m l (d .1)
-    (λ y i. let (lo, hi, g) = h y (List·Memᴰ·tail i) in (lo, hi, less-other p x y (λ s. d .0 (subst-in s i)) ∙ g)) in
-    omega (arith, numbers-less p x e a m low high)
-  where
-    subst-in : {y : ℕ} → y ≡ x → y ∈ l → x ∈ l
-    subst-in s i = rw s at i
+at-most p a m l d h = at-most-in l (numbers a m p) d (λ x i. let (low, high, e) = h x i in numbers-of p a m x low high e)
 
 pub numbers-most : (p : ℕ → Bool) (a m : ℕ) → length (numbers a m p) ≤ m
 unfolding numbers

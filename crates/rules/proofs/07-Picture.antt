@@ -136,7 +136,7 @@ end-back e = λ i. record { sds = e .sds; link = e .link; side = side-back (e .s
 
 -- ---- tables
 
-append-both : (a a′ b b′ : List ℕ) → length a ≡ length a′ → a ++ b ≡ a′ ++ b′ → (a ≡ a′) × (b ≡ b′)
+pub append-both : (a a′ b b′ : List ℕ) → length a ≡ length a′ → a ++ b ≡ a′ ++ b′ → (a ≡ a′) × (b ≡ b′)
 append-both a a′ b b′ l e = (
   sym (take-at a b (length a′) l) ∙ ap (take (length a′)) e ∙ take-at a′ b′ (length a′) refl,
   sym (drop-at a b (length a′) l) ∙ ap (drop (length a′)) e ∙ drop-at a′ b′ (length a′) refl,

@@ -2,6 +2,7 @@ pub mod Bools
 pub mod 01-Lists
 pub mod Edits
 pub mod 03-Names
+pub mod Orders
 pub mod 05-Descent
 pub mod 06-Good
 pub mod Parts
@@ -10,6 +11,8 @@ pub mod 08-Working
 pub mod 09-Refusals
 pub mod NameTests
 pub mod 11-Asks
+pub mod Sections
+pub mod 11-File
 pub mod Modes
 pub mod 12-Contracts
 pub mod Questions

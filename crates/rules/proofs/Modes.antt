@@ -22,7 +22,7 @@ use Rattle.rules.specs.09-Refusals.Outcome.{done}
 use Rattle.rules.specs.11-Asks as Asks
 use Rattle.rules.specs.11-Asks.{object-scan-list, link-scan-list, marks, visible-descendant, mode-listed, modes-under}
 use Rattle.rules.specs.13-History.{Ask, ask-rule}
-use Rattle.rules.specs.13-History.Ask.{scan-object, scan-link, profile, find, depth-of, name, descendant-set, modes-of}
+use Rattle.rules.specs.13-History.Ask.{scan-object, scan-link, profile, find, depth-of, name, descendant-set, modes-of, write-file}
 use Rattle.rules.proofs.Bools.{or-cases, and-both, fails, same-test}
 use Rattle.rules.proofs.01-Lists.{any-at, any-where, place-in, rising-at, at-rising}
 use Rattle.rules.proofs.05-Descent.{descends-same, depth-same}
@@ -201,7 +201,7 @@ module _ {s : Schema} (good : Good s) (d t : ℕ) (there : present s d t ≡ tru
 
 -- ---- a schema whose presences have other modes
 
--- every asking call but *modes*
+-- every asking call but *modes*, and the writing of a file, which has them in it
 abbrev pub asks-no-modes : Ask → Bool
 asks-no-modes (scan-object w t code room) = true
 asks-no-modes (scan-link w t code room) = true
@@ -211,6 +211,7 @@ asks-no-modes (depth-of w t) = true
 asks-no-modes (name d t) = true
 asks-no-modes (descendant-set w t) = true
 asks-no-modes (modes-of w t) = false
+asks-no-modes (write-file room) = false
 
 pub holds-same : {p q : Presence} → Same-but-modes p q → (d t : ℕ) → holds-type d t q ≡ holds-type d t p
 holds-same e d t = sym (λ i. eqb (e .sds i) d && eqb (e .type i) t)
@@ -276,3 +277,4 @@ module _ (s : Schema) (f : Presence → Presence) (same : (p : Presence) → Sam
   asked-alike (name d t) e = rw (present-same, local-same, place-mapped (holds-type d t) f (λ p. holds-same (same p) d t) (s .presences))
   asked-alike (descendant-set w t) e = rw (seen, marked w t)
   asked-alike (modes-of w t) e = absurd (false≢true e)
+  asked-alike (write-file room) e = absurd (false≢true e)

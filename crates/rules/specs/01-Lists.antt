@@ -12,6 +12,7 @@
 --   09 Refusals   the numbers, each with its condition, and what an outcome is
 --   10 Changes    calls 1 to 8, and setting modes
 --   11 Asks       calls 9 to 13, and asking for modes
+--   11 File       the exchange file, and writing it
 --   12 Contracts  what each function of the keeper promises
 --   13 History    any sequence of calls, and demand 3
 --   14 Run        the run program
@@ -40,7 +41,7 @@ use Prim.Native.Nat.{ℕ, zero, suc, max}
 use Prim.Native.Char.{code}
 use Prim.Native.String as Text
 use Prim.Native.String.{String}
-use mathlib.Core.List.{List, [], _∷_, List·Memᴰ}
+use mathlib.Core.List.{List, [], _∷_, _++_, List·Memᴰ}
 use mathlib.Core.Bool.{Bool, true, false, cond, _&&_, _||_}
 use lib.Dec.{ltb, eqb}
 
@@ -104,6 +105,11 @@ module _ {A : Type 0} where
 unfoldable pub put-all : {A : Type 0} → (A → A → Bool) → List A → List A → List A
 put-all before [] rs = rs
 put-all before (a ∷ more) rs = put-all before more (put before a rs)
+
+-- the lists one behind another
+unfoldable pub joined : {A : Type 0} → List (List A) → List A
+joined [] = []
+joined (l ∷ ls) = l ++ joined ls
 
 -- how many elements stand before the first that passes
 unfoldable pub place : {A : Type 0} → (A → Bool) → List A → ℕ

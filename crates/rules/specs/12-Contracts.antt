@@ -1,5 +1,5 @@
 -- What each function of the keeper promises, for every input: one sentence for all changing calls, one for all that put a list
--- down, one for all that only answer, one for the part that *name* hands back, and *fresh*.
+-- down, one for all that only answer, one for the part that *name* hands back, *fresh*, and a file written and read.
 use Prim.Native.Nat.{ℕ, _/_, _%_}
 use mathlib.Core.Path.{_≡_}
 use mathlib.Core.List.{List, [], _∷_, _++_}
@@ -8,8 +8,9 @@ use Rattle.rules.specs.declared.Answer.{Answer}
 use Rattle.rules.specs.04-Schema.{Schema, fresh}
 use Rattle.rules.specs.06-Good.{Good}
 use Rattle.rules.specs.07-Picture.{Sound, picture, base-length}
-use Rattle.rules.specs.09-Refusals.{Outcome, answer-of, refusal, success}
+use Rattle.rules.specs.09-Refusals.{Outcome, answer-of, telling, refusal, success}
 use Rattle.rules.specs.09-Refusals.Outcome.{refused, done}
+use Rattle.rules.specs.11-File.{Well-formed, Longest, Written-as}
 
 -- "changes nothing lent"
 abbrev pub base-after : List ℕ → Outcome Schema → List ℕ
@@ -58,3 +59,25 @@ pub record Handed (base : List ℕ) (rule : Schema → Outcome (List ℕ)) (part
 pub record Freshened (before : List ℕ) (answer : Answer) (after : List ℕ) : Type 0 where
   pub wrong-length : (length before ≡ base-length → ⊥) → (answer ≡ refusal 1) × (after ≡ before)
   pub written : length before ≡ base-length → (answer ≡ success 0 0 0) × (after ≡ picture fresh)
+
+-- ---- the exchange file (02, Q-3)
+
+-- "Output beyond the count is unchanged."
+abbrev pub file-after : List ℕ → Outcome (List ℕ) → List ℕ
+file-after before (refused n value) = before
+file-after before (done one two three file) = file ++ drop (length file) before
+
+-- a call that writes a file to an output
+pub record Filed (base : List ℕ) (rule : Schema → Outcome (List ℕ)) (answer : Answer) (before after : List ℕ) : Type 0 where
+  pub spoiled : (Sound base → ⊥) → (answer ≡ refusal 1) × (after ≡ before)
+  pub kept : (s : Schema) → Good s → base ≡ picture s → (answer ≡ answer-of (rule s)) × (after ≡ file-after before (rule s))
+
+-- "Reading, as fresh does, writes over any bytes of the right length. Refusals: 20 malformed, with the length of the longest start it shares
+-- with a well-formed file; 21 well formed but over a limit or not sound; both after 1 and in that order"
+pub data Read-in (before file : List ℕ) (answer : Answer) (after : List ℕ) : Type 0 where
+  wrong-length : (length before ≡ base-length → ⊥) → answer ≡ refusal 1 → after ≡ before → Read-in before file answer after
+  malformed : length before ≡ base-length → (Well-formed file → ⊥) → (start : ℕ) → Longest Well-formed file start
+      → answer ≡ telling 20 start → after ≡ before → Read-in before file answer after
+  not-sound : length before ≡ base-length → Well-formed file → ((s : Schema) → Written-as file s → ⊥)
+      → answer ≡ refusal 21 → after ≡ before → Read-in before file answer after
+  read : length before ≡ base-length → (s : Schema) → Written-as file s → answer ≡ success 0 0 0 → after ≡ picture s → Read-in before file answer after

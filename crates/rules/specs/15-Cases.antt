@@ -3,20 +3,21 @@
 use Prim.Native.Nat.{ℕ}
 use Prim.Native.String.{String}
 use mathlib.Core.List.{List, [], _∷_, _++_}
-use mathlib.Core.Bool.{Bool, true, _&&_}
+use mathlib.Core.Bool.{Bool, true, false, _&&_}
 use lib.Dec.{eqb}
 use lib.ListN.{replicate}
 use Rattle.rules.specs.declared.Answer.{Answer}
 use Rattle.rules.specs.01-Lists.{bytes, same-bytes}
 use Rattle.rules.specs.04-Schema.{Schema, fresh}
+use Rattle.rules.specs.07-Picture.{pad}
 use Rattle.rules.specs.09-Refusals.{Outcome, answer-of, telling, refusal, success}
 use Rattle.rules.specs.09-Refusals.Outcome.{refused, done}
 use Rattle.rules.specs.13-History.{Change, Ask, Call, change-rule, ask-rule, after}
 use Rattle.rules.specs.13-History.Change.{new-sds, remove-sds, new-object, new-attribute, new-designation, new-pair, import, apply}
 use Rattle.rules.specs.13-History.Change.{unapply, apply-link, unapply-link, add-destination, remove-destination, remove-type, remove-number, rename}
 use Rattle.rules.specs.13-History.Change.{rename-number, set-modes}
-use Rattle.rules.specs.13-History.Ask.{scan-object, scan-link, profile, find, depth-of, name, descendant-set, modes-of}
-use Rattle.rules.specs.13-History.Call.{begin-fresh, change, ask}
+use Rattle.rules.specs.13-History.Ask.{scan-object, scan-link, profile, find, depth-of, name, descendant-set, modes-of, write-file}
+use Rattle.rules.specs.13-History.Call.{begin-fresh, change, ask, read}
 use Rattle.rules.specs.14-Run.{reply}
 
 -- a call, its answer, and the list that it puts down
@@ -42,6 +43,8 @@ abbrev answers : Schema → Step → Call → Bool
 answers s x begin-fresh = same-answer (success 0 0 0) (x .answer)
 answers s x (change c) = same-answer (answer-of (change-rule c s)) (x .answer)
 answers s x (ask q) = same-answer (answer-of (ask-rule q s)) (x .answer) && same-bytes (list-of (ask-rule q s)) (x .list)
+-- no row reads: whether a file is accepted is proved, not run
+answers s x (read file r) = false
 
 unfoldable pub calls-hold : Schema → List Step → Bool
 calls-hold s [] = true
@@ -66,6 +69,13 @@ asks q a list = record { call = ask q; answer = a; list = list }
 -- SDS 1 "bus", with type 0 in it
 abbrev bus : List Step
 bus = changes (new-sds (bytes "bus")) (success 1 0 0) ∷ changes (import 1 0 (bytes "object") [] []) (success 0 0 0) ∷ []
+
+-- a name in a file, zeros behind it, and all five modes
+abbrev named : String → List ℕ
+named text = pad 16 (bytes text)
+
+abbrev named-fully : String → List ℕ
+named-fully text = named text ++ (31 ∷ 31 ∷ [])
 
 -- ---- the marked cases
 
@@ -430,6 +440,29 @@ own =
     ∷ changes (new-pair 1 (bytes "has") (bytes "of") 0 3) (success 6 7 0)
     ∷ changes (remove-number 1 7) (success 7 0 0)
     ∷ asks (find (1 ∷ []) (bytes "has")) (refusal 6) []
+    ∷ []))
+    -- the exchange file (02, Q-3): room is counted in bytes, and a fresh base's file has 53; then one with an entry of each kind, presences
+    -- by type and not by name
+    ∷ calls
+    (asks (write-file 53) (success 53 0 0)
+    ((1 ∷ 0 ∷ 0 ∷ named "system") ++ ((1 ∷ 0 ∷ 0 ∷ 1 ∷ 0 ∷ 0 ∷ 0 ∷ 0 ∷ 1 ∷ 0 ∷ 0 ∷ 0 ∷ named-fully "object") ++ (0 ∷ 0 ∷ 0 ∷ 0 ∷ [])))
+    ∷ asks (write-file 52) (refusal 15) []
+    ∷ asks (write-file 0) (refusal 15) []
+    ∷ [])
+    ∷ calls
+    (bus
+    ++ (changes (new-attribute 1 (bytes "mass") 2) (success 1 0 0)
+    ∷ changes (new-designation 1 (bytes "near")) (success 2 0 0)
+    ∷ changes (new-object 1 (bytes "Box") (bytes "object")) (success 3 0 0)
+    ∷ changes (apply 1 (bytes "mass") (bytes "box")) (success 0 0 0)
+    ∷ changes (apply-link 1 (bytes "near") (bytes "box")) (success 0 0 0)
+    ∷ changes (set-modes 1 (bytes "box") 4 16) (success 0 0 0)
+    ∷ asks (write-file 170) (refusal 15) []
+    ∷ asks (write-file 171) (success 171 0 0)
+    ((2 ∷ 0 ∷ 0 ∷ named "system") ++ ((1 ∷ named "bus")
+    ++ ((4 ∷ 0 ∷ 0 ∷ 1 ∷ 0 ∷ 0 ∷ 1 ∷ 2 ∷ 2 ∷ 0 ∷ 2 ∷ 3 ∷ 4 ∷ 0 ∷ 3 ∷ 1 ∷ 0 ∷ 0 ∷ 1 ∷ 0 ∷ 3 ∷ 0 ∷ 5 ∷ 0 ∷ 0 ∷ 0 ∷ named-fully "object")
+    ++ ((1 ∷ 0 ∷ named-fully "object") ++ ((1 ∷ 1 ∷ named-fully "mass") ++ ((1 ∷ 2 ∷ named-fully "near")
+    ++ ((1 ∷ 3 ∷ named "Box") ++ (4 ∷ 16 ∷ 1 ∷ 0 ∷ 1 ∷ 3 ∷ 1 ∷ 1 ∷ 0 ∷ 1 ∷ 2 ∷ 0 ∷ 3 ∷ []))))))))
     ∷ []))
     -- the run program's SDSs and types in any spelling; its commands byte for byte
     ∷ lines

@@ -10,6 +10,7 @@ pub mod 08-Working
 pub mod 09-Refusals
 pub mod 10-Changes
 pub mod 11-Asks
+pub mod 11-File
 pub mod 12-Contracts
 pub mod 13-History
 pub mod 14-Run

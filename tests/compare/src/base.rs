@@ -178,7 +178,7 @@ pub fn from_bytes(base: &[u8]) -> Option<Schema> {
 }
 
 /// The name in a field: well formed, with nothing but zeros behind it.
-fn name_in(field: &[u8]) -> Option<&[u8]> {
+pub fn name_in(field: &[u8]) -> Option<&[u8]> {
     let length = field.iter().position(|&byte| byte == 0).unwrap_or(field.len());
     let (name, padding) = field.split_at(length);
     (is_name(name) && !is_used(padding)).then_some(name)
@@ -202,9 +202,9 @@ fn type_in(row: &[u8]) -> Option<Type> {
     }
 }
 
-/// Document 01, "Things in a base" and "A base is sound when", but for what reading the rows has settled: names are
-/// well formed, numbers of SDSs and types below the limits, nothing is stored twice byte for byte.
-fn is_good(schema: &Schema) -> bool {
+/// Document 01, "Things in a base" and "A base is sound when", but for what reading the rows or a file has settled: names
+/// are well formed, numbers of SDSs and types below the limits, parents at most 4, nothing is stored twice byte for byte.
+pub fn is_good(schema: &Schema) -> bool {
     // Names are unique among SDSs.
     if has_same(schema.sdss.values().map(|sds| &*sds.name)) {
         return false;

@@ -1,5 +1,5 @@
-//! The check of soundness, some of the asking calls and each changing call timed, side by side: the library, the
-//! independent keeper and, for three of the asking calls, SQLite.
+//! The check of soundness, some of the asking calls, each changing call and the exchange file timed, side by side: the
+//! library, the independent keeper and, for three of the asking calls and for the file, SQLite.
 #![forbid(unsafe_code)]
 
 use crate::base::{is_sound, to_bytes};
@@ -105,9 +105,43 @@ fn tables(sqlite: &str, program: &[String]) -> Result<(), String> {
         let share = if check < library { format!("{:.0}%", 100.0 * check / library) } else { "-".into() };
         println!("{what:<21}{library:>8.0}{share:>8}{keeper:>8.0}{held:>8.0}{:>16.2}", library / keeper);
     }
+    println!(
+        "\n{:<9}{:<12}{:>8}{:>8}{:>8}{:>8}{:>8}{:>8}{:>16}{:>16}{:>8}{:>10}",
+        "base",
+        "",
+        "library",
+        "check",
+        "keeper",
+        "held",
+        "SQLite",
+        "memcpy",
+        "library/keeper",
+        "library/SQLite",
+        "bytes",
+        "SQLite's"
+    );
+    for (base, schema) in [("fresh", Schema::fresh()), ("typical", typical()), ("full", full())] {
+        let mut sqlite = Sqlite::start(sqlite, &schema, &working_schema(&schema))?;
+        let (bytes, dumped) = (file_of(&schema).0.len(), sqlite.ask(DUMP, 1, "-")?.entries);
+        for (what, call, number, expected) in files(&schema, dumped[0]) {
+            show_progress(&format!("{base} {what}"));
+            let mut ask = || sqlite.ask(number, CALLS, "-");
+            let [library, check, memcpy, keeper, held, sqlite] = file(&server, &schema, &call, &mut ask, expected)?;
+            show_progress("");
+            println!(
+                "{base:<9}{what:<12}{library:>8.0}{:>7.0}%{keeper:>8.0}{held:>8.0}{sqlite:>8.0}{memcpy:>8.0}\
+                 {:>16.2}{:>16.2}{bytes:>8}{:>10}",
+                100.0 * check / library,
+                library / keeper,
+                library / sqlite,
+                dumped[0]
+            );
+        }
+    }
     println!("\ncheck: the share of the library's time that the check of soundness takes");
     println!("keeper: over the same bytes, which it checks too");
     println!("held: the keeper over a schema that it holds, as SQLite does; neither checks it");
+    println!("memcpy: of the file; bytes: its length, and that of SQLite's dump of all its tables");
     Ok(())
 }
 
@@ -171,7 +205,10 @@ fn question(
 ) -> Result<[f64; 5], String> {
     let (mut schema, mut base) = (schema.clone(), to_bytes(schema));
     let reply = call.on(&mut schema, usize::MAX);
-    let expected = if reply.list.is_empty() { vec![reply.one as u16] } else { reply.list };
+    let expected: Vec<usize> = match &reply.list[..] {
+        [] => vec![reply.one],
+        list => list.iter().map(|&ty| ty.into()).collect(),
+    };
     let mut output = vec![0; 2 * expected.len()];
     let lent = Lent { base: base.clone(), output: output.clone() };
     side_by_side([
@@ -180,8 +217,8 @@ fn question(
         &mut || Ok(time(|| _ = black_box(apply(black_box(&mut base), &mut output, call)))),
         &mut || Ok(time(|| _ = black_box(call.on(black_box(&mut schema), usize::MAX)))),
         &mut || match sqlite()? {
-            answered if answered.types == expected => Ok(answered.nanoseconds),
-            answered => Err(format!("SQLite gives {:?} to {call:?}, not {expected:?}", answered.types)),
+            answered if answered.entries == expected => Ok(answered.nanoseconds),
+            answered => Err(format!("SQLite gives {:?} to {call:?}, not {expected:?}", answered.entries)),
         },
     ])
 }
@@ -298,6 +335,50 @@ fn each_on(server: &Server, schema: &Schema, call: &Call) -> Result<[f64; 4], St
     ])
 }
 
+/// The numbers of SQLite's dump of its tables and of their restoration.
+const DUMP: usize = 3;
+const RESTORE: usize = 4;
+
+fn file_of(schema: &Schema) -> Text {
+    Text(Call::WriteFile.on(&mut schema.clone(), usize::MAX).file)
+}
+
+/// The file of a schema written and read in, each with the number of what SQLite does and the entry that it answers: the
+/// length of its dump, and the presences in what it restored.
+fn files(schema: &Schema, dumped: usize) -> [(&'static str, Call, usize, usize); 2] {
+    [
+        ("write file", Call::WriteFile, DUMP, dumped),
+        ("read file", Call::ReadFile { file: file_of(schema) }, RESTORE, schema.presence_count()),
+    ]
+}
+
+/// The call by the library, a check by it, a copy of the file's bytes, the call by the keeper, over bytes and over what it
+/// holds, and by SQLite. A read finds the base that it makes: it takes any bytes, and looks at none of them.
+fn file(
+    server: &Server,
+    schema: &Schema,
+    call: &Call,
+    sqlite: &mut dyn FnMut() -> Result<Answered, String>,
+    expected: usize,
+) -> Result<[f64; 6], String> {
+    let reply = call.on(&mut schema.clone(), usize::MAX);
+    assert_eq!(reply.no, 0, "{call:?}");
+    let lent = Lent { base: to_bytes(schema), output: vec![0; reply.file.len()] };
+    let (mut base, mut output, mut held) = (lent.base.clone(), lent.output.clone(), schema.clone());
+    let (Text(bytes), Text(mut copy)) = (file_of(schema), file_of(schema));
+    side_by_side([
+        &mut || server.time(call, &lent, [reply.no, reply.one, reply.two, reply.three]),
+        &mut || server.time_check(&lent.base),
+        &mut || Ok(time(|| black_box(&mut copy).copy_from_slice(black_box(&bytes)))),
+        &mut || Ok(time(|| _ = black_box(apply(black_box(&mut base), &mut output, call)))),
+        &mut || Ok(time(|| _ = black_box(call.on(black_box(&mut held), usize::MAX)))),
+        &mut || match sqlite()? {
+            answered if answered.entries == [expected] => Ok(answered.nanoseconds),
+            answered => Err(format!("SQLite gives {:?} for {call:?}, not {expected}", answered.entries)),
+        },
+    ])
+}
+
 type Round<'a> = &'a mut dyn FnMut() -> Result<f64, String>;
 
 /// The best that each takes for a call, where all take turns.
@@ -362,8 +443,10 @@ impl Server {
 
 #[cfg(test)]
 mod tests {
-    use super::changes;
+    use super::{changes, files};
+    use crate::bases::{full, typical};
     use crate::nameless::nameless;
+    use crate::schema::Schema;
 
     #[test]
     fn every_change_is_done() {
@@ -372,6 +455,17 @@ mod tests {
             assert_eq!(call.on(&mut after, 0).no, 0, "{what}");
             let brought = if what.contains("ancestors") { 11 } else { 0 };
             assert_eq!(nameless(&after).len(), brought, "{what}");
+        }
+    }
+
+    #[test]
+    fn every_file_is_read_in_as_it_was() {
+        for schema in [Schema::fresh(), typical(), full()] {
+            for (what, call, ..) in files(&schema, 0) {
+                let mut after = schema.clone();
+                assert_eq!(call.on(&mut after, usize::MAX).no, 0, "{what}");
+                assert_eq!(after, schema, "{what}");
+            }
         }
     }
 }

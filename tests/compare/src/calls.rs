@@ -44,6 +44,7 @@ pub enum Call {
     Rename { sds: usize, name: Text, new_name: Text },
     RenameNumber { sds: usize, ty: usize, new_name: Text },
     SetModes { sds: usize, name: Text, usage: usize, definition: usize },
+    ReadFile { file: Text },
     ScanObject { schema: Vec<u8>, ty: usize, code: usize },
     ScanLink { schema: Vec<u8>, ty: usize, code: usize },
     Profile { schema: Vec<u8>, ty: usize },
@@ -52,6 +53,7 @@ pub enum Call {
     Name { sds: usize, ty: usize },
     DescendantSet { schema: Vec<u8>, ty: usize },
     Modes { schema: Vec<u8>, ty: usize },
+    WriteFile,
 }
 
 /// What a call under a working schema asks.
@@ -72,13 +74,14 @@ const fn known(name: &'static str, refusals: &'static [usize]) -> Known {
 }
 
 /// Every number that a call can answer is below this.
-pub const NUMBERS: usize = 20;
+pub const NUMBERS: usize = 22;
 
-/// The refusals that tell a type, their first value (02, Q-1); all other values of a refusal are 0.
-pub const TELLING: [usize; 4] = [12, 16, 17, 18];
+/// The refusals that tell something, their first value: a type (02, Q-1), 20 a length. All other values of a refusal
+/// are 0.
+pub const TELLING: [usize; 5] = [12, 16, 17, 18, 20];
 
 /// In the order of `Call`.
-pub const CALLS: [Known; 27] = [
+pub const CALLS: [Known; 29] = [
     known("fresh", &[1]),
     known("new_sds", &[1, 4, 11, 14]),
     known("remove_sds", &[1, 2, 3, 12]),
@@ -98,6 +101,7 @@ pub const CALLS: [Known; 27] = [
     known("rename", &[1, 2, 3, 4, 6, 11]),
     known("rename_number", &[1, 2, 3, 4, 6, 11]),
     known("set_modes", &[1, 2, 3, 4, 19, 6]),
+    known("read_file", &[1, 20, 21]),
     known("scan_object", &[1, 2, 5, 6, 7, 8, 15]),
     known("scan_link", &[1, 2, 5, 6, 7, 8, 15]),
     known("profile", &[1, 2, 6, 7, 8, 15]),
@@ -106,7 +110,11 @@ pub const CALLS: [Known; 27] = [
     known("name", &[1, 2, 6]),
     known("descendant_set", &[1, 2, 6, 7, 8]),
     known("modes", &[1, 2, 6, 8]),
+    known("write_file", &[1, 15]),
 ];
+
+/// The places of those that take any bytes of the right length, and so don't tell whether they are sound.
+pub const TAKING_ANY_BYTES: [usize; 2] = [0, 19];
 
 impl Call {
     /// Where the call stands in `CALLS`.
@@ -131,27 +139,34 @@ impl Call {
             Call::Rename { .. } => 16,
             Call::RenameNumber { .. } => 17,
             Call::SetModes { .. } => 18,
-            Call::ScanObject { .. } => 19,
-            Call::ScanLink { .. } => 20,
-            Call::Profile { .. } => 21,
-            Call::Find { .. } => 22,
-            Call::Depth { .. } => 23,
-            Call::Name { .. } => 24,
-            Call::DescendantSet { .. } => 25,
-            Call::Modes { .. } => 26,
+            Call::ReadFile { .. } => 19,
+            Call::ScanObject { .. } => 20,
+            Call::ScanLink { .. } => 21,
+            Call::Profile { .. } => 22,
+            Call::Find { .. } => 23,
+            Call::Depth { .. } => 24,
+            Call::Name { .. } => 25,
+            Call::DescendantSet { .. } => 26,
+            Call::Modes { .. } => 27,
+            Call::WriteFile => 28,
         }
     }
 
     /// Whether the call leaves every base as it is.
     pub fn asks(&self) -> bool {
-        self.index() >= 19
+        self.index() >= 20
+    }
+
+    /// Whether the call writes a base over any bytes of the right length.
+    pub fn takes_any_bytes(&self) -> bool {
+        TAKING_ANY_BYTES.contains(&self.index())
     }
 
     /// The numbers and the slices that the C function takes beside base and output, each in the order of the header.
     pub fn inputs(&self) -> ([usize; 3], [&[u8]; 3]) {
         match self {
-            Call::Fresh => ([0; 3], [&[]; 3]),
-            Call::NewSds { name } => ([0; 3], [&name.0, &[], &[]]),
+            Call::Fresh | Call::WriteFile => ([0; 3], [&[]; 3]),
+            Call::NewSds { name } | Call::ReadFile { file: name } => ([0; 3], [&name.0, &[], &[]]),
             Call::RemoveSds { sds } => ([*sds, 0, 0], [&[]; 3]),
             Call::NewObject { sds, name, parents } => ([*sds, 0, 0], [&name.0, &parents.0, &[]]),
             Call::NewAttribute { sds, name, value_kind } => ([*sds, *value_kind, 0], [&name.0, &[], &[]]),
@@ -227,6 +242,14 @@ impl Call {
         }
     }
 
+    /// The bytes of the output that the call has written, by its answer.
+    pub fn written(&self, answer: [usize; 4]) -> usize {
+        match self {
+            Call::WriteFile => answer[1],
+            _ => 2 * self.entries(answer),
+        }
+    }
+
     /// The call on a schema; `output` is the length in bytes of the output area.
     pub fn on(&self, s: &mut Schema, output: usize) -> Reply {
         match self {
@@ -258,6 +281,7 @@ impl Call {
             &Call::SetModes { sds, ref name, usage, definition } => {
                 s.set_modes(sds, &name.0, Modes { usage, definition })
             }
+            Call::ReadFile { file } => s.read_file(&file.0),
             Call::ScanObject { schema, ty, code } => s.scan_object(schema, *ty, *code, output),
             Call::ScanLink { schema, ty, code } => s.scan_link(schema, *ty, *code, output),
             Call::Profile { schema, ty } => s.profile(schema, *ty, output),
@@ -266,16 +290,17 @@ impl Call {
             Call::Name { sds, ty } => s.name(*sds, *ty),
             Call::DescendantSet { schema, ty } => s.descendant_set(schema, *ty),
             Call::Modes { schema, ty } => s.modes(schema, *ty),
+            Call::WriteFile => s.write_file(output),
         }
     }
 }
 
 /// The call on a lent base and output. Gives the number and the three values; a refusal leaves both as found.
 pub fn apply(base: &mut [u8], output: &mut [u8], call: &Call) -> [usize; 4] {
-    // Fresh alone takes any bytes of the right length.
-    let found = match call {
-        Call::Fresh => (base.len() == LENGTH).then(Schema::fresh),
-        _ => from_bytes(base),
+    // Whatever schema stands for any bytes, it is replaced.
+    let found = match call.takes_any_bytes() {
+        true => (base.len() == LENGTH).then(Schema::fresh),
+        false => from_bytes(base),
     };
     match found {
         Some(mut schema) => apply_to(&mut schema, base, output, call),
@@ -293,6 +318,7 @@ pub fn apply_to(schema: &mut Schema, base: &mut [u8], output: &mut [u8], call: &
         for (entry, bytes) in reply.list.iter().zip(output.chunks_exact_mut(2)) {
             bytes.copy_from_slice(&entry.to_le_bytes());
         }
+        output[..reply.file.len()].copy_from_slice(&reply.file);
     }
     [reply.no, reply.one, reply.two, reply.three]
 }

@@ -146,6 +146,14 @@ impl<'a> Line<'a> {
         self.word(at).iter().fold(0, with_digit)
     }
 
+    /// Two hexadecimal digits a byte, letters small; - is no bytes. None where the word is not of that form.
+    fn bytes(self, at: usize) -> Option<Vec<u8>> {
+        let digit = |byte: &u8| (*byte as char).to_digit(16).filter(|_| !byte.is_ascii_uppercase());
+        let digits: Vec<u8> =
+            self.unless_blank(at).iter().map(|byte| digit(byte).map(|digit| digit as u8)).collect::<Option<_>>()?;
+        (digits.len() % 2 == 0).then(|| digits.chunks_exact(2).map(|pair| pair[0] * 16 + pair[1]).collect())
+    }
+
     /// The call, and the length of its output in bytes.
     fn call(self) -> Option<(Call, usize)> {
         let sds = self.number(1);
@@ -191,9 +199,15 @@ impl<'a> Line<'a> {
             b"name" => Call::Name { sds, ty },
             b"descendant_set" => Call::DescendantSet { schema, ty },
             b"modes" => Call::Modes { schema, ty },
+            b"write_file" => Call::WriteFile,
+            b"read_file" => Call::ReadFile { file: Text(self.bytes(1)?) },
             _ => return None,
         };
-        let output_at = if matches!(call, Call::Profile { .. }) { 3 } else { 4 };
+        let output_at = match call {
+            Call::WriteFile => 1,
+            Call::Profile { .. } => 3,
+            _ => 4,
+        };
         Some((call, self.number(output_at).min(OUTPUT)))
     }
 }

@@ -2,6 +2,7 @@
 #![forbid(unsafe_code)]
 
 use crate::calls::{Call, CALLS, NUMBERS};
+use crate::files;
 use crate::joins::JOINED;
 use crate::modes::MODED;
 use crate::nameless::NAMELESS;
@@ -30,8 +31,8 @@ const UNLISTED: [&str; 10] = [
 ];
 
 /// What schemas are drawn for should come up so often: each of `REMOVED`, of `SPELT`, of `MODED`, of `NAMELESS` and of
-/// `JOINED`, and lists of descendants, of each shape and with each of these, which one pass by number, first parents alone,
-/// too few passes or no look at presences would get wrong.
+/// `JOINED`, what `files::often` lists, and lists of descendants, of each shape and with each of these, which one pass by
+/// number, first parents alone, too few passes or no look at presences would get wrong.
 const OFTEN_DRAWN: usize = 200;
 const LISTED: [&str; 5] = [
     "a type below its parents",
@@ -40,6 +41,9 @@ const LISTED: [&str; 5] = [
     "126 types or more",
     "a type not visible left out",
 ];
+
+/// So often should a file come up that takes long.
+const FEW: usize = 4;
 
 /// So often should each way that spoils spellings, modes or nameless presences have left a base as it is expected to, sound
 /// or not.
@@ -109,6 +113,8 @@ pub struct Counts {
     pub nameless: BTreeMap<String, usize>,
     /// Questions under two lists and their join, or under a list in another order.
     pub joined: BTreeMap<String, usize>,
+    /// Files that were read or refused, and bases that were written as one.
+    pub filed: BTreeMap<String, usize>,
 }
 
 impl Counts {
@@ -122,6 +128,7 @@ impl Counts {
             moded: BTreeMap::new(),
             nameless: BTreeMap::new(),
             joined: BTreeMap::new(),
+            filed: BTreeMap::new(),
         }
     }
 
@@ -142,6 +149,7 @@ impl Counts {
             (&mut self.moded, &other.moded),
             (&mut self.nameless, &other.nameless),
             (&mut self.joined, &other.joined),
+            (&mut self.filed, &other.filed),
         ] {
             numbers.iter().for_each(|(what, number)| *sums.entry(what.clone()).or_default() += number);
         }
@@ -242,6 +250,24 @@ impl Counts {
         *self.joined.entry(what.into()).or_default() += 1;
     }
 
+    /// Counts a file by all that it is called.
+    pub fn file(&mut self, whats: impl IntoIterator<Item = impl Into<String>>) {
+        whats.into_iter().for_each(|what| *self.filed.entry(what.into()).or_default() += 1);
+    }
+
+    /// How many files were to be read.
+    pub fn files(&self) -> usize {
+        let read = CALLS.iter().position(|call| call.name == "read_file").expect("it is a call");
+        self.answered[read].iter().sum()
+    }
+
+    /// What a long run of files should have seen and came up too seldom.
+    pub fn seldom_filed(&self) -> Vec<String> {
+        let few = files::FEW.into_iter().filter(|what| self.filed.get(*what).is_none_or(|&files| files < FEW));
+        let few: Vec<String> = few.map(|what| format!("file: {what}")).collect();
+        [few, seldom_of("file", &files::often(), &self.filed)].concat()
+    }
+
     /// What a long run of joins should have seen and came up too seldom.
     pub fn seldom_joined(&self) -> Vec<String> {
         seldom_of("join", &JOINED, &self.joined)
@@ -291,10 +317,12 @@ impl Counts {
 
     pub fn print_joined(&self) {
         print_drawn("under a join or in another order", &self.joined);
-        let seldom = self.seldom_joined();
-        println!("that came up less than {OFTEN_DRAWN} times: {}", seldom.len());
-        seldom.iter().for_each(|what| println!("    {what}"));
-        println!();
+        print_seldom(&self.seldom_joined());
+    }
+
+    pub fn print_filed(&self) {
+        print_drawn("files", &self.filed);
+        print_seldom(&self.seldom_filed());
     }
 
     /// How often each number was answered, and the share of calls on sound bases that were done.
@@ -324,9 +352,16 @@ impl Counts {
 }
 
 /// Those that came up too seldom for what schemas are drawn for.
-fn seldom_of(kind: &str, all: &[&str], seen: &BTreeMap<String, usize>) -> Vec<String> {
-    let all = all.iter().filter(|what| seen.get(**what).is_none_or(|&calls| calls < OFTEN_DRAWN));
-    all.map(|what| format!("{kind}: {what}")).collect()
+fn seldom_of(kind: &str, all: &[impl AsRef<str>], seen: &BTreeMap<String, usize>) -> Vec<String> {
+    let all = all.iter().map(AsRef::as_ref);
+    let seldom = all.filter(|what| seen.get(*what).is_none_or(|&calls| calls < OFTEN_DRAWN));
+    seldom.map(|what| format!("{kind}: {what}")).collect()
+}
+
+fn print_seldom(seldom: &[String]) {
+    println!("that came up less than {OFTEN_DRAWN} times: {}", seldom.len());
+    seldom.iter().for_each(|what| println!("    {what}"));
+    println!();
 }
 
 fn print_drawn(heading: &str, seen: &BTreeMap<String, usize>) {

@@ -6,13 +6,14 @@
 #![forbid(unsafe_code)]
 
 use crate::base;
+use crate::file::{self, Fault};
 use crate::schema::{
     has_same, is_name, is_same, Application, End, Modes, Name, Presence, Schema, Sds, Side, Type, DESIGNATION,
     IMPLICIT, LAST_VALUE_KIND,
 };
 use std::collections::BTreeSet;
 
-/// The answer: 01's number, its values in 01's order, and the entries that a call puts down.
+/// The answer: 01's number, its values in 01's order, and the entries or the file that a call puts down.
 #[derive(Clone, Debug, Default, PartialEq, Eq)]
 pub struct Reply {
     pub no: usize,
@@ -20,6 +21,7 @@ pub struct Reply {
     pub two: usize,
     pub three: usize,
     pub list: Vec<u16>,
+    pub file: Vec<u8>,
 }
 
 fn refused(no: usize) -> Reply {
@@ -43,7 +45,7 @@ fn gives_two(one: usize, two: usize) -> Reply {
     Reply { one, two, ..Reply::default() }
 }
 
-/// Calls 1 to 8, those by number and the setting of modes, which change the schema.
+/// Calls 1 to 8, those by number, the setting of modes and the reading of a file, which change the schema.
 impl Schema {
     pub fn new_sds(&mut self, name: &[u8]) -> Reply {
         if !is_name(name) {
@@ -370,6 +372,19 @@ impl Schema {
         done()
     }
 
+    /// Whatever was there, the schema is then that of the file. 20 tells the length of the longest start that the file
+    /// shares with some well-formed one.
+    pub fn read_file(&mut self, file: &[u8]) -> Reply {
+        match file::read(file) {
+            Err(Fault::Malformed { start }) => Reply { no: 20, one: start, ..Reply::default() },
+            Err(Fault::NotWritten) => refused(21),
+            Ok(schema) => {
+                *self = schema;
+                done()
+            }
+        }
+    }
+
     /// What a removal does with a type that is there: 16, 17 and 18 are left to be tried.
     fn remove_present(&mut self, sds: usize, ty: usize) -> Reply {
         let going = self.with_reverse(ty);
@@ -593,7 +608,7 @@ impl WorkingSchema<'_> {
     }
 }
 
-/// Calls 9 to 13, and that for modes, which ask. `list` is the working schema, `output` the length in bytes of the
+/// Calls 9 to 13, that for modes and the writing of a file, which ask. `list` is the working schema, `output` the length in bytes of the
 /// output area.
 impl Schema {
     pub fn scan_object(&self, list: &[u8], ty: usize, code: usize, output: usize) -> Reply {
@@ -667,6 +682,15 @@ impl Schema {
             let Modes { usage, definition } = held.fold(Modes::NONE, Modes::union);
             gives_two(usage, definition)
         })
+    }
+
+    /// Gives the length of the file; `output` is counted in bytes here.
+    pub fn write_file(&self, output: usize) -> Reply {
+        let file = file::to_file(self);
+        match file.len() <= output {
+            true => Reply { one: file.len(), file, ..Reply::default() },
+            false => refused(15),
+        }
     }
 
     /// The working schema of a call that asks about a type of the wanted kind, and what it asks, none for an unknown
@@ -747,7 +771,7 @@ fn put_down(lists: &[Vec<u16>], output: usize) -> Reply {
         return refused(15);
     }
     let count = |n: usize| lists.get(n).map_or(0, Vec::len);
-    Reply { no: 0, one: count(0), two: count(1), three: count(2), list }
+    Reply { one: count(0), two: count(1), three: count(2), list, ..Reply::default() }
 }
 
 /// In rising type number, each once; type numbers are below 128.

@@ -3,6 +3,7 @@
 
 use crate::base::LENGTH;
 use crate::calls::Call;
+use crate::file::MOST;
 use crate::library::{Area, Expected, Found, Lent, Library};
 
 #[repr(C)]
@@ -17,6 +18,7 @@ struct Answer {
 #[rustfmt::skip]
 unsafe extern "C" {
     safe fn cf_base_length() -> usize;
+    safe fn cf_file_most() -> usize;
     fn cf_fresh(base: *mut u8, base_len: usize) -> Answer;
     fn cf_new_sds(base: *mut u8, base_len: usize, name: *const u8, name_len: usize) -> Answer;
     fn cf_remove_sds(base: *mut u8, base_len: usize, sds: usize) -> Answer;
@@ -51,6 +53,7 @@ unsafe extern "C" {
                         new_name_len: usize) -> Answer;
     fn cf_set_modes(base: *mut u8, base_len: usize, sds: usize, name: *const u8, name_len: usize, usage: usize,
                     definition: usize) -> Answer;
+    fn cf_read_file(base: *mut u8, base_len: usize, file: *const u8, file_len: usize) -> Answer;
     fn cf_name(base: *const u8, base_len: usize, sds: usize, ty: usize) -> Answer;
     fn cf_scan_object(base: *const u8, base_len: usize, schema: *const u8, schema_len: usize, ty: usize,
                       code: usize, output: *mut u8, output_len: usize) -> Answer;
@@ -64,6 +67,7 @@ unsafe extern "C" {
     fn cf_descendant_set(base: *const u8, base_len: usize, schema: *const u8, schema_len: usize,
                          ty: usize) -> Answer;
     fn cf_modes(base: *const u8, base_len: usize, schema: *const u8, schema_len: usize, ty: usize) -> Answer;
+    fn cf_write_file(base: *const u8, base_len: usize, output: *mut u8, output_len: usize) -> Answer;
 }
 
 /// Makes the call on what is lent. `b` is the base; `x`, `y` and `z` are the slices beside base and output, in the order
@@ -100,6 +104,7 @@ fn made(call: &Call, lent: &Lent) -> Found {
             Call::RenameNumber { sds, ty, .. } => cf_rename_number(b, b_len, sds, ty, x, x_len),
             Call::SetModes { sds, usage, definition, .. } =>
                 cf_set_modes(b, b_len, sds, x, x_len, usage, definition),
+            Call::ReadFile { .. } => cf_read_file(b, b_len, x, x_len),
             Call::ScanObject { ty, code, .. } =>
                 cf_scan_object(b, b_len, x, x_len, ty, code, output, output_len),
             Call::ScanLink { ty, code, .. } => cf_scan_link(b, b_len, x, x_len, ty, code, output, output_len),
@@ -109,6 +114,7 @@ fn made(call: &Call, lent: &Lent) -> Found {
             Call::Name { sds, ty } => cf_name(b, b_len, sds, ty),
             Call::DescendantSet { ty, .. } => cf_descendant_set(b, b_len, x, x_len, ty),
             Call::Modes { ty, .. } => cf_modes(b, b_len, x, x_len, ty),
+            Call::WriteFile => cf_write_file(b, b_len, output, output_len),
         }
     };
     Found { answer: [answer.no, answer.one, answer.two, answer.three], bytes }
@@ -120,9 +126,10 @@ pub struct Linked {
 
 impl Linked {
     pub fn new() -> Result<Linked, String> {
-        match cf_base_length() {
-            LENGTH => Ok(Linked { differences: Vec::new() }),
-            length => Err(format!("a base has {LENGTH} bytes, but {length} in the library")),
+        match (cf_base_length(), cf_file_most()) {
+            (LENGTH, MOST) => Ok(Linked { differences: Vec::new() }),
+            (LENGTH, most) => Err(format!("a file has {MOST} bytes at most, but {most} in the library")),
+            (length, _) => Err(format!("a base has {LENGTH} bytes, but {length} in the library")),
         }
     }
 }

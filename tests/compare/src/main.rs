@@ -3,10 +3,12 @@
 //!
 //! `compare [--calls N] [--spoiled N] [--seed S] [-- PROGRAM..]`
 //! `compare joins [--schemas N] [--seed S] [-- PROGRAM..]`
+//! `compare files [--files N] [--seed S] [-- PROGRAM..]`
 //! `compare bench SQLITE -- PROGRAM..`
 //! `compare cases STDIN STDOUT`
 //!
-//! Joins are two working schemas put end to end, and what is answered under them is held to laws.
+//! Joins are two working schemas put end to end, and what is answered under them is held to laws. Files are exchange
+//! files, good ones and others: so many at least are read, and what is accepted is written back.
 //!
 //! PROGRAM and its words start the process that serves the library (`tests/c/serve.c`); without one the library is the
 //! one linked (`build.rs`). A call that crashes ends the comparison where the library is linked; served, it is named.
@@ -17,9 +19,12 @@
 mod base;
 mod bases;
 mod bench;
+mod breaks;
 mod calls;
 mod cases;
 mod coverage;
+mod file;
+mod files;
 mod joins;
 mod keeper;
 mod library;
@@ -57,31 +62,38 @@ const LONG: usize = 200_000;
 /// So many differences are printed; all are counted.
 const SHOWN: usize = 10;
 
+/// What is compared.
+#[derive(Clone, Copy)]
+enum Compared {
+    Calls { calls: usize, spoiled: usize },
+    Joins { schemas: usize },
+    Files { files: usize },
+}
+
 struct Options {
-    calls: usize,
-    spoiled: usize,
-    /// Where joins are asked about, on so many, and nothing else is.
-    schemas: Option<usize>,
+    compared: Compared,
     seed: u64,
 }
 
 fn options(arguments: &[String]) -> Option<Options> {
-    let (schemas, arguments) = match arguments {
-        [mode, arguments @ ..] if mode == "joins" => (Some(joins::LONG), arguments),
-        arguments => (None, arguments),
+    let (mut compared, arguments) = match arguments {
+        [mode, arguments @ ..] if mode == "joins" => (Compared::Joins { schemas: joins::LONG }, arguments),
+        [mode, arguments @ ..] if mode == "files" => (Compared::Files { files: files::LONG }, arguments),
+        arguments => (Compared::Calls { calls: LONG, spoiled: 60_000 }, arguments),
     };
-    let mut options = Options { calls: LONG, spoiled: 50_000, schemas, seed: 1 };
+    let mut seed = 1;
     for pair in arguments.chunks(2) {
         let [option, value] = pair else { return None };
-        match option.as_str() {
-            "--calls" if schemas.is_none() => options.calls = value.parse().ok()?,
-            "--spoiled" if schemas.is_none() => options.spoiled = value.parse().ok()?,
-            "--schemas" if schemas.is_some() => options.schemas = Some(value.parse().ok()?),
-            "--seed" => options.seed = value.parse().ok()?,
+        match (option.as_str(), &mut compared) {
+            ("--calls", Compared::Calls { calls: number, .. })
+            | ("--spoiled", Compared::Calls { spoiled: number, .. })
+            | ("--schemas", Compared::Joins { schemas: number })
+            | ("--files", Compared::Files { files: number }) => *number = value.parse().ok()?,
+            ("--seed", _) => seed = value.parse().ok()?,
             _ => return None,
         }
     }
-    Some(options)
+    Some(Options { compared, seed })
 }
 
 /// Makes so many histories, one on each processor at a time.
@@ -125,17 +137,22 @@ fn run(
     Ok((counts, differences))
 }
 
-/// The joins, or the calls, where each history has a share of the spoiled bases.
+/// Of calls each history has a share of the spoiled bases.
 fn compared(options: &Options, program: &[String]) -> Result<(Counts, Vec<String>), String> {
-    let &Options { calls, spoiled, schemas, seed } = options;
-    if let Some(schemas) = schemas {
-        return run(schemas, program, |run, number| run.joins(seed, number));
+    let &Options { compared, seed } = options;
+    match compared {
+        Compared::Joins { schemas } => run(schemas, program, |run, number| run.joins(seed, number)),
+        Compared::Files { files } => {
+            run(files.div_ceil(files::SHARE), program, |run, number| run.files(seed, number))
+        }
+        Compared::Calls { calls, spoiled } => {
+            let histories = calls.div_ceil(HISTORY);
+            run(histories, program, |run, number| {
+                let calls = HISTORY.min(calls - number * HISTORY);
+                run.history(seed, number, calls, spoiled * (number + 1) / histories - spoiled * number / histories)
+            })
+        }
     }
-    let histories = calls.div_ceil(HISTORY);
-    run(histories, program, |run, number| {
-        let calls = HISTORY.min(calls - number * HISTORY);
-        run.history(seed, number, calls, spoiled * (number + 1) / histories - spoiled * number / histories)
-    })
 }
 
 fn main() -> ExitCode {
@@ -155,6 +172,7 @@ fn main() -> ExitCode {
     let Some(options) = options(&arguments[..at]) else {
         eprintln!("compare [--calls N] [--spoiled N] [--seed S] [-- PROGRAM..]");
         eprintln!("compare joins [--schemas N] [--seed S] [-- PROGRAM..]");
+        eprintln!("compare files [--files N] [--seed S] [-- PROGRAM..]");
         eprintln!("compare bench SQLITE -- PROGRAM..\ncompare cases STDIN STDOUT");
         return ExitCode::from(2);
     };
@@ -165,20 +183,23 @@ fn main() -> ExitCode {
             return ExitCode::FAILURE;
         }
     };
-    let has_seen_all = match options.schemas {
-        Some(schemas) => {
+    let spoiled: usize = counts.spoiled.as_flattened().iter().sum();
+    let (on, has_seen_all) = match options.compared {
+        Compared::Joins { schemas } => {
             counts.print_joined();
-            schemas < joins::LONG || counts.seldom_joined().is_empty()
+            (format!("{schemas} schemas"), schemas < joins::LONG || counts.seldom_joined().is_empty())
         }
-        None => {
+        Compared::Files { files } => {
+            counts.print_filed();
+            (format!("{} files", counts.files()), files < files::LONG || counts.seldom_filed().is_empty())
+        }
+        Compared::Calls { calls, .. } => {
             counts.print();
-            options.calls < LONG || counts.seldom().is_empty()
+            (format!("{spoiled} spoiled bases"), calls < LONG || counts.seldom().is_empty())
         }
     };
     differences.iter().take(SHOWN).for_each(|difference| println!("{difference}"));
-    let spoiled: usize = counts.spoiled.as_flattened().iter().sum();
     let calls = counts.answered.as_flattened().iter().sum::<usize>() - spoiled;
-    let on = options.schemas.map_or(format!("{spoiled} spoiled bases"), |schemas| format!("{schemas} schemas"));
     println!("compare: {calls} calls, {on}, {} differences", differences.len());
     if differences.is_empty() && has_seen_all {
         ExitCode::SUCCESS

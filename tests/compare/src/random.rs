@@ -2,6 +2,8 @@
 #![forbid(unsafe_code)]
 
 use crate::calls::{Call, Text, CALLS};
+use crate::file::{to_file, MOST};
+use crate::files::{self, Written};
 use crate::schema::{is_same, Modes, Name, Presence, Schema, Sds, Side, DESIGNATION, LAST_VALUE_KIND};
 
 /// A small deterministic generator (splitmix64).
@@ -226,11 +228,16 @@ fn is_object_or_link(schema: &Schema, ty: usize) -> bool {
 pub struct Caller {
     pub random: Random,
     pub mode: Mode,
+    /// The files that were written last.
+    files: Vec<Vec<u8>>,
 }
+
+/// So many files are kept.
+const FILES: usize = 4;
 
 impl Caller {
     pub fn new(seed: u64) -> Caller {
-        Caller { random: Random::new(seed), mode: Mode::Small }
+        Caller { random: Random::new(seed), mode: Mode::Small, files: Vec::new() }
     }
 
     /// The next call: mostly one that leads where the mode says, as long as that is not reached.
@@ -258,6 +265,7 @@ impl Caller {
             Call::ScanObject { schema: list, ty, code } => schema.scan_object(list, *ty, *code, unlimited),
             Call::ScanLink { schema: list, ty, code } => schema.scan_link(list, *ty, *code, unlimited),
             Call::Profile { schema: list, ty } => schema.profile(list, *ty, unlimited),
+            Call::WriteFile => return self.room(to_file(schema).len()),
             _ => return self.random.below(8),
         };
         let exact = 2 * reply.list.len();
@@ -269,6 +277,27 @@ impl Caller {
             4 | 5 => exact + self.random.below(40),
             _ => exact,
         }
+    }
+
+    /// Room for a file of the length, or too little.
+    pub fn room(&mut self, exact: usize) -> usize {
+        match self.random.below(12) {
+            0 => 0,
+            1 => self.random.below(exact),
+            2 | 3 => exact - 1,
+            4 => exact + 1,
+            5 | 6 => exact + self.random.below(40),
+            7 => MOST,
+            _ => exact,
+        }
+    }
+
+    /// A file was written.
+    pub fn keep_file(&mut self, file: &[u8]) {
+        if self.files.len() == FILES {
+            self.files.remove(0);
+        }
+        self.files.push(file.to_vec());
     }
 
     fn any_call(&mut self, schema: &Schema) -> Call {
@@ -290,6 +319,7 @@ impl Caller {
                 0 => 300,
                 1 if has_enough_sdss => 8,
                 2 if !has_empty_sds => 4,
+                19 => 6,
                 _ => 1,
             };
             if self.random.one_in(times) {
@@ -320,14 +350,16 @@ impl Caller {
             16 => self.rename(schema, sds),
             17 => self.rename_number(schema, sds),
             18 => self.set_modes(schema, sds),
-            19 => self.scan_object(schema),
-            20 => self.scan_link(schema),
-            21 => self.profile(schema),
-            22 => self.find(schema),
-            23 => self.depth(schema),
-            24 => self.name(schema),
-            25 => self.descendant_set(schema),
-            _ => self.modes(schema),
+            19 => self.read_file(schema),
+            20 => self.scan_object(schema),
+            21 => self.scan_link(schema),
+            22 => self.profile(schema),
+            23 => self.find(schema),
+            24 => self.depth(schema),
+            25 => self.name(schema),
+            26 => self.descendant_set(schema),
+            27 => self.modes(schema),
+            _ => Call::WriteFile,
         }
     }
 
@@ -550,6 +582,32 @@ impl Caller {
     fn set_modes(&mut self, schema: &Schema, sds: usize) -> Call {
         let [usage, definition] = [(); 2].map(|()| self.code(Modes::FIVE + 1));
         Call::SetModes { sds, name: self.borne_name(schema, sds, any_type), usage, definition }
+    }
+
+    /// Mostly a file that was written lately, which doesn't undo what a mode leads to; seldom one of another history. One
+    /// in three is spoiled.
+    pub fn read_file(&mut self, schema: &Schema) -> Call {
+        let file = match (self.random.below(16), self.random.pick(&self.files)) {
+            (0, _) => to_file(&self.another()),
+            (1..=10, Some(file)) => file,
+            _ => to_file(schema),
+        };
+        let file = match self.random.below(6) {
+            0 => files::malformed(&mut self.random, &file),
+            1 => files::unsound(&mut self.random, &Written::new(schema.clone())).unwrap_or(file),
+            _ => file,
+        };
+        Call::ReadFile { file: Text(file) }
+    }
+
+    /// The schema of another history: some changes to a fresh one.
+    fn another(&mut self) -> Schema {
+        let (mut caller, mut schema) = (Caller::new(self.random.word()), Schema::fresh());
+        let changes: Vec<usize> = (1..19).collect();
+        for _ in 0..self.random.below(200) {
+            caller.any_of(&schema, &changes).on(&mut schema, 0);
+        }
+        schema
     }
 
     fn scan_object(&mut self, schema: &Schema) -> Call {

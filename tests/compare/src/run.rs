@@ -2,8 +2,9 @@
 #![forbid(unsafe_code)]
 
 use crate::base::{from_bytes, is_sound, to_bytes, LENGTH};
-use crate::calls::{apply, apply_to, Call, CALLS, TELLING};
+use crate::calls::{apply, apply_to, Call, CALLS, TAKING_ANY_BYTES, TELLING};
 use crate::coverage::{Counts, Traits};
+use crate::file::{self, to_file, LONGEST};
 use crate::library::{Expected, Lent, Library};
 use crate::modes::{self, Gone};
 use crate::nameless::{self, Since};
@@ -180,9 +181,15 @@ impl Run {
         self.counts.spell(spelt, answer);
         self.counts.set_modes(moded, answer);
         self.counts.go_nameless(blank, answer);
-        if answer[0] == 0 && !call.asks() {
+        if answer[0] == 0 && call.takes_any_bytes() {
+            // All that was is over.
+            (self.gone, self.since) = (Gone::default(), Since::default());
+        } else if answer[0] == 0 && !call.asks() {
             self.gone.keep(&self.schema, going);
             self.since.keep(&nameless, &self.schema);
+        }
+        if answer[0] == 0 && *call == Call::WriteFile {
+            self.caller.keep_file(&after.output[..answer[1]]);
         }
         self.counts.ask(&self.schema, call, before.output.len(), answer);
         self.counts.remove(&self.schema, call, answer);
@@ -233,7 +240,11 @@ impl Run {
         if self.caller.random.one_in(10) {
             self.on_any_bytes(base.clone(), &Call::Fresh)?;
         }
-        let telling: Vec<usize> = (0..CALLS.len()).filter(|&call| call != Call::Fresh.index()).collect();
+        if self.caller.random.one_in(5) {
+            let read = self.caller.read_file(&self.schema);
+            self.on_any_bytes(base.clone(), &read)?;
+        }
+        let telling: Vec<usize> = (0..CALLS.len()).filter(|call| !TAKING_ANY_BYTES.contains(call)).collect();
         let call = self.caller.any_of(&self.schema, &telling);
         let (answer, after) = self.on_any_bytes(base, &call)?;
         self.counts.spoiled[way][usize::from(answer[0] == 1)] += 1;
@@ -244,8 +255,14 @@ impl Run {
         Ok(())
     }
 
-    fn on_any_bytes(&mut self, base: Vec<u8>, call: &Call) -> Result<([usize; 4], Lent), String> {
-        let before = self.lent(base, call);
+    pub fn on_any_bytes(&mut self, base: Vec<u8>, call: &Call) -> Result<([usize; 4], Lent), String> {
+        let output = self.caller.output(&self.schema, call);
+        self.on_bytes(base, output, call)
+    }
+
+    /// The same with an output of so many bytes.
+    pub fn on_bytes(&mut self, base: Vec<u8>, output: usize, call: &Call) -> Result<([usize; 4], Lent), String> {
+        let before = Lent { base, output: self.caller.random.bytes(output) };
         let mut after = before.clone();
         let answer = apply(&mut after.base, &mut after.output, call);
         self.compare(call, &before, answer, &after)?;
@@ -275,11 +292,16 @@ impl Run {
         }
     }
 
-    /// The present base is sound, and the one base of the schema.
+    /// The present base is sound, and the one base of the schema; so is its file.
     fn check_base(&self) -> Result<(), String> {
         match from_bytes(&self.base) {
-            Some(schema) if schema == self.schema && to_bytes(&schema) == self.base => Ok(()),
-            _ => Err(format!("{}: the keeper's base is not that of its schema", self.place)),
+            Some(schema) if schema == self.schema && to_bytes(&schema) == self.base => {}
+            _ => return Err(format!("{}: the keeper's base is not that of its schema", self.place)),
+        }
+        let file = to_file(&self.schema);
+        match file::read(&file) {
+            Ok(schema) if schema == self.schema && file.len() <= LONGEST => Ok(()),
+            _ => Err(format!("{}: the keeper's file is not that of its schema", self.place)),
         }
     }
 
@@ -306,9 +328,24 @@ fn check(call: &Call, before: &Lent, answer: [usize; 4], after: &Lent) -> Result
     if call.asks() && after.base != before.base {
         return Err("asks and changes the base".into());
     }
-    let written = 2 * call.entries(answer);
+    let written = call.written(answer);
     if written > before.output.len() || after.output[written..] != before.output[written..] {
         return Err("writes or counts beyond what there is".into());
     }
-    Ok(())
+    match (call, no) {
+        (Call::ReadFile { file }, 0) if !is_written_as(&after.base, &file.0) => {
+            Err("reads a file that its base is not written as".into())
+        }
+        (Call::WriteFile, 0) if !is_written_as(&before.base, &after.output[..written]) => {
+            Err("writes a file that is not read as its base".into())
+        }
+        _ => Ok(()),
+    }
+}
+
+/// Whether the base is sound, written as the file and read from it, and the file no longer than one can be.
+fn is_written_as(base: &[u8], file: &[u8]) -> bool {
+    let is_written = from_bytes(base).is_some_and(|schema| to_file(&schema) == file);
+    let is_read = file::read(file).is_ok_and(|schema| to_bytes(&schema) == base);
+    is_written && is_read && file.len() <= LONGEST
 }

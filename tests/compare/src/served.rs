@@ -6,6 +6,7 @@
 
 use crate::base::LENGTH;
 use crate::calls::{Call, CALLS};
+use crate::file::MOST;
 use crate::library::{Area, Expected, Found, Lent, Library};
 use std::io::{BufRead, BufReader, BufWriter, Read, Write};
 use std::process::{Child, ChildStdin, ChildStdout, Command, Stdio};
@@ -52,6 +53,9 @@ pub fn start(words: &[String]) -> Result<(Requests, Replies), String> {
     let mut served = line.split_whitespace();
     if served.next() != Some(&LENGTH.to_string()) {
         return Err(format!("a base has {LENGTH} bytes, but not in the library: {line:?}"));
+    }
+    if served.next() != Some(&MOST.to_string()) {
+        return Err(format!("a file has {MOST} bytes at most, but not in the library: {line:?}"));
     }
     let functions = places_in(&served.collect::<Vec<_>>())?;
     Ok((Requests { input, functions }, Replies { output, process }))

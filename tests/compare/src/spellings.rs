@@ -383,7 +383,7 @@ pub fn respelling(random: &mut Random, s: &Schema) -> Call {
     let sds = random.pick(&sdss).expect("four are drawn");
     let here = &s.sdss[&sds];
     let any = |_: &Schema, _: usize| true;
-    match random.below(26) {
+    match random.below(28) {
         0 | 1 => Call::NewSds { name: Text(new_sds_name(random, s)) },
         2..=4 => {
             let parents = parents(random, s, here);
@@ -417,7 +417,7 @@ pub fn respelling(random: &mut Random, s: &Schema) -> Call {
         17 => Call::RemoveType { sds, name: Text(there(random, s, here, any)) },
         18..=20 => rename(random, s, sds),
         24 => Call::SetModes { sds, name: Text(there(random, s, here, any)), usage: 1, definition: 2 },
-        21..=23 => {
+        21..=23 | 26 | 27 => {
             let schema = vec![sds as u8];
             Call::Find { schema, name: Text(there(random, s, here, any)) }
         }

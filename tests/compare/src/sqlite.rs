@@ -1,7 +1,8 @@
-//! A schema as rows of SQL tables, and the questions of the benchmark asked of SQLite (`tests/c/sqlite.c`).
+//! A schema as rows of SQL tables, and the questions of the benchmark asked of SQLite (`tests/c/sqlite.c`), which dumps
+//! and restores those tables too.
 #![forbid(unsafe_code)]
 
-use crate::schema::{Schema, Type};
+use crate::schema::{Modes, Presence, Schema, Type};
 use std::fmt::Write as _;
 use std::io::{BufRead, BufReader, Write as _};
 use std::process::{Child, ChildStdin, ChildStdout, Command, Stdio};
@@ -12,10 +13,10 @@ pub struct Sqlite {
     output: BufReader<ChildStdout>,
 }
 
-/// What the questions took together, and the types that each was answered with.
+/// What the questions took together, and the entries that each was answered with.
 pub struct Answered {
     pub nanoseconds: f64,
-    pub types: Vec<u16>,
+    pub entries: Vec<usize>,
 }
 
 impl Sqlite {
@@ -53,8 +54,8 @@ impl Drop for Sqlite {
 fn answered(line: &str) -> Option<Answered> {
     let mut words = line.split_whitespace();
     let nanoseconds = words.next()?.parse().ok()?;
-    let types = words.map(|word| word.parse().ok()).collect::<Option<_>>()?;
-    Some(Answered { nanoseconds, types })
+    let entries = words.map(|word| word.parse().ok()).collect::<Option<_>>()?;
+    Some(Answered { nanoseconds, entries })
 }
 
 /// What the tables of `sqlite.c` hold, and an empty line.
@@ -66,14 +67,21 @@ fn rows(schema: &Schema, list: &[u8]) -> String {
     for (place, sds) in list.iter().enumerate() {
         insert("working", format!("{place}, {sds}"));
     }
-    for (child, ty) in &schema.types {
-        if let Type::Object { parents } = ty {
-            parents.iter().for_each(|parent| insert("parent", format!("{child}, {parent}")));
-        }
+    for (number, ty) in &schema.types {
+        let fields = match ty {
+            Type::Object { parents } => {
+                parents.iter().for_each(|parent| insert("parent", format!("{number}, {parent}")));
+                [1, 0, 0]
+            }
+            Type::Attribute { value_kind } => [2, *value_kind, 0],
+            Type::Link { category, reverse } => [3, *category, reverse.unwrap_or(0)],
+        };
+        insert("type", format!("{number}, {}, {}, {}", fields[0], fields[1], fields[2]));
     }
     for (number, sds) in &schema.sdss {
-        for (name, present) in &sds.named {
-            insert("presence", format!("{number}, '{}', {}", name.escape_ascii(), present.ty));
+        insert("sds", format!("{number}, '{}'", sds.name.escape_ascii()));
+        for (name, Presence { ty, modes: Modes { usage, definition } }) in &sds.named {
+            insert("presence", format!("{number}, '{}', {ty}, {usage}, {definition}", name.escape_ascii()));
         }
         assert!(sds.nameless.is_empty(), "a name is part of the key of that table");
         for application in &sds.applications {

@@ -6,6 +6,8 @@ use crate::base::{from_bytes, is_sound, to_bytes, APPLICATIONS, ENDS, LENGTH, PR
 use crate::calls::{apply as keep, Call, CALLS, TELLING};
 use crate::cases::printed;
 use crate::coverage::{Counts, Traits};
+use crate::file::{self, entries, in_bytes, to_file, Fault, Form, COUNT, FILE, LONGEST, MOST, ROOM, WIDTHS};
+use crate::files::{self, longest, Written};
 use crate::joins;
 use crate::modes::{self, Gone};
 use crate::nameless::{self, take_name, Since};
@@ -124,6 +126,10 @@ fn modes(schema: &[u8], ty: usize) -> Call {
     Call::Modes { schema: schema.to_vec(), ty }
 }
 
+fn read_file(file: &[u8]) -> Call {
+    Call::ReadFile { file: file.into() }
+}
+
 /// A base to call on.
 struct Lent(Vec<u8>);
 
@@ -142,7 +148,8 @@ impl Lent {
             assert!(answer[1 + told..].iter().all(|&value| value == 0), "{call:?}");
             assert!(self.0 == before && output == vec![0xee; length], "{call:?}");
         }
-        assert_eq!(is_sound(&self.0), is_sound(&before), "{call:?}");
+        let is_sound_after = is_sound(&before) || answer[0] == 0 && call.takes_any_bytes();
+        assert_eq!(is_sound(&self.0), is_sound_after, "{call:?}");
         (answer, output)
     }
 
@@ -405,10 +412,13 @@ fn refused_calls() -> Vec<(usize, Call)> {
         (6, modes(&[], UNIT)),
         (8, modes(&[1, 2, 1], SIZE)),
         (8, modes(&[1; 17], 0)),
+        (15, Call::WriteFile),
+        (20, read_file(&[])),
+        (21, read_file(&[0; 12])),
     ]
 }
 
-/// Calls on `some_base` with the number that each is refused with and the type that it tells.
+/// Calls on `some_base` with the number that each is refused with and the type, or the length, that it tells.
 fn telling_calls() -> Vec<(usize, usize, Call)> {
     vec![
         (12, 0, remove_sds(1)),
@@ -423,6 +433,7 @@ fn telling_calls() -> Vec<(usize, usize, Call)> {
         (17, UNIT, remove_number(1, SIZE)),
         (18, UNIT, remove_number(1, HAS)),
         (18, UNIT, remove_number(1, 6)),
+        (20, 12, read_file(&[0; 13])),
     ]
 }
 
@@ -533,8 +544,12 @@ fn every_refusal_of_every_call() {
     for (number, told, call) in untelling.chain(telling_calls()) {
         assert_eq!(some_base().call(&call), [number, told, 0, 0], "{call:?}");
         seen.insert((call.index(), number));
-        // A base that is not sound comes before all else, and a fresh one takes any bytes of the right length.
-        assert_eq!(Lent(vec![0; LENGTH]).number(&call), 1, "{call:?}");
+        // A base that is not sound comes before all else, and a fresh one or a file takes any bytes of the right length.
+        if call.takes_any_bytes() {
+            assert_eq!(Lent(vec![0; LENGTH]).number(&call), number, "{call:?}");
+        }
+        let length = if call.takes_any_bytes() { LENGTH - 1 } else { LENGTH };
+        assert_eq!(Lent(vec![0; length]).number(&call), 1, "{call:?}");
         seen.insert((call.index(), 1));
     }
     for length in [0, LENGTH - 1, LENGTH + 1] {
@@ -1918,6 +1933,298 @@ fn traits_of_nameless_types() {
     has_traits(remove_number(2, CAP), &["0, an object type"]);
 }
 
+// The exchange file.
+
+#[test]
+fn file_of_a_base() {
+    let mut lent = Lent::fresh();
+    let name = |name: &str| [name.as_bytes(), &[0; 16][name.len()..]].concat();
+    let fresh = [
+        &b"\x01\0\0"[..],
+        &name("system"),
+        b"\x01\0\0\x01\0\0\0\0\x01\0\0\0",
+        &name("object"),
+        &[31, 31, 0, 0, 0, 0],
+    ];
+    let fresh = fresh.concat();
+    assert_eq!(lent.with_output(&Call::WriteFile, 55), ([0, 53, 0, 0], [&fresh[..], &[0xee; 2]].concat()));
+    assert_eq!(lent.with_output(&Call::WriteFile, 53), ([0, 53, 0, 0], fresh.clone()));
+    assert_eq!(lent.with_output(&Call::WriteFile, 52).0, [15, 0, 0, 0]);
+    // Over any bytes.
+    for base in [vec![0; LENGTH], vec![7; LENGTH], some_base().0] {
+        let mut lent = Lent(base);
+        assert_eq!(lent.call(&read_file(&fresh)), [0; 4]);
+        assert!(lent.0 == Lent::fresh().0);
+    }
+    assert_eq!(Lent(vec![0; LENGTH + 1]).call(&read_file(&fresh)), [1, 0, 0, 0]);
+    assert_eq!(Lent(Vec::new()).call(&read_file(&[])), [1, 0, 0, 0]);
+
+    let entries = entries(&from_bytes(&some_base().0).unwrap());
+    assert_eq!(entries[1][5..], [[5, 3, 0, 6], [6, 3, 3, 5]]);
+    assert_eq!(entries[2], [[1, 0], [2, 1]]);
+    // By type, and not as the rows stand.
+    assert!(entries[3].iter().map(|entry| entry[1]).eq([0, 0, 1, 2, 3, 4, 5, 6, 0, 3]));
+    assert_eq!(entries[3][9], [&[2, 3][..], &name("unit"), &[31, 31]].concat());
+    assert_eq!(
+        (&entries[4][..], &entries[5][..]),
+        (&[vec![1, 1, 3]][..], &[vec![1, 5, 0, 1], vec![1, 6, 1, 1]][..])
+    );
+}
+
+/// Nameless types, in any order of numbers, with any modes: what is written is read back, byte for byte.
+#[test]
+fn written_and_read_back() {
+    let mut random = Random::new(1);
+    for draw in [nameless::draw, spellings::draw, modes::draw, removals::draw, longest] {
+        for s in (0..30).map(|_| draw(&mut random)) {
+            let file = to_file(&s);
+            assert_eq!(file::read(&file), Ok(s));
+            assert!(FILE.parted(&file).is_some() && file.len() <= LONGEST);
+        }
+    }
+}
+
+/// 126 object types have the most parents that leave an attribute type and a link type.
+#[test]
+fn no_file_is_longer() {
+    let sections =
+        |counts: [usize; 6]| -> usize { counts.into_iter().zip(WIDTHS).map(|(n, width)| COUNT + n * width).sum() };
+    assert_eq!(sections(ROOM), MOST);
+    // The first after type 0 can have one parent, the next two, and so on.
+    let parents = |objects: usize| (0..objects).map(|above| above.min(Schema::PARENTS)).sum::<usize>();
+    let mut most = 0;
+    for types in 1..=Schema::TYPES {
+        for objects in 1..=types {
+            // Without others there is nothing to apply, and nothing that has ends.
+            let [applications, ends] = match types - objects {
+                0 => [[0, 0]; 1].as_slice(),
+                1 => &[[ROOM[4], 0], [0, ROOM[5]]],
+                _ => &[[ROOM[4], ROOM[5]]],
+            }
+            .iter()
+            .copied()
+            .max_by_key(|[applications, ends]| applications * WIDTHS[4] + ends * WIDTHS[5])
+            .unwrap();
+            most = most.max(sections([ROOM[0], types, parents(objects), ROOM[3], applications, ends]));
+        }
+    }
+    assert_eq!(most, LONGEST);
+    let mut random = Random::new(1);
+    let s = longest(&mut random);
+    assert!(is_sound(&to_bytes(&s)) && to_file(&s).len() == LONGEST);
+}
+
+/// Every well-formed file of the form.
+fn all_files(form: &Form) -> Vec<Vec<u8>> {
+    let mut files = vec![Vec::new()];
+    for &width in form.widths {
+        let digits = form.digits as usize;
+        let string = |n: usize| (0..width).rev().map(move |place| (n / digits.pow(place as u32) % digits) as u8);
+        let strings = digits.pow(width as u32);
+        let mut sections = Vec::new();
+        for chosen in 0..1_usize << strings {
+            let count = chosen.count_ones() as usize;
+            if count < digits * digits {
+                let entries = (0..strings).filter(|n| chosen >> n & 1 == 1).flat_map(string);
+                sections
+                    .push([(count % digits) as u8, (count / digits) as u8].into_iter().chain(entries).collect());
+            }
+        }
+        files = files
+            .iter()
+            .flat_map(|file| sections.iter().map(move |more: &Vec<u8>| [&file[..], more].concat()))
+            .collect();
+    }
+    files
+}
+
+/// Among all files, the longest start that the bytes share with one; none where they are one.
+fn longest_start_of(files: &BTreeSet<Vec<u8>>, bytes: &[u8]) -> Option<usize> {
+    // The files that share the most stand right before and right behind.
+    let near = files.range(..bytes.to_vec()).next_back().into_iter().chain(files.range(bytes.to_vec()..).next());
+    let shared = |file: &Vec<u8>| file.iter().zip(bytes).take_while(|(one, other)| one == other).count();
+    (!files.contains(bytes)).then(|| near.map(shared).max().unwrap())
+}
+
+/// The search over what may follow, held to a list of all files: with so few strings of a width that a count is nearly all
+/// of them, and less.
+#[test]
+fn longest_start_by_all_files() {
+    let forms: [(u128, &[usize]); 6] =
+        [(2, &[1, 2]), (2, &[3]), (2, &[2, 1, 2]), (3, &[1, 2]), (3, &[2]), (4, &[2])];
+    for (digits, widths) in forms {
+        let form = Form { digits, widths };
+        let files: BTreeSet<Vec<u8>> = all_files(&form).into_iter().collect();
+        let check = |bytes: &[u8]| {
+            let start = longest_start_of(&files, bytes);
+            assert_eq!(form.longest_start(bytes), start, "{digits} {widths:?} {bytes:?}");
+            assert_eq!(form.parted(bytes).is_some(), start.is_none(), "{digits} {widths:?} {bytes:?}");
+        };
+        // All short strings, and files with a digit changed, cut or longer.
+        for length in 0..=if digits == 2 { 12 } else { 7 } {
+            for n in 0..(digits as usize).pow(length) {
+                check(
+                    &(0..length)
+                        .map(|place| (n / (digits as usize).pow(place) % digits as usize) as u8)
+                        .collect::<Vec<_>>(),
+                );
+            }
+        }
+        let mut random = Random::new(1);
+        let files: Vec<&Vec<u8>> = files.iter().collect();
+        for _ in 0..20_000 {
+            let mut bytes = files[random.below(files.len())].clone();
+            for _ in 0..=random.below(2) {
+                let at = random.below(bytes.len());
+                match random.below(4) {
+                    0 => bytes.truncate(at + 1),
+                    1 => bytes.push(random.below(digits as usize) as u8),
+                    _ => bytes[at] = random.below(digits as usize) as u8,
+                }
+            }
+            check(&bytes);
+        }
+    }
+}
+
+/// Whether some well-formed file begins so, by making one: each entry that is still open or to come is the least that it can
+/// be.
+fn can_be_finished(bytes: &[u8]) -> bool {
+    let mut rest = bytes;
+    for width in WIDTHS {
+        let Some((count, behind)) = rest.split_at_checked(COUNT) else { return true };
+        let mut before: Option<Vec<u8>> = None;
+        rest = behind;
+        for _ in 0..u16::from_le_bytes([count[0], count[1]]) {
+            let given;
+            (given, rest) = rest.split_at(width.min(rest.len()));
+            let mut entry = [given, &vec![0; width - given.len()]].concat();
+            if before.as_ref().is_some_and(|before| entry <= *before) {
+                // The string right above, if it begins as is given.
+                entry = before.clone().unwrap();
+                let Some(raised) = entry.iter().rposition(|&byte| byte < 255) else { return false };
+                entry[raised] += 1;
+                entry[raised + 1..].fill(0);
+            }
+            if !entry.starts_with(given) {
+                return false;
+            }
+            before = Some(entry);
+        }
+        if rest.is_empty() {
+            // The sections behind can be empty.
+            return true;
+        }
+    }
+    rest.is_empty()
+}
+
+/// The same at the widths that there are, with counts up to 65,535.
+#[test]
+fn longest_start_by_finishing() {
+    let mut random = Random::new(1);
+    let written = Written::new(from_bytes(&some_base().0).unwrap());
+    let mut told = BTreeSet::new();
+    for _ in 0..3000 {
+        let file = files::any(&mut random, &written).file;
+        let start = FILE.longest_start(&file).unwrap_or(file.len());
+        assert!(can_be_finished(&file[..start]), "{file:?}");
+        assert!(start == file.len() || !can_be_finished(&file[..=start]), "{file:?}");
+        told.insert(start);
+    }
+    assert!(told.len() > 300);
+}
+
+/// What a reader answers that goes wrong in one place.
+fn read_wrongly(wrong: &str, file: &[u8]) -> [usize; 2] {
+    let numbers = |fault| match fault {
+        Fault::Malformed { start } => [20, start],
+        Fault::NotWritten => [21, 0],
+    };
+    let right = file::read(file).map_or_else(numbers, |_| [0, 0]);
+    let mut at = 0;
+    for width in WIDTHS {
+        let Some(count) = file.get(at..at + COUNT) else { return right };
+        let count = usize::from(u16::from_le_bytes([count[0], count[1]]));
+        at += COUNT;
+        for number in 0..count {
+            let Some(entry) = file.get(at..at + width) else { return right };
+            let before = (number > 0).then(|| &file[at - width..at]);
+            let to_come = count - number - 1;
+            let last = usize::from(u16::from_be_bytes([entry[width - 2], entry[width - 1]]));
+            let is_high = entry[..width - 2].iter().all(|&byte| byte == 255);
+            let too_few = is_high && 65_535 - last < to_come;
+            let is_told = right[0] == 20 && (at..at + width).contains(&right[1]);
+            match wrong {
+                "at the end of an entry" if is_told => return [20, at + width],
+                "at the beginning of an entry" if is_told => return [20, at],
+                "the same let pass" if before == Some(entry) => return [21, 0],
+                "none above left out of account" if too_few => return [20, file.len()],
+                "one too few let pass" if is_high && 65_535 - last + 1 == to_come => return [20, file.len()],
+                "just enough refused" if is_high && 65_535 - last == to_come && to_come > 0 => {
+                    return [20, at + width - 1]
+                }
+                "at the last byte always" if is_told => return [20, at + width - 1],
+                "falling let pass" if before.is_some_and(|before| before > entry) => return [21, 0],
+                _ => {}
+            }
+            at += width;
+        }
+    }
+    let is_sound_before = |end: usize| file::read(&file[..end]) != Err(Fault::NotWritten);
+    match wrong {
+        "bytes behind let pass" if at < file.len() && is_sound_before(at) => [0, 0],
+        "21 before 20" if at < file.len() && !is_sound_before(at) => [21, 0],
+        "told by the length" if at < file.len() => [20, file.len()],
+        _ => right,
+    }
+}
+
+/// Each reader that goes wrong in one place is told from the keeper by the files that are made.
+#[test]
+fn wrong_readers_differ() {
+    let wrongs = [
+        "at the end of an entry",
+        "at the beginning of an entry",
+        "at the last byte always",
+        "the same let pass",
+        "falling let pass",
+        "none above left out of account",
+        "one too few let pass",
+        "just enough refused",
+        "bytes behind let pass",
+        "told by the length",
+        "21 before 20",
+    ];
+    let mut random = Random::new(1);
+    let written = Written::new(from_bytes(&some_base().0).unwrap());
+    let made: Vec<Vec<u8>> = (0..4000).map(|_| files::any(&mut random, &written).file).collect();
+    for wrong in wrongs {
+        let differ = made.iter().filter(|file| read_wrongly(wrong, file) != read_wrongly("", file)).count();
+        assert!(differ > 5, "{wrong} {differ}");
+    }
+    assert!(made.iter().all(|file| read_wrongly("", file)[0] < 22));
+}
+
+/// 20 is told to the end of the bytes before 21, and neither changes anything.
+#[test]
+fn malformed_before_not_sound() {
+    let mut lent = some_base();
+    let mut entries = entries(&from_bytes(&lent.0).unwrap());
+    entries[0][1][1..].fill(b'%');
+    let mut file = in_bytes(&entries);
+    assert_eq!(lent.call(&read_file(&file)), [21, 0, 0, 0]);
+    assert_eq!(lent.call(&read_file(&file[..file.len() - 1])), [20, file.len() - 1, 0, 0]);
+    file.push(0);
+    assert_eq!(lent.call(&read_file(&file)), [20, file.len() - 1, 0, 0]);
+    assert!(lent.0 == some_base().0);
+    // Bytes that are no base stay too: nothing is written before all is decided.
+    for file in [&file[..], &file[..file.len() - 1], &[0; 12], &[]] {
+        let mut lent = Lent(vec![7; LENGTH]);
+        assert!([20, 21].contains(&lent.number(&read_file(file))) && lent.0 == vec![7; LENGTH]);
+    }
+}
+
 // The base in bytes.
 
 #[test]
@@ -2213,14 +2520,20 @@ fn lines_of_the_cases() {
         ("scan_object 1 0 1", " = 15 0 0 0"),
         ("scan_object 1 0 1 9999", " = 0 1 0 0 : 1"),
         ("output 2", " : 1 0"),
+        ("write_file", " = 15 0 0 0"),
+        ("write_file 512", " = 0 140 0 0"),
+        ("read_file -", " = 20 0 0 0"),
+        ("read_file 0f1", " = ?"),
+        ("read_file 0F", " = ?"),
+        ("read_file 0000000000000000000000000f", " = 20 12 0 0"),
         (&long[..127], " = 4 0 0 0"),
         (&long, " = ?"),
     ];
     let stdin = lines.map(|(line, _)| line).join("\n");
     let stdout = lines.map(|(line, behind)| format!("{line}{behind}\n")).concat();
-    assert_eq!(printed(stdin.as_bytes()), (stdout.clone().into_bytes(), 23));
+    assert_eq!(printed(stdin.as_bytes()), (stdout.clone().into_bytes(), 27));
     // Of a longer line no more is printed.
-    assert_eq!(printed((stdin + "aa\n").as_bytes()), (stdout.into_bytes(), 23));
+    assert_eq!(printed((stdin + "aa\n").as_bytes()), (stdout.into_bytes(), 27));
 }
 
 /// A run in each mode finds no fault. Where a table is to be full, it has none, one and two places left. Every code is

@@ -1,12 +1,15 @@
 -- `edit::put_with_modes` meets its contract: the row goes in at its place among the presences. Assumes nothing.
 use borrow.Author.Needs.{needs}
-use mathlib.Core.Path.{sym, _∙_}
+use native.Mathlib.Omega.{arith}
+use mathlib.Core.Path.{sym, ap, _∙_}
+use lib.ListN.{length}
 use Rattle.rules.specs.04-Schema.{Presence, new-presence, with-modes}
 use Rattle.rules.proofs.03-Names.{name-fits}
+use Rattle.rules.proofs.07-Picture.{wide-presence}
 use Rattle.base.proofs.Shown.{presences-long}
 use Rattle.base.proofs.StoredLaws.{stored-long}
 use Rattle.base.proofs.Tables.{keeps-presences}
-use Rattle.edit.proofs.EditLaws.{ready, row-put, presence-unlike}
+use Rattle.edit.proofs.EditLaws.{row-put, presence-unlike}
 use Rattle.edit.proofs.put_with_modes.Statement.{statement}
 use Rattle.edit.proofs.put_with_modes.Tie as tie
 
@@ -18,16 +21,16 @@ presence-bytes-requires c κs =
 presence-count-requires : tie.Need-presence-count-requires
 presence-count-requires c κs = stored-long (c .before .before .before .before .pre .0)
 
-slice-aggregate-put-in : tie.Need-slice-aggregate-put-in
-slice-aggregate-put-in c = search needs
+slice-aggregate-put-row : tie.Need-slice-aggregate-put-row
+slice-aggregate-put-row c = search needs
 
-put-in-requires : tie.Need-put-in-requires
-put-in-requires c κs =
+put-row-requires : tie.Need-put-row-requires
+put-row-requires c κs =
     let bytes = c .before .before .before .before in
     let x = bytes .before .before .before in
     let row : Presence = with-modes (x .args .usage) (x .args .definition) (new-presence (x .args .d) (x .args .name .now) (x .args .t)) in
     let many = c .before .before .presence-count .ensures .is ∙ sym (presences-long (x .args .base .now)) in
-    ready keeps-presences (x .pre .0) row (x .pre .1 .1 .1 .0) many (bytes .presence-bytes .ensures)
+    (stored-long (x .pre .0), (omega (arith, many, x .pre .1 .1 .1 .0), ap length (bytes .presence-bytes .ensures) ∙ wide-presence row))
 
 same-length : tie.Need-same-length
 same-length c = search needs
@@ -40,7 +43,7 @@ returns c =
     let many = c .before .before .before .before .before .presence-count .ensures .is ∙ sym (presences-long (x .args .base .now)) in
     let named = x .pre .1 .1 .0 in
     row-put keeps-presences (x .pre .0) row (x .pre .1 .1 .1 .0) many (bytes .presence-bytes .ensures)
-    (x .pre .1 .0 .0) named (presence-unlike (x .pre .0 .rows) row named (x .pre .1 .1 .1 .1 .0)) (c .before .before .put-in .ensures)
+    (x .pre .1 .0 .0) named (presence-unlike (x .pre .0 .rows) row named (x .pre .1 .1 .1 .1 .0)) (c .before .before .put-row .ensures)
 
 pub put-with-modes-spec : {M : Type 1} → statement M
 put-with-modes-spec =
@@ -48,7 +51,7 @@ put-with-modes-spec =
     (tie.spec
     presence-bytes-requires
     presence-count-requires
-    slice-aggregate-put-in
-    put-in-requires
+    slice-aggregate-put-row
+    put-row-requires
     same-length
     returns)

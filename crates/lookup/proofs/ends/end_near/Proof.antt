@@ -1,6 +1,6 @@
 -- `lookup::ends::end_near` meets its contract: where the row is, it stands near or at its place. Assumes nothing.
 use borrow.Author.Needs.{needs}
-use Rattle.lookup.proofs.EndLaws.{ends-rises, end-found-at, end-found-none}
+use Rattle.lookup.proofs.EndLaws.{end-found-at, end-found-none}
 use Rattle.lookup.proofs.ends.end_near.Statement.{statement}
 use Rattle.lookup.proofs.ends.end_near.Tie as tie
 
@@ -26,9 +26,7 @@ slice-aggregate-place : tie.Need-slice-aggregate-place
 slice-aggregate-place c = search needs
 
 place-requires : tie.Need-place-requires
-place-requires c κs =
-    let x = c .before .before .before .before in
-    ends-rises (x .args .base .now) (x .args .n) (x .pre .0 .0) (x .pre .0 .1) (x .pre .1 .1)
+place-requires c κs = search needs
 
 is-end-requires-2 : tie.Need-is-end-requires-2
 is-end-requires-2 c κs = search needs

@@ -1,38 +1,46 @@
--- The orders in which rows are kept are strict and total, so a rising list stays one when a new row is put in or some are taken out.
--- Assumes nothing.
+-- The orders in which rows are kept are strict and total, so a rising list stays one when a new row is put in or some are taken out, and
+-- is known by what stands in it. Assumes nothing.
 use Prim.Native.Nat.{ℕ, _<_}
 use native.Mathlib.Omega.{arith}
 use mathlib.Core.Path.{_≡_, refl, sym, ap, subst, _∙_}
 use mathlib.Core.Logic.{⊎-elim}
-use mathlib.Core.List.{List, [], _∷_, List·Memᴰ·not-nil, List·Memᴰ·cases-cons}
+use mathlib.Core.List.{List, [], _∷_, _++_, map, List·Memᴰ·not-nil, List·Memᴰ·cases-cons, List·Memᴰ·append-cases}
 use mathlib.Core.List.List·Memᴰ.{List·Memᴰ·head, List·Memᴰ·tail}
-use mathlib.Core.Bool.{Bool, true, false, not, cond, _&&_, _||_, false≢true}
+use mathlib.Core.Bool.{Bool, true, false, not, cond, _&&_, _||_, true≢false, false≢true, and-false}
 use lib.Dec.{ltb, eqb}
-use borrow.Author.Tests.{ltb-true, ltb-false, lt-ltb, eqb-true, eq-eqb}
-use Rattle.rules.specs.01-Lists.{_∈_, rising, without, put, put-all}
+use borrow.Author.Tests.{ltb-true, ltb-false, lt-ltb, le-ltb, eqb-true, eq-eqb}
+use Rattle.rules.specs.01-Lists.{_∈_, bytes-before, rising, without, put, put-all}
 use Rattle.rules.specs.03-Names.{Name, name-before}
 use Rattle.rules.specs.04-Schema.{Side, side-code}
 use Rattle.rules.specs.06-Good.{presence-before, application-before, end-before}
 use Rattle.rules.specs.04-Schema.Side.{origin, destination}
 use Rattle.rules.proofs.Bools.{or-cases, or-left, or-right, or-neither, and-both, and-of}
-use Rattle.rules.proofs.01-Lists.{Different}
-use Rattle.rules.proofs.03-Names.{name-transitive, name-connected}
+use Rattle.rules.proofs.01-Lists.{Different, before-irreflexive, before-transitive, before-connected}
+use Rattle.rules.proofs.03-Names.{name-irreflexive, name-transitive, name-connected}
 use Rattle.rules.proofs.Edits.{tail-rising, put-rising, put-in, without-in}
 
 pub record Order {A : Type 0} (before : A → A → Bool) : Type 0 where
+  pub strict : (x : A) → before x x ≡ false
   pub connected : (x y : A) → before x y ≡ false → before y x ≡ false → x ≡ y
   pub transitive : (x y z : A) → before x y ≡ true → before y z ≡ true → before x z ≡ true
 
 pub number-order : Order ltb
 number-order = record {
+  strict = λ x. le-ltb x x (omega arith);
   connected = λ x y p q. omega (arith, ltb-false x y p, ltb-false y x q);
   transitive = λ x y z p q. lt-ltb x z (omega (arith, ltb-true x y p, ltb-true y z q));
 }
+
+pub bytes-order : Order bytes-before
+bytes-order = record { strict = before-irreflexive; connected = before-connected; transitive = before-transitive }
 
 -- ---- by a number first, and then by the rest
 
 abbrev by : ℕ → ℕ → Bool → Bool
 by x y rest = ltb x y || (eqb x y && rest)
+
+by-strict : (x : ℕ) {r : Bool} → r ≡ false → by x x r ≡ false
+by-strict x e = rw (le-ltb x x (omega arith), e) (and-false (eqb x x))
 
 by-connected : (x y : ℕ) (r q : Bool) → by x y r ≡ false → by y x q ≡ false → (x ≡ y) × (r ≡ false) × (q ≡ false)
 by-connected x y r q e f =
@@ -64,6 +72,7 @@ by-transitive x y z r q p e f g =
 pub application-order : Order application-before
 unfolding application-before
 application-order = record {
+  strict = λ x. by-strict (x .sds) (by-strict (x .to) (number-order .strict (x .attribute)));
   connected = λ x y p q.
       let (a, p1, q1) = by-connected (x .sds) (y .sds) _ _ p q in
       let (b, p2, q2) = by-connected (x .to) (y .to) _ _ p1 q1 in
@@ -83,6 +92,7 @@ side-is destination destination e = refl
 pub end-order : Order end-before
 unfolding end-before
 end-order = record {
+  strict = λ x. by-strict (x .sds) (by-strict (x .link) (by-strict (side-code (x .side)) (number-order .strict (x .object))));
   connected = λ x y p q.
       let (a, p1, q1) = by-connected (x .sds) (y .sds) _ _ p q in
       let (b, p2, q2) = by-connected (x .link) (y .link) _ _ p1 q1 in
@@ -107,6 +117,9 @@ flip false h = refl
 -- by a name first, and then by the rest
 abbrev named : Name → Name → Bool → Bool
 named n m rest = name-before n m || (not (name-before m n) && rest)
+
+named-strict : (n : Name) {r : Bool} → r ≡ false → named n n r ≡ false
+named-strict n e = rw (name-irreflexive n, e)
 
 named-connected : (n m : Name) (r q : Bool) → named n m r ≡ false → named m n q ≡ false → (n ≡ m) × (r ≡ false) × (q ≡ false)
 named-connected n m r q e f =
@@ -140,6 +153,7 @@ named-transitive n m o r q p e f g = go (name-before n m) refl (name-before m o)
 pub presence-order : Order presence-before
 unfolding presence-before
 presence-order = record {
+  strict = λ x. by-strict (x .sds) (named-strict (x .name) (by-strict (x .type) (by-strict (x .usage) (number-order .strict (x .definition)))));
   connected = λ x y p q.
       let (a, p1, q1) = by-connected (x .sds) (y .sds) _ _ p q in
       let (b, p2, q2) = named-connected (x .name) (y .name) _ _ p1 q1 in
@@ -172,7 +186,7 @@ module _ {A : Type 0} {before : A → A → Bool} (o : Order before) where
       put-all-rises new (put before a rs) (put-rises a rs r (none a (List·Memᴰ·head refl))) (apart .1) (λ y i j.
       ⊎-elim (λ e. apart .0 (subst (λ (x : A). x ∈ new) e i)) (none y (List·Memᴰ·tail i)) (put-in before a rs j))
 
-  rising-all : (x : A) (rs : List A) → rising before (x ∷ rs) ≡ true → (y : A) → y ∈ rs → before x y ≡ true
+  pub rising-all : (x : A) (rs : List A) → rising before (x ∷ rs) ≡ true → (y : A) → y ∈ rs → before x y ≡ true
   unfolding rising
   rising-all x [] r y i = absurd (List·Memᴰ·not-nil i)
   rising-all x (z ∷ rs) r y i =
@@ -192,3 +206,44 @@ module _ {A : Type 0} {before : A → A → Bool} (o : Order before) where
       go : (t : Bool) → rising before (without p rs) ≡ true → rising before (cond t (without p rs) (x ∷ without p rs)) ≡ true
       go true ih = ih
       go false ih = rising-onto x (without p rs) ih (λ y i. rising-all x rs r y (without-in p rs i .0))
+
+  pub rising-different : (rs : List A) → rising before rs ≡ true → Different rs
+  rising-different [] r = tt
+  rising-different (x ∷ rs) r =
+      (λ i. true≢false (sym (rising-all x rs r x i) ∙ o .strict x), rising-different rs (tail-rising before x rs r))
+
+  -- one behind the other, all of the first before all of the second
+  pub rising-joined : (rs qs : List A) → rising before rs ≡ true → rising before qs ≡ true
+      → ((x y : A) → x ∈ rs → y ∈ qs → before x y ≡ true) → rising before (rs ++ qs) ≡ true
+  rising-joined [] qs r q f = q
+  rising-joined (x ∷ rs) qs r q f =
+      rising-onto x (rs ++ qs) (rising-joined rs qs (tail-rising before x rs r) q (λ y z i. f y z (List·Memᴰ·tail i)))
+      (λ y i. ⊎-elim (rising-all x rs r y) (f x y (List·Memᴰ·head refl)) (List·Memᴰ·append-cases rs i))
+
+  -- two in which the same stand are the same
+  pub rising-same : (rs qs : List A) → rising before rs ≡ true → rising before qs ≡ true → ((x : A) → x ∈ rs → x ∈ qs)
+      → ((x : A) → x ∈ qs → x ∈ rs) → rs ≡ qs
+  rising-same [] [] r q f g = refl
+  rising-same [] (y ∷ qs) r q f g = absurd (List·Memᴰ·not-nil (g y (List·Memᴰ·head refl)))
+  rising-same (x ∷ rs) [] r q f g = absurd (List·Memᴰ·not-nil (f x (List·Memᴰ·head refl)))
+  rising-same (x ∷ rs) (y ∷ qs) r q f g =
+      let first : x ≡ y = ⊎-elim (λ e. e) (λ i. ⊎-elim sym (λ j. absurd (never x (o .transitive x y x (rising-all x rs r y j) (rising-all y qs q x i))))
+      (List·Memᴰ·cases-cons (g y (List·Memᴰ·head refl)))) (List·Memᴰ·cases-cons (f x (List·Memᴰ·head refl))) in
+      let rest = rising-same rs qs (tail-rising before x rs r) (tail-rising before y qs q)
+      (λ z i. ⊎-elim (λ e. absurd (never x (rising-all x rs r x (subst (λ (u : A). u ∈ rs) (e ∙ sym first) i)))) (λ j. j) (List·Memᴰ·cases-cons (f z (List·Memᴰ·tail i))))
+      (λ z i. ⊎-elim (λ e. absurd (never y (rising-all y qs q y (subst (λ (u : A). u ∈ qs) (e ∙ first) i)))) (λ j. j) (List·Memᴰ·cases-cons (g z (List·Memᴰ·tail i)))) in
+      λ i. first i ∷ rest i
+    where
+      never : (z : A) → before z z ≡ true → ⊥
+      never z e = true≢false (sym e ∙ o .strict z)
+
+-- each made another, in another order
+pub rising-mapped : {A B : Type 0} (before : A → A → Bool) (before′ : B → B → Bool) (f : A → B) (l : List A)
+    → ((x y : A) → x ∈ l → y ∈ l → before x y ≡ true → before′ (f x) (f y) ≡ true) → rising before l ≡ true → rising before′ (map f l) ≡ true
+unfolding rising
+rising-mapped before before′ f [] h r = refl
+rising-mapped before before′ f (x ∷ []) h r = refl
+rising-mapped before before′ f (x ∷ y ∷ l) h r =
+    let (a, b) = and-both (before x y) (rising before (y ∷ l)) r in
+    and-of (before′ (f x) (f y)) (rising before′ (map f (y ∷ l))) (h x y (List·Memᴰ·head refl) (List·Memᴰ·tail (List·Memᴰ·head refl)) a)
+    (rising-mapped before before′ f (y ∷ l) (λ u v i j. h u v (List·Memᴰ·tail i) (List·Memᴰ·tail j)) b)

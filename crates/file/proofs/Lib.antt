@@ -1,0 +1,3 @@
+pub mod PartsLaws
+pub mod StandsLaws
+pub mod FileLaws

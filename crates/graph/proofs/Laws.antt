@@ -11,8 +11,7 @@ use mathlib.Core.Bool.{Bool, true, false, _||_, false≢true}
 use lib.Dec.{eqb, ltb}
 use lib.ListN.{length, getD, set, drop, length-set, length-drop, drop-of-length-le}
 use lib.Seq.{drop-cons, drop-set-lt, getD-set-same}
-use borrow.Author.Count.{below-more}
-use borrow.Author.Tests.{eqb-true, eq-eqb, ne-eqb, ltb-true, ltb-false}
+use borrow.Author.Tests.{eqb-true, eqb-false, eq-eqb, ne-eqb, ltb-true, ltb-false}
 use Rattle.rules.specs.01-Lists.{_∈_}
 use Rattle.rules.specs.04-Schema.{Schema, is-object, kind-of}
 use Rattle.rules.specs.05-Descent.{Parent, Descends, members}
@@ -39,11 +38,11 @@ abbrev pub Way : Schema → ℕ → List ℕ → Type 0
 Way s t [] = Unit {0}
 Way s t (a ∷ l) = Parent s (reached t l) a × Way s t l
 
--- a walk that has settled p, with every type before t, and is on a way up from t, which stands in w from `at` on: what is settled is
+-- a walk that has settled p, with every type behind t, and is on a way up from t, which stands in w from `at` on: what is settled is
 -- grounded, what is on the way is not settled
 pub record Walk (s : Schema) (p : ℕ → Bool) (t : ℕ) (w : List ℕ) (at : ℕ) : Type 0 where
   pub grounded : (k : ℕ) → p k ≡ true → Grounded s k
-  pub passed : (k : ℕ) → k < t → p k ≡ true
+  pub passed : (k : ℕ) → k < 128 → t < k → p k ≡ true
   pub way : Way s t (drop at w)
   pub out : (x : ℕ) → x ∈ drop at w → p x ≡ false
 
@@ -55,6 +54,9 @@ module _ (t : ℕ) (w : List ℕ) (at : ℕ) where
 
   pub reached-at : at < length w → getD w at 0 ≡ reached t (drop at w)
   reached-at h = rw (drop-cons w at 0 h)
+
+pub reached-set : (t : ℕ) (w : List ℕ) (at a : ℕ) → at < length w → a ≡ reached t (drop at (set w at a))
+reached-set t w at a h = sym (getD-set-same w at a 0 h) ∙ reached-at t (set w at a) at (omega (arith, length-set w at a))
 
 -- ---- on any schema
 
@@ -96,12 +98,12 @@ module _ {s : Schema} where
         ((λ i. h a (up a (List·Memᴰ·tail i))), rest),
       )
 
-  pub walk-none : (p : ℕ → Bool) (w : List ℕ) → length w ≡ 128 → ((k : ℕ) → p k ≡ false) → Walk s p 0 w 128
+  pub walk-none : (p : ℕ → Bool) (w : List ℕ) → length w ≡ 128 → ((k : ℕ) → p k ≡ false) → Walk s p 127 w 128
   walk-none p w long none =
       let empty : drop 128 w ≡ [] = drop-of-length-le w {i = 128} (omega arith) in
       record {
         grounded = λ k e. absurd (false≢true (sym (none k) ∙ e));
-        passed = λ k h. absurd (omega arith);
+        passed = λ k h l. absurd (omega arith);
         way = rw empty tt;
         out = rw empty (λ x i. absurd (List·Memᴰ·not-nil i));
       }
@@ -133,23 +135,32 @@ module _ {s : Schema} where
       settled : r c ≡ true
       settled = made c ∙ or-left (eqb c c) (p c) (eq-eqb c c refl)
 
-      still : (k : ℕ) → r k ≡ true → Grounded s k
+      pub still : (k : ℕ) → r k ≡ true → Grounded s k
       still k e = ⊎-elim (λ i. rw (eqb-true k c i) ends) (walk .grounded k) (or-cases (eqb k c) (p k) (sym (made k) ∙ e))
 
       pub settles : length (members p) ≤ length (members r)
       settles = members-le p r stays
 
-      -- with nothing on the way c is t, and t + 1 is next
-      pub walk-next : length w ≤ at → Walk s r (t + 1) w at
-      walk-next over =
-          let none : drop at w ≡ [] = drop-of-length-le w over in
-          let first : c ≡ t = here ∙ ap (reached t) none in
-          record {
-            grounded = still;
-            passed = below-more (λ k. r k ≡ true) t (λ k h. stays k (walk .passed k h)) (rw first at settled);
-            way = rw none tt;
-            out = rw none (λ x i. absurd (List·Memᴰ·not-nil i));
-          }
+      -- with nothing on the way c is t: from t on all are settled
+      module _ (over : length w ≤ at) where
+        none : drop at w ≡ []
+        none = drop-of-length-le w over
+
+        pub settled-from : (k : ℕ) → k < 128 → t ≤ k → r k ≡ true
+        settled-from k h l = go (eqb k t) refl
+          where
+            go : (b : Bool) → eqb k t ≡ b → r k ≡ true
+            go true e = rw (eqb-true k t e, ← (here ∙ ap (reached t) none)) settled
+            go false e = let other = eqb-false k t e in stays k (walk .passed k h (omega arith))
+
+        -- and the one before is next
+        pub walk-next : 0 < t → Walk s r (t - 1) w at
+        walk-next more = record {
+          grounded = still;
+          passed = λ k h l. settled-from k h (omega arith);
+          way = rw none tt;
+          out = rw none (λ x i. absurd (List·Memᴰ·not-nil i));
+        }
 
       -- else c is the last on the way, and goes off it
       module _ (h : at < length w) where
@@ -176,7 +187,7 @@ module _ {s : Schema} where
         pub walk-down : Walk s r t w (at + 1)
         walk-down = record {
           grounded = still;
-          passed = λ k u. stays k (walk .passed k u);
+          passed = λ k u l. stays k (walk .passed k u l);
           way = trail .1;
           out = λ x i.
               let other : x ≡ c → ⊥ = λ e. loopless ends (rw e at (left t c (drop (at + 1) w) trail x (List·Memᴰ·tail i))) in
@@ -186,12 +197,11 @@ module _ {s : Schema} where
 -- ---- on a base
 
 module _ (b : List ℕ) where
-  -- with every type settled there is no way around
-  pub walk-done : {p : ℕ → Bool} {t : ℕ} {w : List ℕ} {at : ℕ} → Walk (schema-of b) p t w at → 128 ≤ t → Acyclic ((schema-of b) .types)
-  walk-done walk all t d =
+  -- with every type grounded there is no way around
+  pub all-grounded : ((k : ℕ) → k < 128 → Grounded (schema-of b) k) → Acyclic ((schema-of b) .types)
+  all-grounded all t d =
       let around = descends-over parent-of d in
-      let small = object-below b t (child around) in
-      loopless (walk .grounded t (walk .passed t (omega arith))) around
+      loopless (all t (object-below b t (child around))) around
     where
       child : {t a : ℕ} → Descends (schema-of b) t a → is-object (kind-of (schema-of b) t) ≡ true
       child (by-parent by) = child-object by

@@ -41,9 +41,10 @@ fn reached(way: &[u8], at: usize, t: usize) -> usize
     rows::wide(way[at])
 }
 
-// `falls`: every parent is numbered below its child, as in most bases, so no type is its own ancestor. Else, type after type, a way up from
-// it over parents that are not settled. Where it can go no further its last is settled and goes off the way. With `t`, a way of as many
-// types as there are has one of them twice. The bytes of the way are lent: the caller has another use for them, and stack is dear.
+// `falls`: every parent is numbered below its child, as in most bases, so no type is its own ancestor. Else, type after type, from the last
+// down, so that parents numbered above are settled first, a way up from `t` over parents that are not settled; it has come to `c`. Where it
+// can go no further `c` is settled and goes off the way. With `t`, a way of as many types as there are has one of them twice. The bytes of
+// the way are lent: the caller has another use for them, and stack is dear.
 pub fn is_acyclic(base: &[u8], falls: bool, way: &mut [u8]) -> bool
     requires { ⌜ Parental (now base) ⌝ }
     requires { ⌜ (falls ≡ true → Falling (schema-of (now base))) ⌝ }
@@ -55,24 +56,27 @@ pub fn is_acyclic(base: &[u8], falls: bool, way: &mut [u8]) -> bool
     }
     let mut at = Limits::TYPES;
     let mut settled = TypeSet::empty();
-    let mut t: usize = 0;
-    while t < Limits::TYPES {
-        if at == 0 {
-            return false;
-        }
-        let c = reached(way, at, t);
+    let mut t = Limits::TYPES - 1;
+    let mut c = t;
+    while 0 < at {
         let a = unsettled_parent(base, c, settled);
         if a < Limits::TYPES {
             at -= 1;
             way[at] = a as u8;
+            c = a;
             continue;
         }
         settled = settled.add(c);
         if at < Limits::TYPES {
             at += 1;
+            c = reached(way, at, t);
             continue;
         }
-        t += 1;
+        if t == 0 {
+            return true;
+        }
+        t -= 1;
+        c = t;
     }
-    true
+    false
 }

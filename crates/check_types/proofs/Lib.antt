@@ -1,3 +1,4 @@
 pub mod RowLaws
 pub mod OneTypeLaws
+pub mod NumberLaws
 pub mod TypesLaws

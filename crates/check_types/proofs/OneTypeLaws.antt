@@ -1,8 +1,7 @@
 -- What the code reads of one type, and what decides whether it is fine. Assumes nothing.
-use Prim.Native.Nat.{ℕ, _+_, _≤_, _<_}
+use Prim.Native.Nat.{ℕ, _≤_, _<_}
 use native.Mathlib.Omega.{arith}
-use native.Mathlib.Numerals.{add-one}
-use mathlib.Core.Path.{_≡_, refl, sym, ap, _∙_, subst}
+use mathlib.Core.Path.{_≡_, refl, sym, _∙_, subst}
 use mathlib.Core.List.{List}
 use mathlib.Core.Bool.{Bool, true, false, not}
 use lib.Dec.{eqb}
@@ -10,29 +9,14 @@ use mir.Val.{boolByte}
 use lib.ListN.{length, replicate}
 use borrow.Author.Tests.{eqb-true, eqb-false, not-true, not-false}
 use Rattle.rules.specs.07-Picture.{base-length, type-width}
-use Rattle.rows.specs.Rows.{part, Reads}
+use Rattle.rows.specs.Rows.{part}
 use Rattle.rows.specs.Decides.{Decides}
 use Rattle.base.specs.Rows.{type-at}
-use Rattle.lookup.proofs.KindBytes.{kind-byte, count-byte, parent-byte}
-use Rattle.check_held.specs.Held.{Within}
-use Rattle.check_types.specs.OneType.{sdss-of, least, Parents-below, Told, Plain-row, Object-fine, Link-fine, Type-fine, Root-fine}
+use Rattle.lookup.proofs.KindBytes.{kind-byte, count-byte}
+use Rattle.check_types.specs.OneType.{sdss-of, Parents-below, Told, Plain-row, Object-fine, Link-fine, Type-fine, Root-fine}
 use Rattle.check_types.proofs.RowLaws.{zero-kind, zero-count}
 
--- ---- what was read
-
--- one place more
-pub least-next : (b : List ℕ) (t i : ℕ) → least b t (i + 1) ≡ parent-byte b t i + 1
-unfolding least
-least-next b t i = rw (add-one i)
-
--- the kind that was read of a parent that was read
-pub kind-at : {b : List ℕ} {p q r : ℕ} → Reads b (type-at p) r → p ≡ q → r ≡ kind-byte b q
-kind-at {b} k e = k .is ∙ ap (kind-byte b) e
-
--- and the word
-pub within-at : {p q w : ℕ} {r : Bool} (held : List ℕ) (sdss : ℕ) → w ≡ sdss-of held p → p ≡ q → Decides (Within sdss w) r
-    → Decides (Within sdss (sdss-of held q)) r
-within-at {r = r} held sdss e f = subst (λ (v : ℕ). Decides (Within sdss v) r) (e ∙ ap (sdss-of held) f)
+-- ---- what is decided
 
 -- a test that two numbers are the same, and one that they differ
 pub decides-same : (a n : ℕ) → Decides (a ≡ n) (eqb a n)
@@ -43,19 +27,22 @@ decides-other a n = record { holds = λ e. eqb-false a n (not-true _ e); fails =
 
 -- ---- what a number tells
 
-pub told-no : {P : Type 0} {b : List ℕ} {t n : ℕ} → (P → ⊥) → Told P b t n 0
-told-no f = record { fine = λ o. absurd (o refl); not = λ _. f; past = λ p. absurd (f p) }
+pub told-no : {P : Type 0} {b : List ℕ} {t : ℕ} → (P → ⊥) → Told P b t 0
+told-no f = record { fine = λ o. absurd (o refl); not = λ _. f; falling = λ e. absurd (omega arith) }
 
-pub told-yes : {P : Type 0} {b : List ℕ} {t n r : ℕ} → P → 0 < r → Parents-below b t n r → Told P b t n r
-told-yes p some below = record { fine = λ _. p; not = λ z. absurd (omega arith); past = λ _. below }
+pub told-falls : {P : Type 0} {b : List ℕ} {t : ℕ} → P → Parents-below b t (count-byte b t) t → Told P b t 1
+told-falls p below = record { fine = λ _. p; not = λ z. absurd (omega arith); falling = λ _. below }
 
--- P and Q hold together, with as many parents
-pub told-iff : {P Q : Type 0} {b : List ℕ} {t n m r : ℕ} → (P → Q) → (Q → P) → m ≡ n → Told P b t n r → Told Q b t m r
-told-iff f g e x = record { fine = λ o. f (x .fine o); not = λ z q. x .not z (g q); past = λ q i u. x .past (g q) i (omega arith) }
+pub told-rises : {P : Type 0} {b : List ℕ} {t : ℕ} → P → Told P b t 2
+told-rises p = record { fine = λ _. p; not = λ z. absurd (omega arith); falling = λ e. absurd (omega arith) }
+
+-- P and Q hold together
+told-iff : {P Q : Type 0} {b : List ℕ} {t r : ℕ} → (P → Q) → (Q → P) → Told P b t r → Told Q b t r
+told-iff f g x = record { fine = λ o. f (x .fine o); not = λ z q. x .not z (g q); falling = x .falling }
 
 -- a test that decides P, of a type with no parents
-pub told-test : {P Q : Type 0} {b : List ℕ} {t n : ℕ} {r : Bool} → (P → Q) → (Q → P) → (P → n ≡ 0) → Decides P r → Told Q b t n (boolByte r)
-told-test {r = true} f g none d = told-yes (f (d .holds refl)) (omega arith) (λ i u. absurd (omega (arith, none (d .holds refl))))
+told-test : {P Q : Type 0} {b : List ℕ} {t : ℕ} {r : Bool} → (P → Q) → (Q → P) → (P → count-byte b t ≡ 0) → Decides P r → Told Q b t (boolByte r)
+told-test {r = true} f g none d = told-falls (f (d .holds refl)) (λ i u. absurd (omega (arith, none (d .holds refl))))
 told-test {r = false} f g none d = told-no (λ q. d .fails refl (g q))
 
 -- ---- a type
@@ -73,6 +60,8 @@ root-type x = record {
       parents = record { count = omega (arith, x .row .parents .count); places = x .row .parents .places };
     };
     only-root = λ n. refl;
+    rising = λ i u. absurd (omega (arith, x .row .parents .count));
+    small = λ i u. absurd (omega (arith, x .row .parents .count));
     each = λ i u. absurd (omega (arith, x .row .parents .count));
   };
   attribute = λ k. absurd (omega (arith, x .object));
@@ -81,7 +70,7 @@ root-type x = record {
 
 -- a type that no SDS holds is as fine as its row is zero
 pub unheld-type : {b held : List ℕ} {t : ℕ} {r : Bool} → length b ≡ base-length → t < 128 → sdss-of held t ≡ 0
-    → Decides (part b (type-at t) type-width ≡ replicate type-width 0) r → Told (Type-fine b held t) b t (count-byte b t) (boolByte r)
+    → Decides (part b (type-at t) type-width ≡ replicate type-width 0) r → Told (Type-fine b held t) b t (boolByte r)
 unheld-type {b} {held} {t} long h e =
     told-test
     (λ z.
@@ -109,22 +98,21 @@ module _ {b held : List ℕ} {t sdss : ℕ} (e : sdss ≡ sdss-of held t) (some 
     link = λ k. subst (Link-fine b held t) e (l k);
   }
 
-  pub object-type : {r : ℕ} → kind-byte b t ≡ 1 → Told (Object-fine b held t sdss) b t (count-byte b t) r
-      → Told (Type-fine b held t) b t (count-byte b t) r
+  pub object-type : {r : ℕ} → kind-byte b t ≡ 1 → Told (Object-fine b held t sdss) b t r
+      → Told (Type-fine b held t) b t r
   object-type k =
       told-iff
       (λ f. held-type (omega arith) (λ q. omega arith) (λ _. f) (λ q. absurd (omega arith)) (λ q. absurd (omega arith)))
       (λ x. subst (Object-fine b held t) (sym e) (x .object k))
-      refl
 
-  pub attribute-type : {r : Bool} → kind-byte b t ≡ 2 → Decides (Plain-row b t 5 0) r → Told (Type-fine b held t) b t (count-byte b t) (boolByte r)
+  pub attribute-type : {r : Bool} → kind-byte b t ≡ 2 → Decides (Plain-row b t 5 0) r → Told (Type-fine b held t) b t (boolByte r)
   attribute-type k =
       told-test
       (λ f. held-type (omega arith) (λ q. omega arith) (λ q. absurd (omega arith)) (λ _. f) (λ q. absurd (omega arith)))
       (λ x. x .attribute k)
       (λ f. omega (arith, f .parents .count))
 
-  pub link-type : {r : Bool} → kind-byte b t ≡ 3 → Decides (Link-fine b held t sdss) r → Told (Type-fine b held t) b t (count-byte b t) (boolByte r)
+  pub link-type : {r : Bool} → kind-byte b t ≡ 3 → Decides (Link-fine b held t sdss) r → Told (Type-fine b held t) b t (boolByte r)
   link-type k =
       told-test
       (λ f. held-type (omega arith) (λ q. omega arith) (λ q. absurd (omega arith)) (λ q. absurd (omega arith)) (λ _. f))

@@ -78,11 +78,18 @@ module _ (b : List ℕ) (t : ℕ) (long : length b ≡ base-length) (h : t < 128
       = λ f. sym (ap (λ (x : List ℕ). getD x f 0) e′) in
       (byte 0, byte 1, byte 2, record { count = omega (arith, byte 3); places = rw (byte 3) (from-places [] (ap (drop 4) e′)) })
 
+  pub zero-row : kind-byte b t ≡ 0 → value-byte b t ≡ 0 → reverse-byte b t ≡ 0 → Few-parents b t 0
+      → part b (type-at t) type-width ≡ replicate type-width 0
+  zero-row k v r n = sym (bare-row 0 0 0 k v r n)
+
   pub zero-kind : part b (type-at t) type-width ≡ replicate type-width 0 → kind-byte b t ≡ 0
   zero-kind z = ap (λ (r : List ℕ). getD r 0 0) (sym (row-bytes b t long h) ∙ z)
 
   pub zero-count : part b (type-at t) type-width ≡ replicate type-width 0 → count-byte b t ≡ 0
   zero-count z = ap (λ (r : List ℕ). getD r 3 0) (sym (row-bytes b t long h) ∙ z)
+
+  pub zero-reverse : part b (type-at t) type-width ≡ replicate type-width 0 → reverse-byte b t ≡ 0
+  zero-reverse z = ap (λ (r : List ℕ). getD r 2 0) (sym (row-bytes b t long h) ∙ z)
 
   shown-unused : kind-byte b t ≡ 0 → kind-shown b t ≡ unused
   shown-unused e = shows-unused b t (λ o. omega arith) (λ o. omega arith) (λ o. omega arith)

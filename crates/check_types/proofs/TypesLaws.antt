@@ -14,12 +14,12 @@ use Rattle.rules.specs.04-Schema.{Kind, kind-of, kind-code, is-used, is-object,
 use Rattle.rules.specs.04-Schema.Kind.{unused, object, attribute, designation, paired}
 use Rattle.rules.specs.05-Descent.{Parent}
 use Rattle.rules.specs.07-Picture.{base-length}
-use Rattle.rules.specs.Parts.{of-presences, Kinds, Parents, Reverses, Closed-under}
-use Rattle.rules.proofs.Bools.{and-both, and-of}
+use Rattle.rules.specs.Parts.{of-types, of-presences, Kinds, Parents, Reverses, Closed-under}
+use Rattle.rules.proofs.Bools.{and-both, and-of, same-test}
 use Rattle.rules.proofs.01-Lists.{at-place, place-in}
 use Rattle.rules.proofs.Parts.{presence-there, present-each, parent-in, parent-of}
 use Rattle.type_set.specs.Set.{bit}
-use Rattle.type_set.proofs.Bit.{bit-zero}
+use Rattle.type_set.proofs.Bit.{bit-zero, word-same}
 use Rattle.base.specs.Tables.{Written, types}
 use Rattle.base.specs.Back.{schema-of}
 use Rattle.base.proofs.Shown.{types-long, kind-is, kind-none, shows-attribute, shows-paired}
@@ -30,9 +30,10 @@ use Rattle.check_held.specs.Held.{Holds, Within}
 use Rattle.check_held.specs.Fine.{Types-fine}
 use Rattle.check_held.proofs.HeldLaws.{present-shown, shows-any}
 use Rattle.check_held.proofs.WordLaws.{some-bit}
-use Rattle.check_types.specs.OneType.{sdss-of, least, Parents-below, Object-fine, Mutual, Link-fine, Type-fine, Root-fine}
+use Rattle.check_types.specs.OneType.{sdss-of, Parents-below, Object-fine, Mutual, Link-fine, Type-fine, Root-fine}
 use Rattle.check_types.specs.OneType.{Types-told}
-use Rattle.check_types.proofs.RowLaws.{listed-long, zero-kind, fine-row, row-unused, row-object, row-attribute, row-designation, row-paired}
+use Rattle.check_types.proofs.RowLaws.{listed-long, zero-kind, zero-reverse, fine-row}
+use Rattle.check_types.proofs.RowLaws.{row-unused, row-object, row-attribute, row-designation, row-paired}
 
 -- ---- numbers that rise one by one
 
@@ -172,18 +173,17 @@ module _ {b held : List ℕ} (holds : Holds b held) where
     }
 
     all-parents : Parents ((schema-of b) .types)
-    unfolding least
     all-parents = record {
       rises = λ t ps q.
           let (h, k, p) = object-bytes b t ps q in
           rw p (rising-next (listed-parents b t) (λ i u.
           let u′ : suc i < count-byte b t = omega (arith, count-listed b long rows t h k) in
-          let r = (f t h .object k .each (suc i) u′) .rising in
+          let r = f t h .object k .rising i u′ in
           omega (arith, listed-byte b long rows t h k i (omega arith), listed-byte b long rows t h k (suc i) u′)));
       objects = λ t a p.
           let (h, k, (i, u, g)) = parent-place b long rows t a (parent-of t a p) in
-          let fine = f t h .object k .each i u in
-          rw (← g) (ap is-object (object-is b (parent-byte b t i) (fine .small) (fine .object)));
+          let fine = f t h .object k in
+          rw (← g) (ap is-object (object-is b (parent-byte b t i) (fine .small i u) (fine .each i u .object)));
       root =
           let n : count-byte b 0 ≡ 0 = omega (arith, root .row .parents .count) in
           object-is b 0 (omega arith) (root .object) ∙ ap (λ (m : ℕ). object (take m (parent-places b 0))) n;
@@ -191,6 +191,31 @@ module _ {b held : List ℕ} (holds : Holds b held) where
           let (h, k, p) = object-bytes b t [] q in
           f t h .object k .only-root (sym (count-listed b long rows t h k) ∙ sym (ap length p));
     }
+
+    -- only a link type that is no designation has a reverse
+    only-links : (r : ℕ) → r < 128 → (reverse-byte b r ≡ 0 → ⊥) → (kind-byte b r ≡ 3) × (value-byte b r ≡ 4 → ⊥)
+    only-links r h n =
+        let k = go (kind-byte b r) refl (f r h .known) in
+        (k, λ v. n (f r h .link k .designation v))
+      where
+        unheld : kind-byte b r ≡ 0 → (w : Bool) → eqb (sdss-of held r) 0 ≡ w → ⊥
+        unheld e true w = n (zero-reverse b r long h (f r h .unheld (eqb-true (sdss-of held r) 0 w)))
+        unheld e false w = f r h .used (eqb-false (sdss-of held r) 0 w) e
+
+        go : (k : ℕ) → kind-byte b r ≡ k → k ≤ 3 → kind-byte b r ≡ 3
+        go zero e l = absurd (unheld e (eqb (sdss-of held r) 0) refl)
+        go (suc zero) e l = absurd (n (f r h .object e .row .reverse))
+        go (suc (suc zero)) e l = absurd (n (f r h .attribute e .reverse))
+        go (suc (suc (suc zero))) e l = e
+        go (suc (suc (suc (suc k)))) e l = absurd (omega arith)
+
+    answers : (t : ℕ) → kind-byte b t ≡ 3 → Mutual b held t (sdss-of held t)
+        → (kind-byte b (reverse-byte b t) ≡ 3) × (value-byte b (reverse-byte b t) ≡ 4 → ⊥)
+    answers t k m =
+        only-links (reverse-byte b t) (m .small)
+        (λ z.
+        let first : t ≡ 0 = sym (m .in-turn) ∙ z in
+        omega (arith, root .object, sym (ap (kind-byte b) first) ∙ k))
 
     all-reverses : Reverses ((schema-of b) .types)
     all-reverses = record {
@@ -200,12 +225,13 @@ module _ {b held : List ℕ} (holds : Holds b held) where
       in-turn = λ t c r e.
           let (h, k, v, _, n) = paired-bytes b t c r e in
           let m = f t h .link k .paired v in
-          let back = paired-is b (reverse-byte b t) t (m .small) (m .answers .link) (m .answers .paired) (m .answers .in-turn) in
+          let (link, other) = answers t k m in
+          let back = paired-is b (reverse-byte b t) t (m .small) link other (m .in-turn) in
           (value-byte b (reverse-byte b t), subst (λ (x : ℕ). kind-of (schema-of b) x ≡ paired (value-byte b (reverse-byte b t)) t) n back);
       not-both = λ t r e g.
           let (h, k, v, c, n) = paired-bytes b t 3 r e in
           let (_, _, _, d, _) = paired-bytes b r 3 t g in
-          (f t h .link k .paired v) .answers .not-both-implicit (ap (value-byte b) n ∙ d) c;
+          (f t h .link k .paired v) .not-both-implicit c (ap (value-byte b) n ∙ d);
     }
 
     -- an SDS that holds t holds what t names
@@ -219,7 +245,7 @@ module _ {b held : List ℕ} (holds : Holds b held) where
           ap (in-presences d) (sym g) ∙ holds-with d t (parent-byte b t i) e (f t h .object k .each i u .with-child);
       reverse = λ c r q.
           let (h, k, v, _, n) = paired-bytes b t c r q in
-          ap (in-presences d) (sym n) ∙ holds-with d t (reverse-byte b t) e (f t h .link k .paired v .with-other);
+          ap (in-presences d) (sym n) ∙ holds-with d t (reverse-byte b t) e (λ x l q. ap (λ (w : ℕ). bit w x) (f t h .link k .paired v .same) ∙ q);
     }
 
     pub types-all : Types-fine b
@@ -257,29 +283,38 @@ module _ {b held : List ℕ} (holds : Holds b held) where
         present-each ((schema-of b) .presences) (λ d t. Closed-under ((schema-of b) .types) (in-presences d) t) (x .closed) d t (sym (shown d t l) ∙ q)
 
     each-object : (t : ℕ) → t < 128 → kind-byte b t ≡ 1 → Object-fine b held t (sdss-of held t)
-    unfolding least
     each-object t h k = record {
       row = row-object b t long h (x .type-rows t h) k;
       only-root = λ n. x .parents .only-root t (object-is b t h k ∙ ap (λ (m : ℕ). object (take m (parent-places b t))) n);
+      rising = λ i u.
+          let r = next-rising (listed-parents b t) (x .parents .rises t (listed-parents b t) (object-is b t h k)) i
+          (omega (arith, count-listed b long (x .type-rows) t h k)) in
+          omega (arith, listed-byte b long (x .type-rows) t h k i (omega arith), listed-byte b long (x .type-rows) t h k (suc i) u);
+      small = λ i u. let (small, _, _) = parent i u in small;
       each = λ i u.
           let a = parent-byte b t i in
-          let by = parent-in t a (place-parent b long (x .type-rows) t h k i u) in
-          let (ps, e) = object-in (kind-of (schema-of b) a) (x .parents .objects t a by) in
-          let (small, kind, _) = object-bytes b a ps e in
-          record {
-            rising = past i u;
-            small = small;
-            object = kind;
-            with-child = λ d l q. shown d a l ∙ closed-at d t l q .parents a by;
-          };
+          let (_, kind, by) = parent i u in
+          record { object = kind; with-child = λ d l q. shown d a l ∙ closed-at d t l q .parents a by };
     }
       where
-        past : (i : ℕ) → i < count-byte b t → least b t i ≤ parent-byte b t i
-        past zero u = omega arith
-        past (suc i) u =
-            let r = next-rising (listed-parents b t) (x .parents .rises t (listed-parents b t) (object-is b t h k)) i
-            (omega (arith, count-listed b long (x .type-rows) t h k)) in
-            omega (arith, listed-byte b long (x .type-rows) t h k i (omega arith), listed-byte b long (x .type-rows) t h k (suc i) u)
+        parent : (i : ℕ) → i < count-byte b t
+            → (parent-byte b t i < 128) × (kind-byte b (parent-byte b t i) ≡ 1) × Parent (of-types ((schema-of b) .types)) t (parent-byte b t i)
+        parent i u =
+            let a = parent-byte b t i in
+            let by = parent-in t a (place-parent b long (x .type-rows) t h k i u) in
+            let (ps, e) = object-in (kind-of (schema-of b) a) (x .parents .objects t a by) in
+            let (small, kind, _) = object-bytes b a ps e in
+            (small, kind, by)
+
+    -- a pair is in the same SDSs
+    same-sdss : (t r c c′ : ℕ) → t < 128 → r < 128 → kind-of (schema-of b) t ≡ paired c r → kind-of (schema-of b) r ≡ paired c′ t
+        → sdss-of held r ≡ sdss-of held t
+    same-sdss t r c c′ h u e g =
+        word-same 16 (sdss-of held r) (sdss-of held t) (holds .words r u) (holds .words t h)
+        (λ d l.
+        same-test (bit (sdss-of held r) d) (bit (sdss-of held t) d)
+        (λ q. shown d t l ∙ closed-at d r l q .reverse c′ t g)
+        (λ q. shown d r l ∙ closed-at d t l q .reverse c r e))
 
     each-pair : (t : ℕ) → t < 128 → kind-byte b t ≡ 3 → (value-byte b t ≡ 4 → ⊥) → Mutual b held t (sdss-of held t)
     each-pair t h k v =
@@ -290,14 +325,10 @@ module _ {b held : List ℕ} (holds : Holds b held) where
         record {
           different = x .reverses .different t (value-byte b t) r e;
           small = small;
-          with-other = λ d l q. shown d r l ∙ closed-at d t l q .reverse (value-byte b t) r e;
-          answers = record {
-            link = link;
-            in-turn = back;
-            paired = other;
-            not-both-implicit = λ d c.
-                x .reverses .not-both t r (e ∙ ap (λ (n : ℕ). paired n r) c) (paired-is b r t small link other back ∙ ap (λ (n : ℕ). paired n t) d);
-          };
+          same = same-sdss t r (value-byte b t) c′ h small e g;
+          in-turn = back;
+          not-both-implicit = λ c d.
+              x .reverses .not-both t r (e ∙ ap (λ (n : ℕ). paired n r) c) (paired-is b r t small link other back ∙ ap (λ (n : ℕ). paired n t) d);
         }
 
     each-link : (t : ℕ) → t < 128 → kind-byte b t ≡ 3 → Link-fine b held t (sdss-of held t)

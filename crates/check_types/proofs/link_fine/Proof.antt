@@ -1,112 +1,88 @@
--- `check_types::link_fine` meets its contract: each refusal contradicts one field of the type or of its reverse; of a designation the
--- reverse decides, of any other link type what its reverse answers. Assumes nothing.
-use native.Mathlib.Omega.{arith}
+-- `check_types::link_fine` meets its contract: past the categories of pairs the number is a designation's or refused; else each refusal
+-- contradicts one field of the pair. Assumes nothing.
 use borrow.Author.Needs.{needs}
-use mathlib.Core.Path.{sym, subst₂}
-use borrow.Author.Tests.{not-true, not-false}
-use Rattle.rows.specs.Decides.{Decides}
-use Rattle.rows.proofs.Decides.{decides-no, decides-iff}
-use Rattle.lookup.proofs.KindBytes.{reverse-byte}
-use Rattle.check_held.specs.Held.{Within}
-use Rattle.check_types.specs.OneType.{sdss-of, Few-parents, Answers}
-use Rattle.check_types.proofs.OneTypeLaws.{within-at, decides-same}
+use native.Mathlib.Omega.{arith}
+use mathlib.Core.Path.{_∙_, sym, ap}
+use Rattle.rows.proofs.Decides.{decides-no, decides-yes, decides-iff}
+use Rattle.lookup.proofs.KindBytes.{value-byte, reverse-byte}
+use Rattle.check_types.specs.OneType.{sdss-of}
+use Rattle.check_types.proofs.OneTypeLaws.{decides-other}
+use Rattle.check_types.proofs.NumberLaws.{designation-fine, pair, reverse-is, implicit, pair-fine}
 use Rattle.check_types.proofs.link_fine.Statement.{statement}
 use Rattle.check_types.proofs.link_fine.Tie as tie
 
-abbrev to-reverse : tie.After-is-within → tie.After-reverse
-to-reverse c = c .before .before .before .before .before .before
-
-abbrev to-few-parents : tie.After-reverse → tie.After-few-parents
-to-few-parents c = c .before .before .before
-
-abbrev to-start : tie.After-is-within → tie.Start
-to-start c = to-few-parents (to-reverse c) .before .before .before
-
-parents : (c : tie.After-reverse) → let x = to-few-parents c .before .before .before .args in Few-parents (x .base .now) (x .t) 0
-parents c = to-few-parents c .few-parents .ensures .holds (not-false _ (c .before .before .if1 .left))
-
--- the second word is that of the reverse
-within : (c : tie.After-is-within) → let x = to-start c .args in
-    Decides (Within (x .sdss) (sdss-of (x .held .now) (reverse-byte (x .base .now) (x .t)))) (c .is-within .result)
-within c =
-    let x = to-start c .args in
-    within-at (x .held .now) (x .sdss) (c .before .sdss-of .ensures) (to-reverse c .reverse .ensures .is) (c .is-within .ensures)
-
-few-parents-requires : tie.Need-few-parents-requires
-few-parents-requires c κs = search needs
-
 returns : tie.Need-returns
-returns c = decides-no (λ x. c .before .few-parents .ensures .fails (not-true _ (c .if1 .taken)) (x .parents))
+returns c = let start = c .before .before .before in designation-fine (start .pre .1) (start .args .held .now) (start .args .sdss) (omega arith)
 
-value-requires : tie.Need-value-requires
-value-requires c κs = search needs
+returns-2 : tie.Need-returns-2
+returns-2 c =
+    let l = c .before .before .before .before .pre .1 in
+    decides-no (λ x. omega (arith, reverse-is l x (omega arith), pair l x (omega arith) .small))
+
+returns-3 : tie.Need-returns-3
+returns-3 c =
+    let l = c .before .before .before .before .before .pre .1 in
+    decides-no (λ x. pair l x (omega arith) .different (omega (arith, reverse-is l x (omega arith))))
+
+mul-if4 : tie.Need-mul-if4
+mul-if4 c = search needs
+
+shared-slice-read-if4 : tie.Need-shared-slice-read-if4
+shared-slice-read-if4 c = search needs
+
+returns-4 : tie.Need-returns-4
+returns-4 c =
+    let start = c .before .before .before .before .before .before .before in
+    let l = start .pre .1 in
+    decides-no (λ x. c .if4 .taken (ap (sdss-of (start .args .held .now)) (reverse-is l x (omega arith)) ∙ pair l x (omega arith) .same))
 
 reverse-requires : tie.Need-reverse-requires
 reverse-requires c κs = search needs
 
-returns-2 : tie.Need-returns-2
-returns-2 c =
-    decides-iff
-    (λ none. record { parents = parents (c .before); category = omega arith; designation = λ v. omega arith; paired = λ o. absurd (o (omega arith)) })
-    (λ x. omega (arith, x .designation (omega arith)))
-    (decides-same (c .before .reverse .result) 0)
-
-returns-3 : tie.Need-returns-3
-returns-3 c = decides-no (λ x. omega (arith, x .category))
-
-returns-4 : tie.Need-returns-4
-returns-4 c = decides-no (λ x. (x .paired (omega arith)) .different (omega arith))
-
 returns-5 : tie.Need-returns-5
-returns-5 c = decides-no (λ x. omega (arith, (x .paired (omega arith)) .small))
-
-sdss-of-requires : tie.Need-sdss-of-requires
-sdss-of-requires c κs = search needs
-
-is-within-requires : tie.Need-is-within-requires
-is-within-requires c κs = search needs
+returns-5 c =
+    let start = c .before .before .before .before .before .before .before .before .before in
+    let l = start .pre .1 in
+    let is = c .before .reverse .ensures .is in
+    decides-no (λ x.
+    c .if5 .taken (is ∙ ap (reverse-byte (start .args .base .now)) (reverse-is l x (omega arith)) ∙ pair l x (omega arith) .in-turn))
 
 returns-6 : tie.Need-returns-6
-returns-6 c = decides-no (λ f. within (c .before) .fails (not-true _ (c .if6 .taken)) ((f .paired (omega arith)) .with-other))
+returns-6 c =
+    let at = c .before .before .before in
+    let l = at .before .before .before .before .before .before .before .pre .1 in
+    let turn = sym (c .before .before .reverse .ensures .is) ∙ c .before .if5 .left in
+    decides-yes (pair-fine l (omega arith) (omega arith) (at .before .before .if3 .left) (at .if4 .left) turn (λ e. absurd (c .if6 .taken e)))
 
-answers-requires : tie.Need-answers-requires
-answers-requires c κs = search needs
+value-requires : tie.Need-value-requires
+value-requires c κs = search needs
 
 returns-7 : tie.Need-returns-7
 returns-7 c =
-    let at = to-reverse (c .before .before) in
-    let x = to-start (c .before .before) .args in
-    let category = at .before .value .ensures .is in
-    let reverse = at .reverse .ensures .is in
+    let at = c .before .before .before .before in
+    let start = at .before .before .before .before .before .before .before in
+    let l = start .pre .1 in
+    let is = c .value .ensures .is in
+    let turn = sym (c .before .before .before .reverse .ensures .is) ∙ c .before .before .if5 .left in
     decides-iff
-    (λ a. record {
-      parents = parents at;
-      category = omega arith;
-      designation = λ v. absurd (omega arith);
-      paired = λ _. record {
-        different = omega arith;
-        small = omega arith;
-        with-other = within (c .before .before) .holds (not-false _ (c .before .if6 .left));
-        answers = subst₂ (Answers (x .base .now) (x .t)) category reverse a;
-      };
-    })
-    (λ f. subst₂ (Answers (x .base .now) (x .t)) (sym category) (sym reverse) ((f .paired (omega arith)) .answers))
-    (c .answers .ensures)
+    (λ n. pair-fine l (omega arith) (omega arith) (at .before .before .if3 .left) (at .if4 .left) turn (λ e v. n (is ∙ v)))
+    (λ x v.
+    pair l x (omega arith) .not-both-implicit (implicit l (c .before .if6 .left))
+    (sym (ap (value-byte (start .args .base .now)) (reverse-is l x (omega arith))) ∙ sym is ∙ v))
+    (decides-other (c .value .result) 3)
 
 pub link-fine-spec : {M : Type 1} → statement M
 link-fine-spec =
     tie.close
     (tie.spec
-    few-parents-requires
     returns
-    value-requires
-    reverse-requires
     returns-2
     returns-3
+    mul-if4
+    shared-slice-read-if4
     returns-4
+    reverse-requires
     returns-5
-    sdss-of-requires
-    is-within-requires
     returns-6
-    answers-requires
+    value-requires
     returns-7)

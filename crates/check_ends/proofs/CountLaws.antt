@@ -1,7 +1,6 @@
 -- Counts of the numbers that pass a test: one to one into those that pass another there are no more, and fewer where one is left over.
 -- Assumes nothing.
 use Prim.Native.Nat.{ℕ, zero, suc, _+_, _≤_, _<_}
-use native.Mathlib.Nat.{add-zero, add-suc}
 use native.Mathlib.Omega.{arith}
 use mathlib.Core.Path.{_≡_, refl, sym, ap, _∙_, subst}
 use mathlib.Core.Bool.{Bool, true, false, cond, not, _&&_, and-true, and-false}
@@ -9,27 +8,7 @@ use lib.Dec.{eqb, ltb}
 use borrow.Author.Tests.{ltb-true, ltb-false, eq-eqb, ne-eqb}
 use Rattle.check_ends.specs.Count.{count}
 
--- ---- numbers that stand together
-
-once-more : (t : Bool) (k : ℕ) → cond t (suc k) 0 ≡ cond t k 0 + cond t 1 0
-once-more true k = omega arith
-once-more false k = refl
-
-not-once : (t : Bool) → cond {A = ℕ} t 0 0 ≡ 0
-not-once true = refl
-not-once false = refl
-
--- the k numbers from i on pass if i does
-pub count-stretch : (p : ℕ → Bool) (i k : ℕ) → ((j : ℕ) → j < i + k → i ≤ j → p j ≡ p i) → count p (i + k) ≡ count p i + cond (p i) k 0
-unfolding count
-count-stretch p i zero f = rw (add-zero i) (omega (arith, not-once (p i)))
-count-stretch p i (suc k) f =
-    let before = count-stretch p i k (λ j h. f j (omega arith)) in
-    rw (add-suc i k, f (i + k) (omega arith) (omega arith)) (omega (arith, once-more (p i) k))
-
-pub count-none : (p : ℕ → Bool) → 0 ≡ count p 0
-unfolding count
-count-none p = refl
+-- ---- at most all
 
 pub count-most : (p : ℕ → Bool) (n : ℕ) → count p n ≤ n
 unfolding count

@@ -25,14 +25,15 @@ use Rattle.lookup.proofs.EndRows.{side-written, written-side, has-row, row-has}
 use Rattle.check_held.specs.Fine.{Shown, Ends-fine}
 use Rattle.check_held.proofs.HeldLaws.{shown-lacks}
 use Rattle.check_ends.specs.Count.{count}
-use Rattle.check_ends.specs.Ends.{sds-byte, link-byte, side-byte, object-byte, lower, higher, Fits, Row-fine}
+use Rattle.check_ends.specs.Ends.{sds-byte, link-byte, side-byte, object-byte, row-number, lower, higher, Fits, Row-fine}
 use Rattle.check_ends.proofs.RowLaws.{numbered, numbers-rise, rise-numbers}
 use Rattle.check_ends.proofs.MirrorLaws.{Rows, Mirrored, pair-same, row-mirrored, mirrored-row, as-many, none-left, either-rank, pair-of}
 
 -- what the pass finds of n rows
 pub record Found (b : List ℕ) (n : ℕ) : Type 0 where
   pub rest : Blank-from ends n b
-  pub rows : (i : ℕ) → i < n → Row-fine b n i
+  pub rise : (i : ℕ) → i + 1 < n → row-number b i < row-number b (i + 1)
+  pub rows : (i : ℕ) → i < n → Row-fine b i
   pub many : count (lower b) n ≡ count (higher b) n
 
 other-code : (x : ℕ) → x ≤ 1 → side-code (other-side (read-side x)) ≡ 1 - x
@@ -87,7 +88,7 @@ module _ {b : List ℕ} {n : ℕ} (es : Ends b n) {i c r : ℕ} (h : i < n) (k :
 
 module _ {b held : List ℕ} (shown : Shown b held) (bytes : (k : ℕ) → getD b k 0 < 256) (n : ℕ) (few : n ≤ limits .ends) where
   -- an end is never in SDS 0
-  elsewhere : (i : ℕ) → Fits b i → sds-byte b i ≡ 0 → ⊥
+  pub elsewhere : (i : ℕ) → Fits b i → sds-byte b i ≡ 0 → ⊥
   elsewhere i f = shown-lacks shown is-link refl (sds-byte b i) (link-byte b i) (f .link) (ended-held f .0)
 
   rows-are : Ends b n → ((i : ℕ) → i < n → Fits b i) → Rows b n
@@ -107,7 +108,7 @@ module _ {b held : List ℕ} (shown : Shown b held) (bytes : (k : ℕ) → getD 
       long = shown .long;
       counted = confirmed ends b n few
           (λ i h. first-used b (end-at i) 4 (omega arith) (elsewhere i (f .rows i h .fits))) (f .rest);
-      rise = numbers-rise b (shown .long) bytes n few (λ i h. f .rows i (omega arith) .next h);
+      rise = numbers-rise b (shown .long) bytes n few (f .rise);
       sides = λ i h. f .rows i h .side;
     }
 
@@ -177,8 +178,8 @@ module _ {b held : List ℕ} (shown : Shown b held) (bytes : (k : ℕ) → getD 
     pub fine-found : Found b n
     fine-found = record {
       rest = rw (fine-counted .is) (f .end-rest);
+      rise = λ i h. fine-rows .rise i (i + 1) (omega arith) h;
       rows = λ i h. record {
-        next = λ l. fine-rows .rise i (i + 1) (omega arith) l;
         side = fine-ends .sides i h;
         fits = fits i (inside i h);
         mirror = mirrored-row fine-rows i h (λ e. fine-mirrored i _ _ h (pair-of fine-rows i 2 h (omega arith) e));

@@ -1,4 +1,6 @@
 pub mod CountLaws
 pub mod RowLaws
 pub mod MirrorLaws
+pub mod GroupLaws
 pub mod EndLaws
+pub mod PassLaws

@@ -13,7 +13,8 @@ use Rattle.rules.specs.Parts.{Reverses}
 use Rattle.base.specs.Back.{schema-of}
 use Rattle.lookup.proofs.KindBytes.{value-byte, reverse-byte, link-below, link-paired, paired-bytes}
 use Rattle.check_ends.specs.Count.{count}
-use Rattle.check_ends.specs.Ends.{sds-byte, link-byte, side-byte, object-byte, row-number, rank, turned, lower, higher, Row-with}
+use Rattle.check_ends.specs.Ends.{sds-byte, link-byte, side-byte, object-byte, row-number, mirror-number}
+use Rattle.check_ends.specs.Ends.{rank, turned, lower, higher, Row-with}
 use Rattle.check_ends.proofs.CountLaws.{Partner, count-le, count-lt}
 use Rattle.check_ends.proofs.RowLaws.{four, Numbered, tells, rank-none, rank-behind, rank-ahead}
 
@@ -24,7 +25,7 @@ module _ (b : List ℕ) (l : ℕ) where
   some-rank : {m : ℕ} → 0 < m → rank b l ≡ m → value-byte b l ≡ 4 → ⊥
   some-rank h e v = omega (arith, rank-none b l refl v)
 
-  behind-is : rank b l ≡ 2 → reverse-byte b l < l
+  pub behind-is : rank b l ≡ 2 → reverse-byte b l < l
   behind-is e =
       let less : l ≤ reverse-byte b l → ⊥ = λ h. omega (arith, rank-ahead b l refl (some-rank (omega arith) e) refl h) in
       omega arith
@@ -43,11 +44,11 @@ module _ (b : List ℕ) (l : ℕ) where
 
   -- what the number of a mirror begins with
   module _ (d side : ℕ) where
-    turned-behind : rank b l ≡ 2 → turned b d l side ≡ (d * 256 + reverse-byte b l) * 256 + (1 - side)
+    pub turned-behind : rank b l ≡ 2 → turned b d l side ≡ (d * 256 + reverse-byte b l) * 256 + (1 - side)
     unfolding turned
     turned-behind e = rw (eq-eqb (rank b l) 2 e)
 
-    turned-own : (rank b l ≡ 2 → ⊥) → turned b d l side ≡ (d * 256 + l) * 256 + side
+    pub turned-own : (rank b l ≡ 2 → ⊥) → turned b d l side ≡ (d * 256 + l) * 256 + side
     unfolding turned
     turned-own n = rw (ne-eqb (rank b l) 2 n)
 
@@ -131,10 +132,7 @@ module _ {b : List ℕ} {n : ℕ} (rows : Rows b n) where
 
   -- ---- the mirror behind, by its number
 
-  abbrev number-of : ℕ → ℕ
-  number-of i = turned b (sds-byte b i) (link-byte b i) (side-byte b i) * 256 + object-byte b i
-
-  pub row-mirrored : (i : ℕ) → i < n → higher b i ≡ true → Row-with b (i + 1) (number-of i) → Mirrored b n i
+  pub row-mirrored : (i : ℕ) → i < n → higher b i ≡ true → Row-with b (i + 1) (mirror-number b i) → Mirrored b n i
   row-mirrored i h e x =
       let l = link-byte b i in
       let behind = eqb-true (rank b l) 2 e in
@@ -158,10 +156,10 @@ module _ {b : List ℕ} {n : ℕ} (rows : Rows b n) where
         };
       }
 
-  pub mirrored-row : (i : ℕ) → i < n → (higher b i ≡ true → Mirrored b n i) → Row-with b (i + 1) (number-of i)
+  pub mirrored-row : (i : ℕ) → i < n → (higher b i ≡ true → Mirrored b n i) → Row-with b (i + 1) (mirror-number b i)
   mirrored-row i h f = go (higher b i) refl
     where
-      go : (x : Bool) → higher b i ≡ x → Row-with b (i + 1) (number-of i)
+      go : (x : Bool) → higher b i ≡ x → Row-with b (i + 1) (mirror-number b i)
       go true e =
           let l = link-byte b i in
           let behind = eqb-true (rank b l) 2 e in

@@ -1,18 +1,22 @@
 -- What is asked of the rows of ends one by one, and of two counts of them.
-use Prim.Native.Nat.{ℕ, _+_, _*_, _-_, _/_, _≤_, _<_}
+use Prim.Native.Nat.{ℕ, _+_, _*_, _-_, _/_, _%_, _≤_, _<_}
 use mathlib.Core.Path.{_≡_}
 use mathlib.Core.List.{List}
 use mathlib.Core.Bool.{Bool, true, cond}
 use lib.Dec.{eqb, ltb}
-use lib.ListN.{getD}
-use Rattle.rules.specs.04-Schema.{kind-of, is-object, is-link, present}
-use Rattle.rules.specs.07-Picture.{end-width}
+use lib.ListN.{length, getD}
+use Rattle.rules.specs.02-Limits.{limits}
+use Rattle.rules.specs.04-Schema.{kind-of, is-link, present}
+use Rattle.rules.specs.07-Picture.{base-length, end-width}
 use Rattle.rules.specs.Read.{value-offset, reverse-offset, link-offset, side-offset, object-offset}
 use Rattle.rules.specs.Parts.{of-presences, End-fits}
 use Rattle.rows.specs.Rows.{part}
 use Rattle.rows.specs.Order.{number}
+use Rattle.base.specs.Tables.{In-order, by-end}
 use Rattle.base.specs.Rows.{type-at, end-at}
 use Rattle.base.specs.Back.{schema-of, end-shown}
+use Rattle.check_ends.specs.Count.{count}
+use Rattle.check_ends.specs.declared.Group.{Group}
 
 -- ---- a row
 
@@ -38,10 +42,18 @@ pub record Row-with (b : List ℕ) (n w : ℕ) : Type 0 where
   pub below : place < n
   pub is : row-number b place ≡ w
 
--- row r of the n rows has this number, unless there are no more than r, and then none of them has
-pub record Row-found (b : List ℕ) (n w r : ℕ) : Type 0 where
-  pub found : r < n → row-number b r ≡ w
-  pub none : n ≤ r → Row-with b n w → ⊥
+-- r is past one of the first n rows that has this number, or 0, and then none of them has
+pub record Row-past (b : List ℕ) (n w r : ℕ) : Type 0 where
+  pub within : r ≤ n
+  pub found : 0 < r → Row-with b n w
+  pub none : r ≡ 0 → Row-with b n w → ⊥
+
+-- the bytes of the row of this number are in their bounds
+pub record Small (w : ℕ) : Type 0 where
+  pub sds : w / 16777216 < limits .sdss
+  pub link : w / 65536 % 256 < limits .types
+  pub side : w / 256 % 256 < 2
+  pub object : w % 256 < limits .types
 
 -- ---- mirrors
 
@@ -53,6 +65,10 @@ rank b l = cond (eqb (getD b (type-at l + value-offset) 0) 4) 0 (cond (ltb (getD
 unfoldable pub turned : List ℕ → ℕ → ℕ → ℕ → ℕ
 turned b d l side = cond (eqb (rank b l) 2) ((d * 256 + getD b (type-at l + reverse-offset) 0) * 256 + (1 - side)) ((d * 256 + l) * 256 + side)
 
+-- the number of the mirror of row i
+abbrev pub mirror-number : List ℕ → ℕ → ℕ
+mirror-number b i = turned b (sds-byte b i) (link-byte b i) (side-byte b i) * 256 + object-byte b i
+
 -- the rows whose mirrors stand ahead, and those whose mirrors stand behind
 abbrev pub lower : List ℕ → ℕ → Bool
 lower b i = eqb (rank b (link-byte b i)) 1
@@ -60,43 +76,67 @@ lower b i = eqb (rank b (link-byte b i)) 1
 abbrev pub higher : List ℕ → ℕ → Bool
 higher b i = eqb (rank b (link-byte b i)) 2
 
+-- both of the first i rows in one number, and what row i adds
+abbrev pub tally : List ℕ → ℕ → ℕ
+tally b i = count (lower b) i + count (higher b) i * 65536
+
+abbrev pub weight : List ℕ → ℕ → ℕ
+weight b i = cond (lower b i) 1 0 + cond (higher b i) 1 0 * 65536
+
 -- ---- what is asked
 
 -- the link type and the object type of the end in row i are what they are to be, and its SDS holds both
 abbrev pub Fits : List ℕ → ℕ → Type 0
 Fits b i = End-fits ((schema-of b) .types) (present (of-presences ((schema-of b) .presences)) (sds-byte b i)) (end-shown b i)
 
--- of row i of n; of the order, that the next row has a higher number
-pub record Row-fine (b : List ℕ) (n i : ℕ) : Type 0 where
-  pub next : i + 1 < n → row-number b i < row-number b (i + 1)
+-- of row i besides its order
+pub record Row-fine (b : List ℕ) (i : ℕ) : Type 0 where
   pub side : side-byte b i ≤ 1
   pub fits : Fits b i
-  pub mirror : Row-with b (i + 1) (turned b (sds-byte b i) (link-byte b i) (side-byte b i) * 256 + object-byte b i)
+  pub mirror : Row-with b (i + 1) (mirror-number b i)
 
--- of the group of row i, whose numbers begin with g and those of its mirrors with t
-pub record Group-fine (b : List ℕ) (i g t : ℕ) : Type 0 where
-  pub side : side-byte b i ≤ 1
-  pub link : is-link (kind-of (schema-of b) (link-byte b i)) ≡ true
-  pub link-held : present (schema-of b) (sds-byte b i) (link-byte b i) ≡ true
-  pub own : g ≡ (sds-byte b i * 256 + link-byte b i) * 256 + side-byte b i
-  pub turned : t ≡ turned b (sds-byte b i) (link-byte b i) (side-byte b i)
-  pub sds : t / 65536 ≡ sds-byte b i
+-- the pass has come to row i: the rows up to it rise, those before it are fine, and its bytes are in their bounds
+pub record Reached (b : List ℕ) (i : ℕ) : Type 0 where
+  pub long : length b ≡ base-length
+  pub bytes : (k : ℕ) → getD b k 0 < 256
+  pub few : i < limits .ends
+  pub small : Small (row-number b i)
+  pub rise : In-order by-end b (i + 1)
+  pub rows : (k : ℕ) → k < i → Row-fine b k
 
--- of row i of such a group besides its order: o is its object type
-pub record Object-fine (b : List ℕ) (i t o : ℕ) : Type 0 where
-  pub object : is-object (kind-of (schema-of b) o) ≡ true
-  pub object-held : present (schema-of b) (t / 65536) o ≡ true
-  pub mirror : Row-with b (i + 1) (t * 256 + o)
+-- of the link type of row i
+pub record Link-fine (b : List ℕ) (i : ℕ) : Type 0 where
+  pub is : is-link (kind-of (schema-of b) (link-byte b i)) ≡ true
+  pub held : present (schema-of b) (sds-byte b i) (link-byte b i) ≡ true
 
--- r is one of n rows exactly where P holds
-pub record Row-where (P : Type 0) (n r : ℕ) : Type 0 where
-  pub holds : r < n → P
-  pub fails : n ≤ r → P → ⊥
+-- ---- groups
 
--- the rows up to row r are fine, and those from row `from` on of one link type, and there are some; or r is past the n rows, and one is
--- not fine
-pub record Past (b : List ℕ) (n from r : ℕ) : Type 0 where
-  pub further : r ≤ n → from < r
-  pub holds : r ≤ n → (i : ℕ) → i < r → Row-fine b n i
-  pub same : r ≤ n → (i : ℕ) → i < r → from ≤ i → link-byte b i ≡ link-byte b from
-  pub fails : n < r → ((i : ℕ) → i < n → Row-fine b n i) → ⊥
+-- row i is of a group of a link type that its SDS holds: its highest number, how far back its mirrors are, and what its rows add
+pub record Group-fine (b : List ℕ) (i high away adds : ℕ) : Type 0 where
+  pub link : Link-fine b i
+  pub top : high ≡ row-number b i / 256 * 256 + 255
+  pub back : mirror-number b i + away ≡ row-number b i
+  pub weight : adds ≡ weight b i
+
+-- the group is that of row i, of which nothing is known but its link type
+pub record Begun (b : List ℕ) (i : ℕ) (g : Group) : Type 0 where
+  pub near : g .near ≤ i
+  pub group : Group-fine b i (g .top) (g .back) (g .weight)
+
+-- l is the link type of row i, and one of a pair
+pub record Pair (b : List ℕ) (i l : ℕ) : Type 0 where
+  pub is : l ≡ link-byte b i
+  pub fine : Link-fine b i
+  pub paired : getD b (type-at l + value-offset) 0 ≡ 4 → ⊥
+
+-- the group of the row before row i, which has number w, is that of row i up to its highest number
+pub record Last (b : List ℕ) (i w : ℕ) (g : Group) : Type 0 where
+  pub near : g .near ≤ i
+  pub same : w ≤ g .top → Group-fine b i (g .top) (g .back) (g .weight)
+
+-- the group of row i, which is fine where there is one
+pub record Passed (b : List ℕ) (i : ℕ) (g : Group) : Type 0 where
+  pub near : g .near ≤ i + 1
+  pub holds : 0 < g .near → Row-fine b i
+  pub group : 0 < g .near → Group-fine b i (g .top) (g .back) (g .weight)
+  pub fails : g .near ≡ 0 → Row-fine b i → ⊥

@@ -1,20 +1,45 @@
 // The ends, in one pass: their order, their sides, the types that their SDS holds, and their mirrors. The mirror of an end is of the reverse
 // of its link type, on the other side. Of a pair of link types the one with the higher number has its mirrors behind it, and they are looked
-// for among the rows passed. Those of the lower one lie ahead and are not looked for: no two ends have one mirror, so where there are as many
-// ends of lower types as of higher ones, none of them is left over.
+// for among the rows passed; what such a mirror was asked of its object type need not be asked again. Those of the lower one lie ahead and
+// are not looked for: no two ends have one mirror, so where there are as many ends of lower types as of higher ones, none of them is left
+// over.
 use base::Base;
 use rules::Limits;
 ghost use mathlib.Core.Path.{_≡_};
 ghost use mathlib.Core.Bool.{cond};
-ghost use Prim.Native.Nat.{ℕ, _+_, _≤_, _<_};
+ghost use Prim.Native.Nat.{_≤_, _<_};
 ghost use lib.ListN.{length};
 ghost use Rattle.rules.specs.02-Limits.{limits};
 ghost use Rattle.rules.specs.07-Picture.{base-length};
+ghost use Rattle.rules.specs.Parts.{Reverses};
 ghost use Rattle.rows.specs.Rows.{Halved};
 ghost use Rattle.rows.specs.Decides.{Decides};
 ghost use Rattle.base.specs.Tables.{In-order, by-end, ends};
+ghost use Rattle.base.specs.Back.{schema-of};
+ghost use Rattle.check_held.specs.Held.{Held-by};
 ghost use Rattle.check_held.specs.Fine.{Shown, Ends-fine};
-ghost use Rattle.check_ends.specs.Ends.{row-number, rank, Row-found, Row-fine, Group-fine, Object-fine, Row-where, Past};
+ghost use Rattle.check_ends.specs.Ends.{row-number, Small, Row-past, Reached, Link-fine, Begun, Pair, Last, Passed};
+
+// The group of an end: those of one SDS, link type and side. `top` is the highest number that one of them could have, `back` how far below
+// an end's number that of its mirror is, 0 where it does not stand behind. The next mirror is most often at `near`, past the one found
+// last; that is 0 where an end is not fine. The weights of all ends make the tally.
+pub struct Group {
+    pub top: usize,
+    pub back: usize,
+    pub near: usize,
+    pub weight: usize,
+}
+
+// What an end counts in the tally: the ends whose mirrors stand ahead, and, in its higher half, those whose mirrors stand behind.
+pub struct Weight {}
+
+impl Weight {
+    pub const NONE: usize = 0;
+
+    pub const AHEAD: usize = 1;
+
+    pub const BEHIND: usize = 65536;
+}
 
 // The one number where it is so, else the other.
 fn either(so: bool, one: usize, other: usize) -> usize
@@ -26,28 +51,33 @@ fn either(so: bool, one: usize, other: usize) -> usize
     other
 }
 
-// Where the mirrors of a link type's ends stand.
-pub struct Mirrors {}
-
-impl Mirrors {
-    pub const NONE: usize = 0;
-
-    pub const AHEAD: usize = 1;
-
-    pub const BEHIND: usize = 2;
+// The row that stands so many before row i, or the first one where there are none so many.
+fn row_back(i: usize, many: usize) -> usize
+    ensures { λ r. ⌜ r ≤ i ⌝ }
+{
+    if i < many {
+        return 0;
+    }
+    i - many
 }
 
-fn rank(base: &[u8], link: usize) -> usize
-    requires { ⌜ (length (now base) ≡ base-length) × (link < limits .types) ⌝ }
-    ensures { λ r. ⌜ r ≡ rank (now (base .entry)) link ⌝ }
+// Whether the bytes of a row are in their bounds, by its number: the compiler makes one test of the four.
+fn is_small(number: usize) -> bool
+    ensures { λ r. ⌜ Decides (Small number) r ⌝ }
 {
-    if base::value(base, link) == Base::DESIGNATION {
-        return Mirrors::NONE;
-    }
-    if base::reverse(base, link) < link {
-        return Mirrors::BEHIND;
-    }
-    Mirrors::AHEAD
+    (number / 16777216 < Limits::SDSS)
+        & (number / 65536 % 256 < Limits::TYPES)
+        & (number / 256 % 256 < 2)
+        & (number % 256 < Limits::TYPES)
+}
+
+// Whether SDS d holds type t. Both are known to be in their bounds, which `check_held::is_held` tests.
+fn is_held(held: &[u16], d: usize, t: usize) -> bool
+    requires { ⌜ (length (now held) ≡ limits .types) × (d < limits .sdss) ⌝ }
+    requires { ⌜ t < limits .types ⌝ }
+    ensures { λ r. ⌜ Held-by (now (held .entry)) d t r ⌝ }
+{
+    (held[t] >> d) & 1 == 1
 }
 
 // Whether row i is one of the n rows and has this number.
@@ -61,131 +91,189 @@ fn is_row(base: &[u8], n: usize, i: usize, number: usize) -> bool
     base::order::end_number(base, i) == number
 }
 
-// The row of this number among the first n, which rise, or n where there is none. Looked for at `near`, then as far on as a hint leaves
-// out, then by halving.
-fn row_near(base: &[u8], n: usize, near: usize, number: usize) -> usize
+// The row past the one of this number among the first n, which rise, or 0 where there is none. Looked for at `far`, then by halving.
+fn past_far(base: &[u8], n: usize, far: usize, number: usize) -> usize
     requires { ⌜ (length (now base) ≡ base-length) × (n ≤ limits .ends) ⌝ }
-    requires { ⌜ (near ≤ limits .ends) × (number < 4294967296) ⌝ }
+    requires { ⌜ number < 4294967296 ⌝ }
     requires { ⌜ In-order by-end (now base) n ⌝ }
-    ensures { λ r. ⌜ Row-found (now (base .entry)) n number r ⌝ }
+    ensures { λ r. ⌜ Row-past (now (base .entry)) n number r ⌝ }
 {
-    if is_row(base, n, near, number) {
-        return near;
-    }
-    if is_row(base, n, near + 256, number) {
-        return near + 256;
+    if is_row(base, n, far, number) {
+        return far + 1;
     }
     let sds = number / 16777216;
     let link = number / 65536 % 256;
     let side = number / 256 % 256;
-    lookup::ends::end_near(base, n, n, sds, link, side, number % 256)
+    let row = lookup::ends::end_near(base, n, n, sds, link, side, number % 256);
+    if n <= row {
+        return 0;
+    }
+    row + 1
 }
 
-// The row of the mirror of the end in row i at object type o, or i + 1 where there is none or o is no object type that the SDS holds.
-// `turned` is what the mirror's number begins with. Where no mirror stands behind, the end stands for its own.
-fn object_fine(base: &[u8], i: usize, near: usize, turned: usize, o: usize, held: &[u16]) -> usize
-    requires { ⌜ (Shown (now base) (now held)) × (i < limits .ends) ⌝ }
-    requires { ⌜ (near ≤ limits .ends) × ((turned < 16777216) × (o < 256)) ⌝ }
-    requires { ⌜ In-order by-end (now base) (i + 1) ⌝ }
-    ensures { λ r. ⌜ Row-where (Object-fine (now (base .entry)) i turned o) (i + 1) r ⌝ }
+// What stands for the group of an end that is not fine, and for the one before the first.
+fn refused() -> Group
+    ensures { λ r. ⌜ (r .top ≡ 0) × (r .near ≡ 0) ⌝ }
 {
-    if !check_held::is_held(held, turned / 65536, o) {
-        return i + 1;
+    Group {
+        top: 0,
+        back: 0,
+        near: 0,
+        weight: 0,
+    }
+}
+
+// The group with row i, where its mirror stands behind: near, or 256 rows off, which a hint does not tell, or found by halving.
+fn behind(base: &[u8], i: usize, number: usize, group: Group) -> Group
+    requires { ⌜ (Reached (now base) i) × (number ≡ row-number (now base) i) ⌝ }
+    requires { ⌜ (Begun (now base) i group) × (0 < group .back) ⌝ }
+    ensures { λ r. ⌜ Passed (now (base .entry)) i r ⌝ }
+{
+    let mirror = number - group.back;
+    if base::order::end_number(base, group.near) == mirror {
+        return Group {
+            top: group.top,
+            back: group.back,
+            near: group.near + 1,
+            weight: group.weight,
+        };
+    }
+    let far = (group.near + 256) % Limits::ENDS;
+    Group {
+        top: group.top,
+        back: group.back,
+        near: past_far(base, i + 1, far, mirror),
+        weight: group.weight,
+    }
+}
+
+// The group with row i, where no mirror stands behind and the end stands for its own: its object type is to be one, which its SDS holds.
+fn own(base: &[u8], i: usize, group: Group, held: &[u16]) -> Group
+    requires { ⌜ (Reached (now base) i) × (Shown (now base) (now held)) ⌝ }
+    requires { ⌜ (Begun (now base) i group) × (group .back ≡ 0) ⌝ }
+    ensures { λ r. ⌜ Passed (now (base .entry)) i r ⌝ }
+{
+    let o = base::end_object(base, i);
+    if !is_held(held, base::end_sds(base, i), o) {
+        return refused();
     }
     if base::kind(base, o) != Base::OBJECT {
-        return i + 1;
+        return refused();
     }
-    row_near(base, i + 1, near, turned * 256 + o)
+    Group {
+        top: group.top,
+        back: group.back,
+        near: i + 1,
+        weight: group.weight,
+    }
 }
 
-// The row past the group that starts in row `from`, the ends of one link type on one side in one SDS, or n + 1 where one of its rows is not
-// fine. Their numbers begin with `own`. Mirrors stand together too: the next one is most often behind the last one found. A row's number is
-// read in the turn before: it is loaded at once there, and byte by byte where it is taken apart.
-fn rows_fine(
-    base: &[u8],
-    n: usize,
-    from: usize,
-    first: usize,
-    own: usize,
-    turned: usize,
-    held: &[u16],
-) -> usize
-    requires { ⌜ (Shown (now base) (now held)) × ((n ≤ limits .ends) × (from < n)) ⌝ }
-    requires { ⌜ (first ≤ limits .ends) × ((own < 16777216) × (turned < 16777216)) ⌝ }
-    requires { ⌜ Group-fine (now base) from own turned ⌝ }
-    requires { ⌜ ((k : ℕ) → k < from → Row-fine (now base) n k) ⌝ }
-    ensures { λ r. ⌜ Past (now (base .entry)) n from r ⌝ }
+// Whether row i is of the last group, which has numbers up to `top`, or its link type is one, which its SDS holds.
+fn link_fine(base: &[u8], i: usize, number: usize, top: usize, held: &[u16]) -> bool
+    requires { ⌜ (Reached (now base) i) × (Shown (now base) (now held)) ⌝ }
+    ensures { λ r. ⌜ Decides (top < number → Link-fine (now (base .entry)) i) r ⌝ }
 {
-    let bottom = own * 256;
-    let mut number = base::order::end_number(base, from);
-    let mut near = first;
-    let mut i = from;
-    while i < n {
-        let row = object_fine(base, i, near, turned, number - bottom, held);
-        if i < row {
-            return n + 1;
-        }
-        near = row + 1;
-        i += 1;
-        if i == n {
-            return i;
-        }
-        let next = base::order::end_number(base, i);
-        if next <= number {
-            return n + 1;
-        }
-        if bottom + 255 < next {
-            return i;
-        }
-        number = next;
+    if number <= top {
+        return true;
     }
-    i
-}
-
-// Where the mirrors of the group that starts in row `from` are looked for first. A group whose mirrors do not stand behind leaves that row,
-// without its highest bit, at a place that is the same for theirs: a hint, and nothing else.
-fn hint(starts: &mut [u8], place: usize, behind: bool, from: usize) -> usize
-    requires { ⌜ (length (now starts) ≡ limits .types) × (place < limits .types) ⌝ }
-    requires { ⌜ from ≤ limits .ends ⌝ }
-    ensures { λ r. ⌜ r ≤ limits .ends ⌝ }
-{
-    if behind {
-        return rows::wide(starts[place]);
-    }
-    starts[place] = (from % 256) as u8;
-    from
-}
-
-// The row past the group, as above, with what is asked of its link type and its side.
-fn group_fine(base: &[u8], n: usize, from: usize, held: &[u16], starts: &mut [u8]) -> usize
-    requires { ⌜ (Shown (now base) (now held)) × ((n ≤ limits .ends) × (from < n)) ⌝ }
-    requires { ⌜ length (now starts) ≡ limits .types ⌝ }
-    requires { ⌜ ((k : ℕ) → k < from → Row-fine (now base) n k) ⌝ }
-    ensures { λ r. ⌜ Past (now (base .entry)) n from r ⌝ }
-{
-    let sds = base::end_sds(base, from);
-    let link = base::end_link(base, from);
-    if !check_held::is_held(held, sds, link) {
-        return n + 1;
-    }
+    let link = base::end_link(base, i);
     if base::kind(base, link) != Base::LINK {
-        return n + 1;
+        return false;
     }
-    let side = base::end_side(base, from);
-    if 1 < side {
-        return n + 1;
-    }
+    is_held(held, base::end_sds(base, i), link)
+}
+
+// The group that begins with row i, of a link type of a pair. Where its mirrors stand ahead, it leaves the row, without its highest bit, at a
+// place that is the same for theirs: a hint, and nothing else. They begin to look at the last row that it could be, up to their own.
+fn pair(base: &[u8], i: usize, number: usize, link: usize, starts: &mut [u8]) -> Group
+    requires { ⌜ (Reached (now base) i) × (Reverses ((schema-of (now base)) .types)) ⌝ }
+    requires { ⌜ (number ≡ row-number (now base) i) × (Pair (now base) i link) ⌝ }
+    requires { ⌜ length (now starts) ≡ limits .types ⌝ }
+    ensures { λ r. ⌜ Begun (now (base .entry)) i r ⌝ }
+{
+    let side = base::end_side(base, i);
     let reverse = base::reverse(base, link);
-    let behind = rank(base, link) == Mirrors::BEHIND;
-    let place = either(side == 0, link, reverse) % Limits::TYPES;
-    let near = hint(starts, place, behind, from);
-    let own = (sds * 256 + link) * 256 + side;
-    let other = (sds * 256 + reverse) * 256 + (1 - side);
-    rows_fine(base, n, from, near, own, either(behind, other, own), held)
+    let place = either(side == 0, link, reverse);
+    let top = number - number % 256 + 255;
+    if link <= reverse {
+        starts[place] = (i % 256) as u8;
+        return Group {
+            top,
+            back: 0,
+            near: 0,
+            weight: Weight::AHEAD,
+        };
+    }
+    let hint = rows::wide(starts[place]);
+    Group {
+        top,
+        back: (link - reverse) * 65536 + side * 512 - 256,
+        near: row_back(i, (i + 256 - hint) % 256),
+        weight: Weight::BEHIND,
+    }
+}
+
+// The group that begins with row i, of which nothing but its link type is asked yet.
+fn first(base: &[u8], i: usize, number: usize, starts: &mut [u8]) -> Group
+    requires { ⌜ (Reached (now base) i) × (Reverses ((schema-of (now base)) .types)) ⌝ }
+    requires { ⌜ (number ≡ row-number (now base) i) × (Link-fine (now base) i) ⌝ }
+    requires { ⌜ length (now starts) ≡ limits .types ⌝ }
+    ensures { λ r. ⌜ Begun (now (base .entry)) i r ⌝ }
+{
+    let link = base::end_link(base, i);
+    if base::value(base, link) == Base::DESIGNATION {
+        return Group {
+            top: number - number % 256 + 255,
+            back: 0,
+            near: 0,
+            weight: Weight::NONE,
+        };
+    }
+    pair(base, i, number, link, starts)
+}
+
+// The group that row i is of, before it is passed: the last one, or another that begins with it.
+fn begun(base: &[u8], i: usize, number: usize, last: Group, starts: &mut [u8]) -> Group
+    requires { ⌜ (Reached (now base) i) × (Reverses ((schema-of (now base)) .types)) ⌝ }
+    requires { ⌜ (number ≡ row-number (now base) i) × (Last (now base) i number last) ⌝ }
+    requires { ⌜ (last .top < number → Link-fine (now base) i) ⌝ }
+    requires { ⌜ length (now starts) ≡ limits .types ⌝ }
+    ensures { λ r. ⌜ Begun (now (base .entry)) i r ⌝ }
+{
+    if number <= last.top {
+        return last;
+    }
+    first(base, i, number, starts)
+}
+
+// The group with row i. Bytes of the row are read again: so they need not be taken out of its number.
+fn group_at(
+    base: &[u8],
+    i: usize,
+    number: usize,
+    last: Group,
+    held: &[u16],
+    starts: &mut [u8],
+) -> Group
+    requires { ⌜ (Reached (now base) i) × (Shown (now base) (now held)) ⌝ }
+    requires { ⌜ (number ≡ row-number (now base) i) × (Last (now base) i number last) ⌝ }
+    requires { ⌜ length (now starts) ≡ limits .types ⌝ }
+    ensures { λ r. ⌜ Passed (now (base .entry)) i r ⌝ }
+{
+    if !link_fine(base, i, number, last.top, held) {
+        return refused();
+    }
+    let group = begun(base, i, number, last, starts);
+    if group.back == 0 {
+        return own(base, i, group, held);
+    }
+    behind(base, i, number, group)
 }
 
 // Whether the n rows are ends as they would be written, in order and with nothing behind them, and each is of a link type and an object
-// type that its SDS holds, and has its mirror.
+// type that its SDS holds, and has its mirror. The pass ends where the numbers rise no more: behind the last row is none, or, past all that
+// there is room for, the first one again. A row's number is read in the turn before: it is loaded at once there, and byte by byte where it
+// is taken apart.
 pub fn ends_fine(base: &[u8], n: usize, held: &[u16], starts: &mut [u8]) -> bool
     requires { ⌜ Shown (now base) (now held) ⌝ }
     requires { ⌜ Halved (now base) (ends .start) (ends .width) (limits .ends) n ⌝ }
@@ -195,18 +283,23 @@ pub fn ends_fine(base: &[u8], n: usize, held: &[u16], starts: &mut [u8]) -> bool
     if !base::used::no_end_from(base, n) {
         return false;
     }
-    let mut lower = 0;
-    let mut higher = 0;
+    let mut group = refused();
+    let mut tally = 0;
+    let mut before = 0;
+    let mut number = base::order::end_number(base, 0);
     let mut i = 0;
-    while i < n {
-        let next = group_fine(base, n, i, held, starts);
-        if n < next {
+    while before < number {
+        if !is_small(number) {
             return false;
         }
-        let rank = rank(base, base::end_link(base, i));
-        lower += either(rank == Mirrors::AHEAD, next - i, 0);
-        higher += either(rank == Mirrors::BEHIND, next - i, 0);
-        i = next;
+        group = group_at(base, i, number, group, held, starts);
+        if group.near == 0 {
+            return false;
+        }
+        tally += group.weight;
+        before = number;
+        i += 1;
+        number = base::order::end_number(base, i % Limits::ENDS);
     }
-    lower == higher
+    (i == n) & (tally % 65536 == tally / 65536)
 }

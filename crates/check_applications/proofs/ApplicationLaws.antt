@@ -1,10 +1,11 @@
 -- The tests of a row are what is asked of it, and what is asked of each row is what is asked of the table. Assumes nothing.
-use Prim.Native.Nat.{ℕ, _≤_, _<_}
+use Prim.Native.Nat.{ℕ, zero, suc, _+_, _-_, _/_, _%_, _^_, _≤_, _<_}
 use native.Mathlib.Nat.{add-zero}
 use native.Mathlib.Omega.{arith}
-use mathlib.Core.Path.{_≡_, refl, sym, ap, _∙_}
+use mathlib.Core.Path.{_≡_, refl, sym, ap, ap₂, _∙_}
 use mathlib.Core.List.{List}
-use mathlib.Core.Bool.{true, not, _||_, false≢true}
+use mathlib.Core.Bool.{Bool, true, false, not, _&&_, _||_, true≢false, false≢true}
+use lib.Bits.{bitAnd}
 use lib.Dec.{eqb}
 use lib.ListN.{length, getD}
 use borrow.Author.Tests.{eqb-true, eq-eqb}
@@ -12,8 +13,9 @@ use Rattle.rules.specs.02-Limits.{limits}
 use Rattle.rules.specs.04-Schema.{Kind, kind-of, is-used, is-object, is-attribute, is-link, present}
 use Rattle.rules.specs.04-Schema.Kind.{unused, object, attribute, designation, paired}
 use Rattle.rules.specs.Parts.{of-presences}
-use Rattle.rules.proofs.Bools.{and-of}
+use Rattle.rules.proofs.Bools.{and-both, and-of}
 use Rattle.rules.proofs.Parts.{present-each, applied-held}
+use Rattle.type_set.proofs.Bit.{bit-and, bit-masked}
 use Rattle.rows.specs.Rows.{Counted, Halved}
 use Rattle.rows.specs.Order.{number}
 use Rattle.rows.specs.Decides.{Decides}
@@ -31,7 +33,7 @@ use Rattle.base.proofs.Tables.{applications-sort}
 use Rattle.lookup.proofs.KindBytes.{kind-byte, attribute-byte}
 use Rattle.check_held.specs.Fine.{Applications-fine, Shown}
 use Rattle.check_held.proofs.HeldLaws.{present-shown, held-there, shown-lacks}
-use Rattle.check_applications.specs.Applied.{Applied, Row-fine}
+use Rattle.check_applications.specs.Applied.{Applied, Row-fine, Bounded, Both-held}
 
 -- ---- an application, test by test: d is its SDS, t what it is applied to, a its attribute type
 
@@ -55,33 +57,47 @@ held-used : {b held : List ℕ} → Shown b held → (d t : ℕ) → present (sc
 held-used {b} s d t p =
     present-each ((schema-of b) .presences) (λ d t. is-used (kind-of (schema-of b) t) ≡ true) (s .types .typed) d t (present-shown b d t ∙ p)
 
-module _ {b held : List ℕ} {i d t a : ℕ} (x : Application-read b held i d t a) where
-  pub applied-to-out : (present (schema-of b) d t ≡ true → ⊥) → Applied b i → ⊥
-  applied-to-out n y = n (held-there b (x .sds) (x .to) ∙ applied-held y .0)
+-- the bit of one SDS in the words of two types
+pub both-bit : (held : List ℕ) (d t a : ℕ) → t < limits .types → a < limits .types
+    → Both-held held d t a (eqb (bitAnd (bitAnd (getD held t 0) (getD held a 0) / 2 ^ (d % 32)) 1) 1)
+both-bit held d t a ht ha = record {
+  is = λ b s h.
+      let same : d % 32 ≡ d = omega arith in
+      let w = bitAnd (getD held t 0) (getD held a 0) in
+      ap (λ (n : ℕ). eqb (bitAnd (w / 2 ^ n) 1) 1) same ∙ bit-masked w d ∙ bit-and (getD held t 0) (getD held a 0) d
+      ∙ ap₂ _&&_ (s .shows t d ht h) (s .shows a d ha h);
+}
 
-  pub applied-attribute-out : (present (schema-of b) d a ≡ true → ⊥) → Applied b i → ⊥
-  applied-attribute-out n y = n (held-there b (x .sds) (x .attribute) ∙ applied-held y .1)
+module _ {b held : List ℕ} {i d t a : ℕ} (x : Application-read b held i d t a) {r : Bool} (both : Both-held held d t a r) (small : d < 16) where
+  pub applied-outside : r ≡ false → Applied b i → ⊥
+  applied-outside n y =
+      true≢false (sym (and-of (present (schema-of b) d t) (present (schema-of b) d a) (held-there b (x .sds) (x .to) ∙ applied-held y .0)
+      (held-there b (x .sds) (x .attribute) ∙ applied-held y .1)) ∙ sym (both .is b (x .shown .holds) small) ∙ n)
 
-  module _ (ha : present (schema-of b) d a ≡ true) {k : ℕ} (ek : k ≡ kind-byte b a) where
+  module _ (yes : r ≡ true) {k : ℕ} (ek : k ≡ kind-byte b a) where
+    both-there : (present (schema-of b) d t ≡ true) × (present (schema-of b) d a ≡ true)
+    both-there = and-both (present (schema-of b) d t) (present (schema-of b) d a) (sym (both .is b (x .shown .holds) small) ∙ yes)
+
     attribute-kind : eqb k 2 ≡ is-attribute (kind-of (schema-of b) (application-shown b i .attribute))
     attribute-kind =
-        attribute-byte b a k (x .shown .holds .places d a ha .1) ek ∙ ap (λ (m : ℕ). is-attribute (kind-of (schema-of b) m)) (x .attribute)
+        attribute-byte b a k (x .shown .holds .places d a (both-there .1) .1) ek
+        ∙ ap (λ (m : ℕ). is-attribute (kind-of (schema-of b) m)) (x .attribute)
 
     pub applied-no-attribute : (k ≡ 2 → ⊥) → Applied b i → ⊥
     applied-no-attribute n y = n (eqb-true k 2 (attribute-kind ∙ y .attribute))
 
-    pub applied-decided : present (schema-of b) d t ≡ true → k ≡ 2 → {l : ℕ} → l ≡ kind-byte b t → Decides (Applied b i) (not (eqb l 2))
-    applied-decided ht two {l} el =
+    pub applied-decided : k ≡ 2 → {l : ℕ} → l ≡ kind-byte b t → Decides (Applied b i) (not (eqb l 2))
+    applied-decided two {l} el =
         decides-iff (λ q. record {
           attribute = sym attribute-kind ∙ eq-eqb k 2 two;
           to = q;
           within = and-of (present (of-presences ((schema-of b) .presences)) (application-shown b i .sds) (application-shown b i .to))
               (present (of-presences ((schema-of b) .presences)) (application-shown b i .sds) (application-shown b i .attribute))
-              (sym (held-there b (x .sds) (x .to)) ∙ ht) (sym (held-there b (x .sds) (x .attribute)) ∙ ha);
+              (sym (held-there b (x .sds) (x .to)) ∙ both-there .0) (sym (held-there b (x .sds) (x .attribute)) ∙ both-there .1);
         })
         (λ y. y .to)
-        (decides-test (ap not (attribute-byte b t l (x .shown .holds .places d t ht .1) el)
-        ∙ other-kinds (kind-of (schema-of b) t) (held-used (x .shown) d t ht)
+        (decides-test (ap not (attribute-byte b t l (x .shown .holds .places d t (both-there .0) .1) el)
+        ∙ other-kinds (kind-of (schema-of b) t) (held-used (x .shown) d t (both-there .0))
         ∙ ap (λ (m : ℕ). is-object (kind-of (schema-of b) m) || is-link (kind-of (schema-of b) m)) (x .to)))
 
 -- ---- every application
@@ -123,8 +139,37 @@ module _ {b held : List ℕ} (s : Shown b held) where
           halved-right applications b 0 n (omega arith) found (λ i h e. applied-elsewhere i (each-applied i h) (rw (add-zero (application-at i)) at e))
           (fine .application-rest)
 
+      fine-places : (i : ℕ) → i < n → let x = application-shown b i in
+          ((x .sds < limits .sdss) × (x .to < limits .types)) × ((x .sds < limits .sdss) × (x .attribute < limits .types))
+      fine-places i h =
+          let x = application-shown b i in
+          let y = applied-held (each-applied i (omega (arith, fine-counted .is))) in (
+            s .holds .places (x .sds) (x .to) (sym (present-shown b (x .sds) (x .to)) ∙ y .0),
+            s .holds .places (x .sds) (x .attribute) (sym (present-shown b (x .sds) (x .attribute)) ∙ y .1),
+          )
+
       pub fine-blank : Blank-from applications n b
       fine-blank = rw (fine-counted .is) (fine .application-rest)
+
+      -- it tells no number past the last
+      pub fine-sds : (i : ℕ) → i < n → getD b (application-at i) 0 < limits .sdss
+      fine-sds i h = fine-places i h .0 .0
+
+      fine-byte : (i : ℕ) → i < n → (j : ℕ) → j < 3 → getD b (application-at i + j) 0 < 128
+      fine-byte i h zero l = omega (arith, fine-places i h .0 .0, ap (λ (k : ℕ). getD b k 0) (add-zero (application-at i)))
+      fine-byte i h (suc zero) l = fine-places i h .0 .1
+      fine-byte i h (suc (suc zero)) l = fine-places i h .1 .1
+      fine-byte i h (suc (suc (suc j))) l = absurd (omega arith)
+
+      pub fine-bounded : Bounded b n
+      fine-bounded = record {
+        last = λ i e. fine-sds i (omega arith);
+        low = λ k l m.
+            let i = (k - applications .start) / 3 in
+            let j = (k - applications .start) % 3 in
+            let same : k ≡ application-at i + j = omega arith in
+            rw same (fine-byte i (omega arith) j (omega arith));
+      }
 
       first-above : 0 < application-count b → 65535 < number 0 (row-of applications b 0)
       first-above h =

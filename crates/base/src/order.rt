@@ -7,12 +7,13 @@ ghost use lib.ListN.{length};
 ghost use Rattle.rules.specs.02-Limits.{limits};
 ghost use Rattle.rules.specs.07-Picture.{base-length, application-width, end-width};
 ghost use Rattle.rows.specs.Rows.{part};
-ghost use Rattle.rows.specs.Order.{number, Keyed};
+ghost use Rattle.rows.specs.Order.{number, Low-name, Keyed};
 ghost use Rattle.base.specs.Rows.{presence-at, application-at, end-at};
 
 // By SDS and name.
 pub fn presence_key(base: &[u8], i: usize) -> Key
     requires { ⌜ (length (now base) ≡ base-length) × (i < limits .presences) ⌝ }
+    requires { ⌜ Low-name (now base) (presence-at i) ⌝ }
     ensures { λ r. ⌜ Keyed (now (base .entry)) (presence-at i) r ⌝ }
 {
     rows::order::key_at(base, Base::PRESENCES_AT + i * Base::PRESENCE_WIDTH)

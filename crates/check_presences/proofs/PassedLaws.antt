@@ -8,7 +8,7 @@ use mathlib.Core.Bool.{Bool, true, false, not, _&&_, _||_, true≢false, false�
 use lib.Dec.{ltb}
 use lib.ListN.{length, getD, set, replicate}
 use borrow.Author.Count.{below-none, below-more}
-use borrow.Author.Tests.{ltb-true, ltb-false}
+use borrow.Author.Tests.{ltb-true, ltb-false, lt-ltb, le-ltb, eq-eqb, ne-eqb}
 use Rattle.rules.specs.01-Lists.{bytes-before}
 use Rattle.rules.specs.02-Limits.{limits}
 use Rattle.rules.specs.04-Schema.{used-sds}
@@ -18,12 +18,13 @@ use Rattle.type_set.specs.Set.{bit}
 use Rattle.rows.specs.declared.order.Key.{Key}
 use Rattle.rows.specs.Order.{front, numbers-of, Keyed}
 use Rattle.rows.proofs.Decides.{decides-yes, decides-no}
-use Rattle.rows.proofs.OrderLaws.{keyed-before}
+use Rattle.rows.proofs.OrderLaws.{keyed-before, before-apart, before-alike}
 use Rattle.rows.proofs.Scan.{rising-one, rising-more, rising-not}
 use Rattle.base.specs.Rows.{presence-at}
 use Rattle.base.specs.Back.{schema-of}
 use Rattle.check_held.specs.Held.{marked}
 use Rattle.check_presences.specs.Rows.{Row-fine, System-first, tag, told-apart, Rows-fine}
+use Rattle.check_presences.specs.Fields.{halves, names-before}
 use Rattle.check_presences.specs.Gathered.{Gathers, Rows-gathered}
 use Rattle.check_presences.proofs.GatherLaws.{gathers-first, gathers-more}
 use Rattle.check_presences.proofs.OrderLaws.{told-rows}
@@ -55,10 +56,6 @@ passed-first {b} held s u e key = record {
   gathers = gathers-first b held e (s .type) (s .sds);
 }
 
--- the SDS of the row passed last is used
-pub passed-sds : {b held : List ℕ} {k : ℕ} {row : Key} → Passed b k row held → used-sds (schema-of b) (row .sds) ≡ true
-passed-sds {b} {k = k} p = ap (used-sds (schema-of b)) (p .key .sds) ∙ p .fine .in-used k (omega arith)
-
 -- all are passed
 pub passed-all : {b held : List ℕ} {n k : ℕ} {row : Key} → Passed b k row held → n ≡ k + 1 → Rows-gathered b n held true
 passed-all {b} {held} p e =
@@ -76,6 +73,64 @@ keys-before b {i} {j} {row} {next} long bytes h k x y =
     keys : {i j : ℕ} {row next : Key} → i < limits .presences → j < limits .presences → Keyed b (presence-at i) row → Keyed b (presence-at j) next
         → bytes-before (front b (presence-at i)) (front b (presence-at j)) ≡ bytes-before (numbers-of row) (numbers-of next)
     keys {i} {j} {row} {next} h k x y = keyed-before b (presence-at i) (presence-at j) row next bytes (omega arith) (omega arith) x y
+
+-- where the SDSs differ these decide, and where not the names
+module _ (b : List ℕ) {i j : ℕ} {row next : Key} (long : length b ≡ base-length) (bytes : (k : ℕ) → getD b k 0 < 256) (h : i < limits .presences)
+    (k : j < limits .presences) (x : Keyed b (presence-at i) row) (y : Keyed b (presence-at j) next) where
+  pub sds-apart : {d e : ℕ} → d ≡ getD b (presence-at i) 0 → e ≡ getD b (presence-at j) 0 → (d ≡ e → ⊥)
+      → ltb d e ≡ bytes-before (told-apart b i) (told-apart b j)
+  sds-apart p q n = ap₂ ltb p q ∙ sym (before-apart (getD b (presence-at i) 0) (getD b (presence-at j) 0) _ _ (λ z. n (p ∙ z ∙ sym q)))
+
+  pub sds-same : getD b (presence-at i) 0 ≡ getD b (presence-at j) 0 → names-before b i j row next ≡ bytes-before (told-apart b i) (told-apart b j)
+  sds-same e =
+      let same : row .sds ≡ next .sds = x .sds ∙ e ∙ sym (y .sds) in
+      sym (λ z. before-alike (row .sds) (next .sds) (halves row) (halves next) same z
+      || (not (before-alike (next .sds) (row .sds) (halves next) (halves row) (sym same) z) && ltb (tag b i) (tag b j)))
+      ∙ sym (keys-before b long bytes h k x y)
+
+-- names by their halves
+module _ (b : List ℕ) (i j : ℕ) (row next : Key) where
+  pub first-less : row .first < next .first → true ≡ names-before b i j row next
+  unfolding bytes-before
+  first-less l = rw (lt-ltb (row .first) (next .first) l)
+
+  pub first-more : next .first < row .first → false ≡ names-before b i j row next
+  unfolding bytes-before
+  first-more l =
+      rw (le-ltb (row .first) (next .first) (omega arith), ne-eqb (row .first) (next .first) (λ e. omega arith), lt-ltb (next .first) (row .first) l)
+
+  module _ (e : row .first ≡ next .first) where
+    pub second-less : row .second < next .second → true ≡ names-before b i j row next
+    unfolding bytes-before
+    second-less l =
+        rw (le-ltb (row .first) (next .first) (omega arith), eq-eqb (row .first) (next .first) e, lt-ltb (row .second) (next .second) l)
+
+    pub second-more : next .second < row .second → false ≡ names-before b i j row next
+    unfolding bytes-before
+    second-more l =
+        rw (
+          le-ltb (row .first) (next .first) (omega arith),
+          eq-eqb (row .first) (next .first) e,
+          le-ltb (row .second) (next .second) (omega arith),
+          ne-eqb (row .second) (next .second) (λ z. omega arith),
+          le-ltb (next .first) (row .first) (omega arith),
+          eq-eqb (next .first) (row .first) (sym e),
+          lt-ltb (next .second) (row .second) l,
+        )
+
+    pub halves-same : row .second ≡ next .second → ltb (tag b i) (tag b j) ≡ names-before b i j row next
+    unfolding bytes-before
+    halves-same l =
+        rw (
+          le-ltb (row .first) (next .first) (omega arith),
+          eq-eqb (row .first) (next .first) e,
+          le-ltb (row .second) (next .second) (omega arith),
+          eq-eqb (row .second) (next .second) l,
+          le-ltb (next .first) (row .first) (omega arith),
+          eq-eqb (next .first) (row .first) (sym e),
+          le-ltb (next .second) (row .second) (omega arith),
+          eq-eqb (next .second) (row .second) (sym l),
+        )
 
 -- the rows up to row k are passed, there is a next one, and `next` is its key
 pub record Next (b : List ℕ) (n k : ℕ) (row : Key) (held : List ℕ) (next : Key) : Type 0 where

@@ -1,9 +1,9 @@
 -- What the tests of presences find is what `Presences-fine` asks, and words that are gathered show what the SDSs hold. Assumes nothing.
 use Prim.Native.Nat.{ℕ, zero, suc, _+_, _<_}
 use native.Mathlib.Omega.{arith}
-use mathlib.Core.Path.{_≡_, refl, sym, ap, ap₂, _∙_}
-use mathlib.Core.List.{List, [], _∷_, _++_}
-use mathlib.Core.Bool.{Bool, true, false, _||_, true≢false, false≢true}
+use mathlib.Core.Path.{_≡_, sym, ap, ap₂, _∙_}
+use mathlib.Core.List.{List}
+use mathlib.Core.Bool.{true, false, _||_, true≢false}
 use lib.ListN.{length, getD, replicate}
 use Rattle.rules.specs.01-Lists.{_∈_}
 use Rattle.rules.specs.02-Limits.{limits}
@@ -17,10 +17,8 @@ use Rattle.rules.proofs.Parts.{presence-of, present-each}
 use Rattle.rules.proofs.Parts as part
 use Rattle.type_set.specs.Set.{bit}
 use Rattle.name_fields.proofs.NamedFields.{name-field-formed}
-use Rattle.rows.specs.Rows.{part, Counted, Level}
-use Rattle.rows.specs.Order.{folded}
-use Rattle.rows.proofs.Decides.{decides-no, decides-iff}
-use Rattle.rows.proofs.Scan.{rising-level, first-used}
+use Rattle.rows.specs.Rows.{part, Counted}
+use Rattle.rows.proofs.Scan.{first-used}
 use Rattle.base.specs.Tables.{Blank-from, Presences-halved, presences, row-of, Written}
 use Rattle.base.specs.Rows.{presence-at}
 use Rattle.base.specs.Back.{schema-of, presence-count, presence-shown}
@@ -31,9 +29,11 @@ use Rattle.lookup.proofs.SdsShown.{used-below}
 use Rattle.check_held.specs.Held.{Holds}
 use Rattle.check_held.specs.Fine.{Presences-fine}
 use Rattle.check_held.proofs.HeldLaws.{present-shown}
-use Rattle.check_presences.specs.Rows.{Named-fine, System-first, tag, Names-rise, Rows-fine}
-use Rattle.check_presences.specs.Gathered.{Gathers, Rows-gathered, Gathered}
+use Rattle.check_presences.specs.Rows.{Named-fine, System-first, Names-rise, Rows-fine}
+use Rattle.check_presences.specs.Fields.{All-modes, Fields-told}
+use Rattle.check_presences.specs.Gathered.{Gathers}
 use Rattle.check_presences.proofs.RowLaws.{fine-name, fine-nameless, named-written, written-named, name-used, object-named}
+use Rattle.check_presences.proofs.TellLaws.{level, first-alone}
 use Rattle.check_presences.proofs.OrderLaws.{equal, row-field, row-once, rise-presences, rise-unique, presences-rise}
 
 record Found (b : List ℕ) (n : ℕ) : Type 0 where
@@ -46,24 +46,13 @@ first-shown : (b : List ℕ) (n : ℕ) → System-first b n → presence-shown b
 unfolding pad strip
 first-shown b n s = λ i. record { sds = s .sds i; name = (ap strip (s .name)) i; type = s .type i; usage = s .usage i; definition = s .definition i }
 
-level : (b : List ℕ) (n : ℕ) → Names-rise b n → Level b (presences .start) (presences .width) n
-level b n r = rising-level b (presences .start) (presences .width) n (λ i. folded (part b (presence-at i + name-offset) (limits .name)) ++ (tag b i ∷ [])) r
-
 module _ {b : List ℕ} {n : ℕ} (f : Found b n) where
-  -- a presence in SDS 0 is the first
-  alone : (i : ℕ) → i < n → getD b (presence-at i) 0 ≡ 0 → i ≡ 0
-  alone zero h e = refl
-  alone (suc zero) h e = absurd (f .system .next h e)
-  alone (suc (suc i)) h e =
-      let le = level b n (f .rows .rise) 1 (suc (suc i)) (omega arith) h in
-      absurd (f .system .next (omega arith) (omega arith))
-
   -- the first has a name, and the others are in SDSs that are not 0
   used : (i : ℕ) → i < n → row-of presences b i ≡ replicate (presences .width) 0 → ⊥
   used zero h =
       name-used b 0 (name-field-formed (part b (presence-at 0 + name-offset) (limits .name))
       (object-named (part b (presence-at 0 + name-offset) (limits .name)) (f .system .name)))
-  used (suc i) h = first-used b (presence-at (suc i)) (presences .width) (omega arith) (λ e. omega (arith, alone (suc i) h e))
+  used (suc i) h = first-used b (presence-at (suc i)) (presences .width) (omega arith) (λ e. omega (arith, first-alone (f .system) (f .rows .rise) (suc i) h e))
 
 module _ (b : List ℕ) {n : ℕ} (long : length b ≡ base-length) (count : Counted (presence-count b) (limits .presences) n) where
   counted : (i : ℕ) → i < presence-count b → i < n
@@ -107,7 +96,7 @@ module _ (b : List ℕ) {n : ℕ} (long : length b ≡ base-length) (count : Cou
         system = rw (first-shown b n (f .system)) at (presence-there b 0 (omega (arith, count .is, f .system .some)));
         system-alone = λ p m z.
             let (i, h, e) = presence-in b p m in
-            let same : i ≡ 0 = alone f i (counted i h) (sym (ap (λ (q : Presence). q .sds) e) ∙ z) in
+            let same : i ≡ 0 = first-alone (f .system) (f .rows .rise) i (counted i h) (sym (ap (λ (q : Presence). q .sds) e) ∙ z) in
             e ∙ ap (presence-shown b) same ∙ first-shown b n (f .system);
         rises = rise-presences b long written named rises;
       };
@@ -232,24 +221,24 @@ module _ {b : List ℕ} {n : ℕ} (long : length b ≡ base-length) (half : Pres
 
   -- ---- what the tests find
 
-  refused : {held : List ℕ} → (Presences-fine b → ⊥) → Gathered b held false
-  refused f = record { fine = decides-no f; holds = λ e. absurd (false≢true e) }
+  pub no-system : (System-first b n → ⊥) → Presences-fine b → ⊥
+  no-system f p = f (found-of p .system)
 
-  pub no-system : {held : List ℕ} → (System-first b n → ⊥) → Gathered b held false
-  no-system f = refused (λ p. f (found-of p .system))
+  pub no-sds : System-first b n → used-sds (schema-of b) 0 ≡ false → Presences-fine b → ⊥
+  no-sds s e p = true≢false (sym (found-of p .rows .in-used 0 (s .some)) ∙ ap (used-sds (schema-of b)) (s .sds) ∙ e)
 
-  pub no-rest : {held : List ℕ} → (Blank-from presences n b → ⊥) → Gathered b held false
-  no-rest f = refused (λ p. f (found-of p .rest))
+  pub no-rest : (Blank-from presences n b → ⊥) → Presences-fine b → ⊥
+  no-rest f p = f (found-of p .rest)
 
-  pub no-sds : {held : List ℕ} → System-first b n → used-sds (schema-of b) 0 ≡ false → Gathered b held false
-  no-sds s e = refused (λ p. true≢false (sym (found-of p .rows .in-used 0 (s .some)) ∙ ap (used-sds (schema-of b)) (s .sds) ∙ e))
+  pub no-rows : (Rows-fine b n → ⊥) → Presences-fine b → ⊥
+  no-rows f p = f (found-of p .rows)
 
-  module _ (s : System-first b n) (rest : Blank-from presences n b) where
-    found-fine : Rows-fine b n → Presences-fine b
-    found-fine r = let f : Found b n = record { rows = r; rest = rest; system = s } in found-presences b long (found-count f) f
+  pub found-fine : System-first b n → Blank-from presences n b → Rows-fine b n → Presences-fine b
+  found-fine s rest r = let f : Found b n = record { rows = r; rest = rest; system = s } in found-presences b long (found-count f) f
 
-    pub gathered : {held : List ℕ} {r : Bool} → Rows-gathered b n held r → Gathered b held r
-    gathered g = record {
-      fine = decides-iff found-fine (λ p. found-of p .rows) (g .fine);
-      holds = λ e. let p = found-fine (g .fine .holds e) in gathers-all long p (fine-count p .is) (g .gathers e);
-    }
+  module _ (p : Presences-fine b) where
+    pub found-holds : {held : List ℕ} → Gathers b n held → Holds b held
+    found-holds g = gathers-all long p (fine-count p .is) g
+
+    pub found-modes : {r : ℕ} → Fields-told b n r → r ≡ 1 → (q : Presence) → q ∈ (schema-of b) .presences → All-modes q
+    found-modes t e q m = let (i, h, one) = presence-in b q m in rw one (t .all e i (omega (arith, fine-count p .is)))

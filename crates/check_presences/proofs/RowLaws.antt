@@ -1,10 +1,10 @@
 -- A presence as its row is written. Assumes nothing.
 use Prim.Native.Nat.{ℕ, suc, _+_, _-_, _<_}
 use native.Mathlib.Omega.{arith}
-use mathlib.Core.Path.{_≡_, refl, sym, ap, _∙_, subst}
+use mathlib.Core.Path.{_≡_, refl, sym, ap, _∙_}
 use mathlib.Core.Logic.{inl, inr, ⊎-elim}
 use mathlib.Core.List.{List, _∷_, _++_, tail-eq-of-cons-eq, append-cancel-right}
-use mathlib.Core.Bool.{Bool, true, cond, _||_}
+use mathlib.Core.Bool.{true, _||_}
 use lib.ListN.{length, getD, take, drop, replicate}
 use lib.Seq.{drop-drop, take-add}
 use borrow.Author.Tests.{eqb-true}
@@ -18,17 +18,16 @@ use Rattle.rules.proofs.01-Lists.{same-bytes-is, same-bytes-refl}
 use Rattle.rules.proofs.03-Names.{blank-is, formed-long}
 use Rattle.rules.proofs.07-Picture.{behind-name}
 use Rattle.rules.specs.Read.{strip, name-offset, type-offset, usage-offset, definition-offset}
-use Rattle.name_fields.specs.Field.{name-field, blank-field}
+use Rattle.name_fields.specs.Field.{name-field}
 use Rattle.name_fields.proofs.NamedFields.{name-field-of, name-field-formed, name-field-padded, formed-first}
 use Rattle.rows.specs.Rows.{part}
-use Rattle.rows.specs.Decides.{Decides}
 use Rattle.rows.proofs.Rows.{part-part}
-use Rattle.rows.proofs.Scan.{length-part, part-cons, zeros-blank}
+use Rattle.rows.proofs.Scan.{part-cons}
 use Rattle.base.specs.Tables.{presences, row-of, shown}
 use Rattle.base.specs.Rows.{presence-at}
 use Rattle.base.specs.Back.{schema-of, presence-shown}
 use Rattle.base.proofs.Shown.{presence-read}
-use Rattle.check_presences.specs.Rows.{Named-fine, tag}
+use Rattle.check_presences.specs.Rows.{Named-fine}
 
 -- what `Named-fine` says of the field, of the name and, where there is none, of the type
 module _ (b : List ℕ) (i : ℕ) (e : Named-fine b i) where
@@ -71,15 +70,6 @@ module _ (b : List ℕ) (long : length b ≡ base-length) (i : ℕ) (h : i < lim
           (from type-offset 2 (omega arith) ∙ ap (λ (l : List ℕ). getD b (presence-at i + type-offset) 0 ∷ l)
           (from usage-offset 1 (omega arith) ∙ ap (λ (l : List ℕ). getD b (presence-at i + usage-offset) 0 ∷ l) (from definition-offset 0 (omega arith))))
 
-  -- whether its field is blank
-  pub zeros-decided : {r : Bool} → r ≡ blank-field (part b (presence-at i + name-offset) (limits .name))
-      → Decides (part b (presence-at i + name-offset) (limits .name) ≡ replicate (limits .name) 0) r
-  zeros-decided {r} =
-      let at = presence-at i + name-offset in
-      let same : at + limits .name - at ≡ limits .name = omega arith in
-      subst (λ (w : ℕ). r ≡ blank-field (part b at w) → Decides (part b at w ≡ replicate w 0) r) same
-      (zeros-blank b at (at + limits .name) r (omega arith) (omega arith))
-
   pub named-written : Named-fine b i → presence-row (shown presences b i) ≡ row-of presences b i
   unfolding presence-row
   named-written e = ap presence-row (presence-read b i) ∙ rw (fine-padded b i e) (sym row-parts)
@@ -103,15 +93,6 @@ name-used b i w e =
     = sym (part-part b (presence-at i) (presences .width) name-offset (limits .name) (omega arith))
     ∙ ap (λ (l : List ℕ). part l name-offset (limits .name)) e in
     formed-first (part b (presence-at i + name-offset) (limits .name)) w (ap (λ (l : List ℕ). getD l 0 0) field)
-
--- its tag, by whether its field is blank
-pub tag-is : (b : List ℕ) (i : ℕ) {r : Bool} → r ≡ blank-field (part b (presence-at i + name-offset) (limits .name)) → (t : Bool) → r ≡ t
-    → cond t (getD b (presence-at i + type-offset) 0) 0 ≡ tag b i
-tag-is b i e t f = ap (λ (u : Bool). cond u (getD b (presence-at i + type-offset) 0) 0) (sym f ∙ e)
-
-pub field-long : (b : List ℕ) (i : ℕ) {f : List ℕ} → length b ≡ base-length → i < limits .presences
-    → f ≡ part b (presence-at i + name-offset) (limits .name) → length f ≡ limits .name
-field-long b i long h e = ap length e ∙ length-part b (presence-at i + name-offset) (limits .name) (omega arith)
 
 -- ---- the field of the name that a fresh base has
 

@@ -1,4 +1,4 @@
--- Words that show which SDSs hold each type, and what a check that gathers them answers.
+-- Words that show which SDSs hold each type, and what a pass that gathers them answers.
 use Prim.Native.Nat.{ℕ, _+_, _<_}
 use mathlib.Core.Path.{_≡_}
 use mathlib.Core.List.{List}
@@ -9,8 +9,6 @@ use Rattle.rules.specs.Read.{type-offset}
 use Rattle.type_set.specs.Set.{bit}
 use Rattle.rows.specs.Decides.{Decides}
 use Rattle.base.specs.Rows.{presence-at}
-use Rattle.check_held.specs.Fine.{Presences-fine}
-use Rattle.check_held.specs.Held.{Holds}
 use Rattle.check_presences.specs.Rows.{Rows-fine}
 
 -- the words have a bit for each of the first n rows, and no other
@@ -25,8 +23,3 @@ pub record Gathers (b : List ℕ) (n : ℕ) (held : List ℕ) : Type 0 where
 pub record Rows-gathered (b : List ℕ) (n : ℕ) (held : List ℕ) (r : Bool) : Type 0 where
   pub fine : Decides (Rows-fine b n) r
   pub gathers : r ≡ true → Gathers b n held
-
--- true where the presences are fine; then the words show what the SDSs hold
-pub record Gathered (b held : List ℕ) (r : Bool) : Type 0 where
-  pub fine : Decides (Presences-fine b) r
-  pub holds : r ≡ true → Holds b held

@@ -14,16 +14,12 @@ use Rattle.rules.specs.01-Lists.{same-bytes, all}
 use Rattle.rules.specs.03-Names.{letter, letter-or-digit, well-formed}
 use Rattle.rules.specs.07-Picture.{pad}
 use Rattle.rules.specs.Read.{strip}
-use Rattle.name_fields.specs.Field.{name-field, blank-field, may-follow, following, Stripped}
+use Rattle.rules.proofs.Bools.{eqb-turned}
+use Rattle.name_fields.specs.Field.{name-field, blank-field, orderly, may-follow, following, Stripped}
 
 -- ---- a byte that is no letter, digit or underscore ends the name
 
--- letters, digits and underscores, and zeros behind them
-unfoldable orderly : List ℕ → Bool
-orderly [] = true
-orderly (c ∷ l) = cond (letter-or-digit c) (orderly l) (blank-field (c ∷ l))
-
-word-filled : (c : ℕ) → letter-or-digit c ≡ true → c ≡ 0 → ⊥
+pub word-filled : (c : ℕ) → letter-or-digit c ≡ true → c ≡ 0 → ⊥
 unfolding letter-or-digit letter
 word-filled c e z = false≢true (rw z at e)
 
@@ -31,7 +27,7 @@ word-no-space : (c : ℕ) → letter-or-digit c ≡ true → c ≡ 32 → ⊥
 unfolding letter-or-digit letter
 word-no-space c e z = false≢true (rw z at e)
 
-zero-no-word : letter-or-digit 0 ≡ false
+pub zero-no-word : letter-or-digit 0 ≡ false
 unfolding letter-or-digit letter
 zero-no-word = refl
 
@@ -39,7 +35,7 @@ zero-no-letter : letter 0 ≡ false
 unfolding letter
 zero-no-letter = refl
 
-letter-word : (c : ℕ) → letter c ≡ true → letter-or-digit c ≡ true
+pub letter-word : (c : ℕ) → letter c ≡ true → letter-or-digit c ≡ true
 unfolding letter-or-digit
 letter-word c e = rw e
 
@@ -70,7 +66,7 @@ stripped-orderly m (suc x ∷ l) h = go (letter-or-digit (suc x)) refl (stripped
     go false e ih = rw (e, eqb·zero-suc x)
 
 -- the first byte is a letter, and the bytes are in order
-named : (l : List ℕ) → length l ≡ 16 → name-field l ≡ (letter (getD l 0 0) && orderly l)
+pub named : (l : List ℕ) → length l ≡ 16 → name-field l ≡ (letter (getD l 0 0) && orderly l)
 unfolding name-field well-formed pad strip
 named [] h = absurd (omega arith)
 named (zero ∷ l) h = rw zero-no-letter
@@ -163,6 +159,9 @@ or-none a b = go (eqb a 0) (eqb 0 b) refl refl
     go true true e f = rw (eqb-true a 0 e, ← eqb-true 0 b f)
     go true false e f = ne-eqb (bitOr a b) 0 (λ z. eqb-false 0 b f (omega (arith, or-add-and a b, and-le-l a b)))
     go false u e f = ne-eqb (bitOr a b) 0 (λ z. eqb-false a 0 e (omega (arith, or-add-and a b, and-le-r a b)))
+
+pub or-zero : (a b : ℕ) → eqb (bitOr a b) 0 ≡ (eqb a 0 && eqb b 0)
+or-zero a b = or-none a b ∙ ap (λ (t : Bool). eqb a 0 && t) (eqb-turned 0 b)
 
 -- what is passed and what is left
 module _ (l : List ℕ) (i bits : ℕ) where

@@ -2,7 +2,7 @@
 use Prim.Native.Nat.{ℕ, _≤_}
 use mathlib.Core.Path.{_≡_}
 use mathlib.Core.List.{List, [], _∷_}
-use mathlib.Core.Bool.{Bool, true, not, _&&_, _||_}
+use mathlib.Core.Bool.{Bool, true, cond, not, _&&_, _||_}
 use lib.Dec.{eqb}
 use lib.ListN.{length, take, replicate}
 use Rattle.rules.specs.01-Lists.{same-bytes}
@@ -28,6 +28,20 @@ may-follow last c =
 unfoldable pub following : ℕ → List ℕ → Bool
 following before [] = true
 following before (c ∷ l) = may-follow before c && following c l
+
+-- a byte that a field can hold
+abbrev pub field-byte : ℕ → Bool
+field-byte c = letter-or-digit c || eqb c 0
+
+-- letters, digits and underscores, and zeros behind them
+unfoldable pub orderly : List ℕ → Bool
+orderly [] = true
+orderly (c ∷ l) = cond (letter-or-digit c) (orderly l) (blank-field (c ∷ l))
+
+-- the bytes behind `last` are such that a field can hold, and behind a zero only zeros
+unfoldable pub standing : ℕ → List ℕ → Bool
+standing last [] = true
+standing last (c ∷ l) = (field-byte c && (not (eqb last 0) || eqb c 0)) && standing c l
 
 -- r bytes of the field are its name
 pub record Stripped (field : List ℕ) (r : ℕ) : Type 0 where

@@ -1,8 +1,11 @@
 // The name in a field of a fixed width: its bytes, and zeros behind them.
 ghost use mathlib.Core.Path.{_≡_};
-ghost use lib.ListN.{length};
+ghost use mathlib.Core.Bool.{cond};
+ghost use Prim.Native.Nat.{_+_, _-_, _≤_};
+ghost use lib.Dec.{eqb, ltb};
+ghost use lib.ListN.{length, getD, take, drop};
 ghost use Rattle.rules.specs.03-Names.{letter};
-ghost use Rattle.name_fields.specs.Field.{name-field, blank-field, Stripped, may-follow, following};
+ghost use Rattle.name_fields.specs.Field.{name-field, blank-field, Stripped, may-follow, following, field-byte, standing};
 use rules::Limits;
 
 // How many bytes of a field are the name: those before its first zero.
@@ -56,12 +59,62 @@ pub fn is_name_field(field: &[u8]) -> bool
     follows(field, b' ')
 }
 
-// Whether it holds no name, told in the same way: a loop over its bytes one by one would have them read so for the order of names too.
-pub fn is_nameless_field(field: &[u8]) -> bool
-    requires { ⌜ length (now field) ≡ 16 ⌝ }
-    ensures { λ r. ⌜ r ≡ blank-field (now (field .entry)) ⌝ }
+// ---- a field that may hold a name or none, with whatever stands before it
+
+// By how much x is above k.
+fn above(x: u8, k: u8) -> u8
+    ensures { λ r. ⌜ r ≡ x - k ⌝ }
 {
-    follows(field, 0)
+    if x > k {
+        return x - k;
+    }
+    0
+}
+
+fn lesser(x: u8, y: u8) -> u8
+    ensures { λ r. ⌜ r ≡ cond (ltb x y) x y ⌝ }
+{
+    if x < y {
+        return x;
+    }
+    y
+}
+
+// 0 where byte c can stand in a field: how far it is from the nearest byte that can, roughly. Made of what a machine does with sixteen
+// bytes at once.
+fn strangeness(c: u8) -> u8
+    ensures { λ r. ⌜ eqb r 0 ≡ field-byte c ⌝ }
+{
+    let letter = above(std::num::wrapping_sub_u8(c | 32, b'a'), 25);
+    let digit = above(std::num::wrapping_sub_u8(c, b'0'), 9);
+    lesser(lesser(letter, digit), lesser(c, c ^ b'_'))
+}
+
+// What stands behind a zero.
+fn behind_zero(last: u8, c: u8) -> u8
+    ensures { λ r. ⌜ r ≡ cond (eqb last 0) c 0 ⌝ }
+{
+    if last == 0 {
+        return c;
+    }
+    0
+}
+
+// Whether the 16 bytes behind the one at `at` are such that a field can hold, and behind a zero only zeros. The byte before a byte is read
+// again, and not kept: so the compiler reads sixteen of either kind at once.
+pub fn stands(base: &[u8], at: usize) -> bool
+    requires { ⌜ at + 17 ≤ length (now base) ⌝ }
+    ensures { λ r. ⌜ r ≡ standing (getD (now (base .entry)) at 0) (take 16 (drop (at + 1) (now (base .entry)))) ⌝ }
+{
+    let mut faults: u8 = 0;
+    let mut i = 0;
+    while i < Limits::NAME {
+        let last = base[at + i];
+        let c = base[at + i + 1];
+        faults |= strangeness(c) | behind_zero(last, c);
+        i += 1;
+    }
+    faults == 0
 }
 
 // Whether a field of any length is zero. No way out of this loop either.

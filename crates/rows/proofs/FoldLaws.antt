@@ -1,24 +1,28 @@
 -- Eight bytes of a number folded at once: none carries into the next, so that each is by itself. Of names the folded bytes stand as the
 -- lowered ones do. Assumes nothing.
-use Prim.Native.Nat.{ℕ, zero, suc, _+_, _*_, _≤_, _<_}
+use Prim.Native.Nat.{ℕ, zero, suc, _+_, _*_, _%_, _^_, _≤_, _<_}
 use native.Mathlib.Omega.{arith}
-use mathlib.Core.Path.{_≡_, refl, sym, ap, _∙_}
+use mathlib.Core.Path.{_≡_, refl, sym, ap, _∙_, subst}
 use mathlib.Core.List.{List, [], _∷_, _++_, map-append}
-use mathlib.Core.Bool.{Bool, true, false, not, _&&_, _||_, true≢false, and-false, and-assoc}
+use mathlib.Core.Bool.{Bool, true, false, not, _&&_, _||_, true≢false, and-assoc}
 use lib.Dec.{leb, ltb, eqb}
 use lib.ListN.{length, getD, take, replicate}
 use lib.Seq.{take-all}
-use lib.Bits.{bitAnd, and-block, and-le-r}
-use borrow.Author.Tests.{leb-true, ltb-true, ltb-false, lt-ltb, lt-leb, eqb-true, eq-eqb, ne-eqb}
+use lib.Bits.{bitAnd, and-block, and-mask}
+use borrow.Author.Tests.{leb-true, ltb-true, ltb-false, lt-ltb, eqb-true, eq-eqb, ne-eqb}
 use Rattle.rules.specs.01-Lists.{same-bytes, bytes-before, all}
 use Rattle.rules.specs.03-Names.{Name, blank, letter, letter-or-digit, well-formed, lower, lowered, same-name}
 use Rattle.rules.specs.07-Picture.{pad}
 use Rattle.rules.proofs.Bools.{or-left, and-both, and-of, same-test}
 use Rattle.rules.proofs.03-Names.{same-is, apart, pad-apart, name-fits, name-letters}
 use Rattle.names.proofs.Laws.{every, every-at}
+use Rattle.name_fields.specs.Field.{field-byte}
+use Rattle.name_fields.proofs.StandLaws.{past-words, byte-low}
 use Rattle.rows.specs.Rows.{part}
-use Rattle.rows.specs.Order.{fold, folded, number, Small, Folded, name-byte, Name-bytes}
-use Rattle.rows.proofs.OrderLaws.{small-rest, number-same, part-append, half-long, half-small}
+use Rattle.rows.specs.Order.{fold, folded, number, Low, Low-name, Folded, Name-bytes}
+use Rattle.rows.proofs.Rows.{part-byte, part-part}
+use Rattle.rows.proofs.Scan.{length-part}
+use Rattle.rows.proofs.OrderLaws.{number-same, part-append, half-long, half-small}
 
 -- ---- all bytes of a number
 
@@ -26,35 +30,49 @@ use Rattle.rows.proofs.OrderLaws.{small-rest, number-same, part-append,
 abbrev all-bytes : ℕ → ℕ → List ℕ → ℕ
 all-bytes x c l = number x (replicate (length l) c)
 
--- one byte more
-fold-block : (x c low one mask : ℕ) → c < 256 → bitAnd (bitAnd (x * 256 + c) (low * 256 + 127) + (one * 256 + 1)) (mask * 256 + 95)
-    ≡ bitAnd (bitAnd x low + one) mask * 256 + fold c
+low-rest : (c : ℕ) (l : List ℕ) → Low (c ∷ l) → Low l
+low-rest c l s i h = s (suc i) (omega arith)
+
+fold-low : (c : ℕ) → c < 128 → fold c ≡ bitAnd (c + 1) 95
 unfolding fold
-fold-block x c low one mask h =
-    let most = and-le-r c 127 in
-    let sum : bitAnd x low * 256 + bitAnd c 127 + (one * 256 + 1) ≡ (bitAnd x low + one) * 256 + (bitAnd c 127 + 1) = omega arith in
-    ap (λ (t : ℕ). bitAnd (t + (one * 256 + 1)) (mask * 256 + 95)) (and-block 8 x low c 127 h (omega arith))
-    ∙ ap (λ (t : ℕ). bitAnd t (mask * 256 + 95)) sum
-    ∙ and-block 8 (bitAnd x low + one) mask (bitAnd c 127 + 1) 95 (omega arith) (omega arith)
+fold-low c h =
+    let same : bitAnd c 127 ≡ c = and-mask c 7 ∙ omega arith in
+    ap (λ (k : ℕ). bitAnd (k + 1) 95) same
 
-fold-number : (l : List ℕ) (x low one mask : ℕ) → Small l
-    → bitAnd (bitAnd (number x l) (all-bytes low 127 l) + all-bytes one 1 l) (all-bytes mask 95 l) ≡ number (bitAnd (bitAnd x low + one) mask) (folded l)
-unfolding number
-fold-number [] x low one mask s = refl
-fold-number (c ∷ l) x low one mask s =
-    fold-number l (x * 256 + c) (low * 256 + 127) (one * 256 + 1) (mask * 256 + 95) (small-rest c l s)
-    ∙ ap (λ (z : ℕ). number z (folded l)) (fold-block x c low one mask (s 0 (omega arith)))
+-- one byte more
+fold-block : (x c one mask : ℕ) → c < 128 → bitAnd (x * 256 + c + (one * 256 + 1)) (mask * 256 + 95) ≡ bitAnd (x + one) mask * 256 + fold c
+fold-block x c one mask h =
+    let sum : x * 256 + c + (one * 256 + 1) ≡ (x + one) * 256 + (c + 1) = omega arith in
+    ap (λ (t : ℕ). bitAnd t (mask * 256 + 95)) sum
+    ∙ and-block 8 (x + one) mask (c + 1) 95 (omega arith) (omega arith)
+    ∙ ap (λ (t : ℕ). bitAnd (x + one) mask * 256 + t) (sym (fold-low c h))
 
-pub folded-word : (w : ℕ) → Folded w (bitAnd (bitAnd w 0x7f7f7f7f7f7f7f7f + 0x0101010101010101) 0x5f5f5f5f5f5f5f5f)
+fold-number : (l : List ℕ) (x one mask : ℕ) → Low l
+    → bitAnd (number x l + all-bytes one 1 l) (all-bytes mask 95 l) ≡ number (bitAnd (x + one) mask) (folded l)
 unfolding number
-folded-word w = record { bytes = λ l e s h. rw h (rw e at (fold-number l 0 0 0 0 s)) }
+fold-number [] x one mask s = refl
+fold-number (c ∷ l) x one mask s =
+    fold-number l (x * 256 + c) (one * 256 + 1) (mask * 256 + 95) (low-rest c l s)
+    ∙ ap (λ (z : ℕ). number z (folded l)) (fold-block x c one mask (s 0 (omega arith)))
+
+-- eight bytes below 128, and one more in each, are no more than eight bytes
+sum-fits : (l : List ℕ) (x one y : ℕ) → Low l → x + one < y → number x l + all-bytes one 1 l < number y (replicate (length l) 0)
+unfolding number
+sum-fits [] x one y s h = h
+sum-fits (c ∷ l) x one y s h =
+    let low = s 0 (omega arith) in
+    sum-fits l (x * 256 + c) (one * 256 + 1) (y * 256 + 0) (low-rest c l s) (omega arith)
+
+pub folded-word : (w r : ℕ) → r ≡ (w + 0x0101010101010101) % 2 ^ 64 → Folded w (bitAnd r 0x5f5f5f5f5f5f5f5f)
+unfolding number
+folded-word w r is = record {
+  bytes = λ l e s h.
+      let fits : w + 0x0101010101010101 < 2 ^ 64 = rw h (rw e at (sum-fits l 0 0 1 s (omega arith))) in
+      let sum : r ≡ number 0 l + 0x0101010101010101 = is ∙ omega arith in
+      ap (λ (t : ℕ). bitAnd t 0x5f5f5f5f5f5f5f5f) sum ∙ rw e at (fold-number l 0 0 0 s);
+}
 
 -- ---- the bytes of names
-
-past-words : (c : ℕ) → 256 ≤ c → letter-or-digit c ≡ false
-unfolding letter-or-digit letter
-past-words c h =
-    simp (lt-leb c 90 (omega arith), lt-leb c 122 (omega arith), lt-leb c 57 (omega arith), ne-eqb c 95 (λ e. omega arith), and-false)
 
 abbrev in-step : ℕ → Bool
 in-step c = not (letter-or-digit c) || (eqb (fold c + 31) (lower c) && leb 48 (lower c))
@@ -64,18 +82,40 @@ every-in-step : every in-step 256 ≡ true
 unfolding fold lower letter-or-digit letter
 every-in-step = refl
 
+low-bytes : (l : List ℕ) → all field-byte l ≡ true → Low l
+unfolding all
+low-bytes [] e i h = absurd (omega arith)
+low-bytes (c ∷ l) e zero h = byte-low c (and-both (field-byte c) (all field-byte l) e .0)
+low-bytes (c ∷ l) e (suc i) h = low-bytes l (and-both (field-byte c) (all field-byte l) e .1) i (omega arith)
+
+-- and so are some of them
+pub low-part : (f : List ℕ) (at n : ℕ) → all field-byte f ≡ true → at + n ≤ length f → Low (part f at n)
+low-part f at n e h i k =
+    let below : i < n = omega (arith, k, length-part f at n h) in
+    rw (part-byte f at n i below) (low-bytes f e (at + i) (omega arith))
+
+-- both halves of a name behind the byte at `at`
+pub low-name : (b : List ℕ) (at : ℕ) → at + 17 ≤ length b → all field-byte (part b (at + 1) 16) ≡ true → Low-name b at
+low-name b at h e =
+    let long = length-part b (at + 1) 16 (omega arith) in
+    let far : at + 1 + 8 ≡ at + 9 = omega arith in
+    let near : at + 1 + 0 ≡ at + 1 = omega arith in record {
+      first = subst (λ (k : ℕ). Low (part b k 8)) near (subst Low (part-part b (at + 1) 16 0 8 (omega arith)) (low-part (part b (at + 1) 16) 0 8 e (omega arith)));
+      second = subst (λ (k : ℕ). Low (part b k 8)) far (subst Low (part-part b (at + 1) 16 8 8 (omega arith)) (low-part (part b (at + 1) 16) 8 8 e (omega arith)));
+    }
+
 -- zero, or some way below its lower case
 data Folds (c : ℕ) : Type 0 where
   end : fold c ≡ 1 → lower c ≡ 0 → Folds c
   word : fold c + 31 ≡ lower c → 48 ≤ lower c → Folds c
 
-folds : (c : ℕ) → name-byte c ≡ true → Folds c
+folds : (c : ℕ) → field-byte c ≡ true → Folds c
 unfolding fold lower
 folds c e = go (ltb c 256) refl (letter-or-digit c) refl
   where
     go : (s : Bool) → ltb c 256 ≡ s → (t : Bool) → letter-or-digit c ≡ t → Folds c
     go s p false q = let zero : c ≡ 0 = eqb-true c 0 (rw q at e) in end (rw zero refl) (rw zero refl)
-    go false p true q = absurd (true≢false (sym q ∙ past-words c (ltb-false c 256 p)))
+    go false p true q = absurd (true≢false (sym q ∙ past-words c (omega (arith, ltb-false c 256 p))))
     go true p true q =
         let (f, l) = and-both (eqb (fold c + 31) (lower c)) (leb 48 (lower c)) (rw q at (every-at in-step 256 every-in-step c (ltb-true c 256 p))) in
         word (eqb-true (fold c + 31) (lower c) f) (leb-true 48 (lower c) l)
@@ -113,24 +153,24 @@ module _ {c d : ℕ} (x : Folds c) (y : Folds d) where
       back (word f l) (end g m) h = absurd (omega arith)
       back (word f l) (word g m) h = omega arith
 
-pub folded-before : (p q : List ℕ) → all name-byte p ≡ true → all name-byte q ≡ true → bytes-before (folded p) (folded q) ≡ bytes-before (lowered p) (lowered q)
+pub folded-before : (p q : List ℕ) → all field-byte p ≡ true → all field-byte q ≡ true → bytes-before (folded p) (folded q) ≡ bytes-before (lowered p) (lowered q)
 unfolding all bytes-before lowered
 folded-before [] [] a b = refl
 folded-before [] (d ∷ q) a b = refl
 folded-before (c ∷ p) [] a b = refl
 folded-before (c ∷ p) (d ∷ q) a b =
-    let (x, u) = and-both (name-byte c) (all name-byte p) a in
-    let (y, v) = and-both (name-byte d) (all name-byte q) b in
+    let (x, u) = and-both (field-byte c) (all field-byte p) a in
+    let (y, v) = and-both (field-byte d) (all field-byte q) b in
     rw (less (folds c x) (folds d y), alike (folds c x) (folds d y), folded-before p q u v)
 
-folded-same : (p q : List ℕ) → all name-byte p ≡ true → all name-byte q ≡ true → same-bytes (folded p) (folded q) ≡ same-bytes (lowered p) (lowered q)
+folded-same : (p q : List ℕ) → all field-byte p ≡ true → all field-byte q ≡ true → same-bytes (folded p) (folded q) ≡ same-bytes (lowered p) (lowered q)
 unfolding all same-bytes lowered
 folded-same [] [] a b = refl
 folded-same [] (d ∷ q) a b = refl
 folded-same (c ∷ p) [] a b = refl
 folded-same (c ∷ p) (d ∷ q) a b =
-    let (x, u) = and-both (name-byte c) (all name-byte p) a in
-    let (y, v) = and-both (name-byte d) (all name-byte q) b in
+    let (x, u) = and-both (field-byte c) (all field-byte p) a in
+    let (y, v) = and-both (field-byte d) (all field-byte q) b in
     rw (alike (folds c x) (folds d y), folded-same p q u v)
 
 -- ---- a name in two halves
@@ -175,21 +215,21 @@ module _ {a b : List ℕ} (x : Name-bytes a) (y : Name-bytes b) (s : (i : ℕ) �
 
 -- ---- names in fields
 
-zeros-pass : (w j : ℕ) → all name-byte (take w (replicate j 0)) ≡ true
+zeros-pass : (w j : ℕ) → all field-byte (take w (replicate j 0)) ≡ true
 unfolding all letter-or-digit letter
 zeros-pass zero j = refl
 zeros-pass (suc w) zero = refl
 zeros-pass (suc w) (suc j) = zeros-pass w j
 
-padded-pass : (n : Name) (w j : ℕ) → all letter-or-digit n ≡ true → all name-byte (take w (n ++ replicate j 0)) ≡ true
+padded-pass : (n : Name) (w j : ℕ) → all letter-or-digit n ≡ true → all field-byte (take w (n ++ replicate j 0)) ≡ true
 unfolding all
 padded-pass [] w j e = zeros-pass w j
 padded-pass (c ∷ n) zero j e = refl
 padded-pass (c ∷ n) (suc w) j e =
     let (x, rest) = and-both (letter-or-digit c) (all letter-or-digit n) e in
-    and-of (name-byte c) (all name-byte (take w (n ++ replicate j 0))) (or-left (letter-or-digit c) (eqb c 0) x) (padded-pass n w j rest)
+    and-of (field-byte c) (all field-byte (take w (n ++ replicate j 0))) (or-left (letter-or-digit c) (eqb c 0) x) (padded-pass n w j rest)
 
-pub pad-pass : (n : Name) → all letter-or-digit n ≡ true → all name-byte (pad 16 n) ≡ true
+pub pad-pass : (n : Name) → all letter-or-digit n ≡ true → all field-byte (pad 16 n) ≡ true
 unfolding pad
 pad-pass n e = padded-pass n 16 16 e
 

@@ -8,7 +8,7 @@ use mathlib.Core.List.{List, [], _∷_, _++_, append-nil, map, map-append}
 use mathlib.Core.Bool.{Bool, true, false, _&&_, _||_, and-false, or-false}
 use lib.Dec.{ltb, eqb}
 use lib.Bits.{bitAnd, and-le-r}
-use lib.ListN.{length, getD, length-map}
+use lib.ListN.{length, getD, length-map, replicate}
 use lib.Pow.{pow-add, pow-mono}
 use borrow.Author.Tests.{ltb-true, ltb-false, lt-ltb, le-ltb, eqb-true, eq-eqb, ne-eqb}
 use Rattle.rules.specs.01-Lists.{same-bytes, bytes-before}
@@ -16,7 +16,7 @@ use Rattle.rules.proofs.Bools.{same-test}
 use Rattle.rules.proofs.01-Lists.{same-bytes-is, same-bytes-refl, before-connected}
 use Rattle.rows.specs.declared.order.Key.{Key}
 use Rattle.rows.specs.Rows.{part, row-at, Rising}
-use Rattle.rows.specs.Order.{fold, folded, front, number, number-passed, Climbs, Small, Folded, numbers-of, Keyed}
+use Rattle.rows.specs.Order.{fold, folded, front, number, number-passed, Climbs, Small, Low, Folded, numbers-of, Keyed}
 use Rattle.rows.proofs.Rows.{part-byte}
 use Rattle.rows.proofs.Scan.{part-cons, length-part}
 use Rattle.rows.proofs.TableLaws.{row-fits}
@@ -25,7 +25,7 @@ pub small-rest : (c : ℕ) (l : List ℕ) → Small (c ∷ l) → Small l
 small-rest c l s i h = s (suc i) (omega arith)
 
 -- a lesser number before as many bytes is a lesser number
-number-less : (a b : List ℕ) (x y : ℕ) → length a ≡ length b → Small a → Small b → x < y → number x a < number y b
+pub number-less : (a b : List ℕ) (x y : ℕ) → length a ≡ length b → Small a → Small b → x < y → number x a < number y b
 unfolding number
 number-less [] [] x y e s t h = h
 number-less [] (d ∷ b) x y e s t h = absurd (omega arith)
@@ -33,6 +33,12 @@ number-less (c ∷ a) [] x y e s t h = absurd (omega arith)
 number-less (c ∷ a) (d ∷ b) x y e s t h =
     let small : c < 256 = s 0 (omega arith) in
     number-less a b (x * 256 + c) (y * 256 + d) (omega arith) (small-rest c a s) (small-rest d b t) (omega arith)
+
+-- and a number is the least before zeros
+pub number-least : (l : List ℕ) (x y : ℕ) → x ≤ y → number x (replicate (length l) 0) ≤ number y l
+unfolding number
+number-least [] x y h = h
+number-least (c ∷ l) x y h = number-least l (x * 256 + 0) (y * 256 + c) (omega arith)
 
 -- bytes that are compared first, and others behind them
 number-before : (a b u v : List ℕ) (x : ℕ) → length a ≡ length b → Small a → Small b
@@ -173,8 +179,8 @@ module _ (b : List ℕ) (at : ℕ) (small : (i : ℕ) → getD b i 0 < 256) (fit
   half-small i h =
       rw (getD-mapped fold (part b at 8) i (omega (arith, h, length-map (part b at 8) fold))) (fold-small (getD (part b at 8) i 0))
 
-  pub half-folded : {w r : ℕ} → w ≡ number 0 (part b at 8) → Folded w r → r ≡ number 0 half
-  half-folded e l = l .bytes (part b at 8) (length-part b at 8 fits) (small-part b at 8 small fits) e
+  pub half-folded : {w r : ℕ} → Low (part b at 8) → w ≡ number 0 (part b at 8) → Folded w r → r ≡ number 0 half
+  half-folded low e l = l .bytes (part b at 8) (length-part b at 8 fits) low e
 
 front-halves : (b : List ℕ) (at : ℕ) → at + 17 ≤ length b → front b at ≡ getD b at 0 ∷ (folded (part b (at + 1) 8) ++ folded (part b (at + 9) 8))
 front-halves b at h =

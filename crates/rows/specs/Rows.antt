@@ -2,9 +2,11 @@
 use Prim.Native.Nat.{ℕ, zero, suc, _+_, _*_, _≤_, _<_}
 use mathlib.Core.Path.{_≡_}
 use mathlib.Core.List.{List, [], _∷_}
-use mathlib.Core.Bool.{true, cond}
+use mathlib.Core.Bool.{Bool, true, cond, _&&_}
+use lib.Dec.{eqb}
 use lib.ListN.{getD, take, drop, replicate}
 use Rattle.rules.specs.01-Lists.{same-bytes, bytes-before}
+use Rattle.name_fields.specs.Field.{blank-field}
 
 -- w bytes from `at` on
 abbrev pub part : List ℕ → ℕ → ℕ → List ℕ
@@ -23,6 +25,15 @@ rows w read (suc n) l = read (take w l) ∷ rows w read n (drop w l)
 unfoldable pub filled : ℕ → ℕ → List ℕ → ℕ
 filled w zero l = 0
 filled w (suc n) l = cond (same-bytes (replicate w 0) (take w l)) 0 (suc (filled w n (drop w l)))
+
+-- n times eight bytes are zero, those at `at` and then those sixteen further on
+unfoldable pub blank-eights : List ℕ → ℕ → ℕ → Bool
+blank-eights b at zero = true
+blank-eights b at (suc n) = blank-eights b at n && blank-field (part b (at + n * 16) 8)
+
+-- no bit of r is set exactly where t is true
+pub record No-bit (t : Bool) (r : ℕ) : Type 0 where
+  pub is : eqb r 0 ≡ t
 
 -- r is the byte that stands at `at`
 pub record Reads (b : List ℕ) (at r : ℕ) : Type 0 where

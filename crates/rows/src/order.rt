@@ -4,7 +4,7 @@ ghost use Prim.Native.Nat.{_+_, _≤_};
 ghost use lib.ListN.{length};
 ghost use Rattle.rules.specs.01-Lists.{bytes-before};
 ghost use Rattle.rows.specs.Rows.{part};
-ghost use Rattle.rows.specs.Order.{folded, number, numbers-of, Keyed, Folded};
+ghost use Rattle.rows.specs.Order.{folded, number, numbers-of, Low, Low-name, Keyed, Folded};
 
 // The 17 bytes of a presence that are compared: its SDS, and its name, less its case, in two numbers.
 pub struct Key {
@@ -28,22 +28,22 @@ fn word(base: &[u8], at: usize) -> u64
 }
 
 // Eight bytes less their case. One more brings the underscore from right before the small letters to where the mask takes it before all
-// letters, as it stands in lower case; bytes that no name has may fall together.
+// letters, as it stands in lower case; bytes that no name has may fall together, and from 128 on carry into the next.
 fn fold8(w: u64) -> u64
     ensures { λ r. ⌜ Folded w r ⌝ }
 {
-    ((w & 0x7f7f_7f7f_7f7f_7f7f) + 0x0101_0101_0101_0101) & 0x5f5f_5f5f_5f5f_5f5f
+    std::num::wrapping_add_u64(w, 0x0101_0101_0101_0101) & 0x5f5f_5f5f_5f5f_5f5f
 }
 
 pub fn folded(base: &[u8], at: usize) -> u64
-    requires { ⌜ at + 8 ≤ length (now base) ⌝ }
+    requires { ⌜ (at + 8 ≤ length (now base)) × Low (part (now base) at 8) ⌝ }
     ensures { λ r. ⌜ r ≡ number 0 (folded (part (now (base .entry)) at 8)) ⌝ }
 {
     fold8(word(base, at))
 }
 
 pub fn key_at(base: &[u8], at: usize) -> Key
-    requires { ⌜ at + 17 ≤ length (now base) ⌝ }
+    requires { ⌜ (at + 17 ≤ length (now base)) × Low-name (now base) at ⌝ }
     ensures { λ r. ⌜ Keyed (now (base .entry)) at r ⌝ }
 {
     Key {

@@ -1,9 +1,11 @@
 -- What the checks decide is together `Sound`, and a sound base has it all: each has a part of `Canonical`, of `Good`, or of both.
 -- Assumes nothing.
 use Prim.Native.Nat.{ℕ}
-use mathlib.Core.Path.{_≡_}
+use mathlib.Core.Path.{_≡_, sym, _∙_}
 use mathlib.Core.List.{List}
 use lib.ListN.{length}
+use Rattle.rules.specs.01-Lists.{_∈_}
+use Rattle.rules.specs.04-Schema.{Kind, Presence}
 use Rattle.rules.specs.07-Picture.{Sound, base-length}
 use Rattle.rules.specs.Parts.{Acyclic, Alike, Parts}
 use Rattle.rules.proofs.05-Descent.{used-below}
@@ -11,6 +13,7 @@ use Rattle.rules.proofs.Parts.{parent-in, parts-of, whole}
 use Rattle.base.specs.Back.{schema-of, Canonical}
 use Rattle.base.proofs.Back.{sound-canonical, sound-good, is-sound}
 use Rattle.lookup.specs.Parents.{Parental}
+use Rattle.check_presences.specs.Fields.{All-modes}
 use Rattle.check_held.specs.Fine.{Sdss-fine, Presences-fine, Types-fine, Applications-fine, Ends-fine}
 
 -- all that is decided
@@ -27,6 +30,13 @@ pub record Decided (b : List ℕ) : Type 0 where
 -- as the check for cycles asks for it
 pub parental : {b : List ℕ} → length b ≡ base-length → Types-fine b → Parental b
 parental long t = record { long = long; type-rows = t .type-rows; parents-objects = λ u a by. t .parents .objects u a (parent-in u a by) }
+
+-- where every presence has all modes, a pair has the same
+pub all-alike : (ks : List Kind) (ps : List Presence) → ((p : Presence) → p ∈ ps → All-modes p) → Alike ks ps
+all-alike ks ps all p q m n d c e = record {
+  usage = all p m .usage ∙ sym (all q n .usage);
+  definition = all p m .definition ∙ sym (all q n .definition);
+}
 
 pub decided-of : {b : List ℕ} → Sound b → Decided b
 decided-of {b} s =

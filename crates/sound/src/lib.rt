@@ -14,9 +14,23 @@ pub fn is_sound(base: &[u8]) -> bool
     if !check_sdss::sdss_fine(base) {
         return false;
     }
-    let mut held = [0u16; Limits::TYPES];
+    // Found by halving: it is right if nothing stands behind n rows that are fine.
     let n = base::used::presences_halved(base);
-    if !check_presences::presences_fine(base, n, &mut held) {
+    if !check_presences::system_first(base, n) {
+        return false;
+    }
+    if !lookup::sdss::is_sds(base, 0) {
+        return false;
+    }
+    if !base::used::no_presence_from(base, n) {
+        return false;
+    }
+    let modes = check_presences::fields_told(base, n);
+    if modes == 0 {
+        return false;
+    }
+    let mut held = [0u16; Limits::TYPES];
+    if !check_presences::rows_fine(base, n, &mut held) {
         return false;
     }
     let types = check_types::types_fine(base, &held);
@@ -33,6 +47,10 @@ pub fn is_sound(base: &[u8]) -> bool
     }
     if !check_ends::ends_fine(base, base::used::ends_halved(base), &held, &mut bytes) {
         return false;
+    }
+    // All presences have all modes.
+    if modes == 1 {
+        return true;
     }
     // What the SDSs hold is no longer asked: the words are used again.
     held = [0u16; Limits::TYPES];

@@ -2,15 +2,19 @@
 use native.Mathlib.Omega.{arith}
 use mathlib.Core.Path.{sym, ap₂, _∙_}
 use lib.Dec.{eqb}
-use Rattle.rows.proofs.FoldLaws.{first-half-other, first-half-same}
+use Rattle.rows.proofs.FoldLaws.{low-part, first-half-other, first-half-same}
 use Rattle.check_sdss.proofs.are_same.Statement.{statement}
 use Rattle.check_sdss.proofs.are_same.Tie as tie
 
 folded-requires : tie.Need-folded-requires
-folded-requires c κs = omega (arith, c .before .before .pre .0 .long)
+folded-requires c κs =
+    let a = c .before .before .pre .0 in
+    (omega (arith, a .long), low-part _ 0 8 (a .each) (omega (arith, a .long)))
 
 folded-requires-2 : tie.Need-folded-requires-2
-folded-requires-2 c κs = omega (arith, c .before .before .before .pre .1 .long)
+folded-requires-2 c κs =
+    let b = c .before .before .before .pre .1 in
+    (omega (arith, b .long), low-part _ 0 8 (b .each) (omega (arith, b .long)))
 
 returns : tie.Need-returns
 returns c =
@@ -21,10 +25,14 @@ returns c =
     (λ e. c .if1 .taken (c .before .before .folded .ensures ∙ e ∙ sym (c .before .folded2 .ensures))))
 
 folded-requires-3 : tie.Need-folded-requires-3
-folded-requires-3 c κs = omega (arith, c .before .before .before .before .before .pre .0 .long)
+folded-requires-3 c κs =
+    let a = c .before .before .before .before .before .pre .0 in
+    (omega (arith, a .long), low-part _ 8 8 (a .each) (omega (arith, a .long)))
 
 folded-requires-4 : tie.Need-folded-requires-4
-folded-requires-4 c κs = omega (arith, c .before .before .before .before .before .before .pre .1 .long)
+folded-requires-4 c κs =
+    let b = c .before .before .before .before .before .before .pre .1 in
+    (omega (arith, b .long), low-part _ 8 8 (b .each) (omega (arith, b .long)))
 
 returns-2 : tie.Need-returns-2
 returns-2 c =

@@ -14,7 +14,7 @@ returns : tie.Need-returns
 returns c =
     let x = c .before .before .before in
     let small = c .before .before .shared-slice-known .given in
-    half-folded (x .args .base .now) (x .args .at) (λ j. small j .fits) (x .pre) (c .before .word .ensures) (c .fold8 .ensures)
+    half-folded (x .args .base .now) (x .args .at) (λ j. small j .fits) (x .pre .0) (x .pre .1) (c .before .word .ensures) (c .fold8 .ensures)
 
 pub folded-spec : {M : Type 1} → statement M
 folded-spec = tie.close (tie.spec word-requires fold8-requires returns)

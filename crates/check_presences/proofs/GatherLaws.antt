@@ -4,28 +4,23 @@ use native.Mathlib.Omega.{arith}
 use mathlib.Core.Path.{_≡_, refl, sym, ap, _∙_, subst}
 use mathlib.Core.Logic.{⊎-elim}
 use mathlib.Core.List.{List}
-use mathlib.Core.Bool.{Bool, true, false, _&&_, false≢true, and-true, and-false}
-use lib.Bits.{bitAnd, bitOr, and-le-l}
+use mathlib.Core.Bool.{true, _&&_, false≢true}
+use lib.Bits.{bitOr}
 use lib.Dec.{eqb}
 use lib.ListN.{length, getD, set, replicate, length-set, length-replicate, getD-replicate}
 use borrow.Author.Count.{below-more}
 use borrow.Author.Tests.{eqb-true, eq-eqb}
 use Rattle.rules.specs.02-Limits.{limits}
-use Rattle.rules.specs.04-Schema.{used-sds}
-use Rattle.rules.specs.07-Picture.{base-length}
 use Rattle.rules.specs.Read.{type-offset}
 use Rattle.rules.proofs.Bools.{or-cases, or-left, or-right, and-both, and-of}
 use Rattle.type_set.specs.Set.{bit}
-use Rattle.type_set.proofs.Bit.{bit-zero, bit-and, bit-mark, word-same}
+use Rattle.type_set.proofs.Bit.{bit-zero, bit-mark}
 use Rattle.base.specs.Rows.{presence-at}
-use Rattle.base.specs.Back.{schema-of}
-use Rattle.lookup.proofs.SdsShown.{used-below}
 use Rattle.check_held.specs.Held.{marked}
 use Rattle.check_held.proofs.WordLaws.{marked-bit, marked-small}
-use Rattle.check_presences.specs.Fields.{Sds-bit, Used-bit}
 use Rattle.check_presences.specs.Gathered.{Gathers}
 
-zero-at : {held : List ℕ} → held ≡ replicate {A = ℕ} (limits .types) 0 → (t : ℕ) → t < 128 → getD held t 0 ≡ 0
+pub zero-at : {held : List ℕ} → held ≡ replicate {A = ℕ} (limits .types) 0 → (t : ℕ) → t < 128 → getD held t 0 ≡ 0
 zero-at e t h = ap (λ (l : List ℕ). getD l t 0) e ∙ getD-replicate {A = ℕ} 128 t 0 0 h
 
 pub zeros-room : (held : List ℕ) → held ≡ replicate {A = ℕ} (limits .types) 0 → length held ≡ limits .types
@@ -80,44 +75,6 @@ gathers-first b held e t d =
 
 -- ---- the bit of an SDS
 
-bit-some : (d : ℕ) → d < 16 → 1 * 2 ^ d % 2 ^ 16 ≡ 0 → ⊥
+pub bit-some : (d : ℕ) → d < 16 → 1 * 2 ^ d % 2 ^ 16 ≡ 0 → ⊥
 bit-some d h e =
     false≢true (sym (bit-zero d) ∙ ap (λ (w : ℕ). bit w d) (sym e) ∙ bit-mark 16 d d h ∙ eq-eqb d d refl)
-
-module _ (b : List ℕ) (long : length b ≡ base-length) where
-  bit-used : {d r : ℕ} → Sds-bit b d r → Used-bit b d r
-  bit-used {d} s = record { some = λ n. s; none = λ z u. bit-some d (used-below b long d u) (sym (s .is) ∙ z) }
-
-  -- that of the row before
-  pub bit-again : {last d r : ℕ} → d ≡ last → Sds-bit b last r → Used-bit b d r
-  bit-again {r = r} e s = subst (λ (k : ℕ). Used-bit b k r) (sym e) (bit-used s)
-
-  pub bit-new : {d : ℕ} → used-sds (schema-of b) d ≡ true → Used-bit b d (1 * 2 ^ d % 2 ^ 16)
-  bit-new u = bit-used (record { used = u; is = refl })
-
-pub bit-none : {b : List ℕ} {d : ℕ} → used-sds (schema-of b) d ≡ false → Used-bit b d 0
-bit-none e = record { some = λ n. absurd (n refl); none = λ z u. false≢true (sym e ∙ u) }
-
--- whether a word has it
-module _ (w d : ℕ) (small : w < 65536) (h : d < 16) where
-  masked : (n : ℕ) → bit (bitAnd w (1 * 2 ^ d % 2 ^ 16)) n ≡ (bit w n && eqb n d)
-  masked n = bit-and w (1 * 2 ^ d % 2 ^ 16) n ∙ ap (λ (t : Bool). bit w n && t) (bit-mark 16 d n h)
-
-  pub bit-lacking : bitAnd w (1 * 2 ^ d % 2 ^ 16) ≡ 0 → bit w d ≡ false
-  bit-lacking e =
-      sym (and-true (bit w d)) ∙ ap (λ (t : Bool). bit w d && t) (sym (eq-eqb d d refl)) ∙ sym (masked d) ∙ ap (λ (v : ℕ). bit v d) e ∙ bit-zero d
-
-  pub bit-there : (bitAnd w (1 * 2 ^ d % 2 ^ 16) ≡ 0 → ⊥) → bit w d ≡ true
-  bit-there n = go (bit w d) refl
-    where
-      each : bit w d ≡ false → (i : ℕ) → i < 16 → bit (bitAnd w (1 * 2 ^ d % 2 ^ 16)) i ≡ bit 0 i
-      each e i k = masked i ∙ here (eqb i d) refl ∙ sym (bit-zero i)
-        where
-          here : (t : Bool) → eqb i d ≡ t → (bit w i && t) ≡ false
-          here true f = rw (eqb-true i d f, e)
-          here false f = and-false (bit w i)
-
-      go : (t : Bool) → bit w d ≡ t → t ≡ true
-      go true e = refl
-      go false e =
-          absurd (n (word-same 16 (bitAnd w (1 * 2 ^ d % 2 ^ 16)) 0 (omega (arith, and-le-l w (1 * 2 ^ d % 2 ^ 16))) (omega arith) (each e)))

@@ -38,7 +38,7 @@ module _ (c : ℕ) (h : c < 256) (f : field-byte c ≡ true) where
   unfolding fold letter-or-digit letter
   zero-folded = rw f at (agree (λ (c : ℕ). field-byte c && eqb (fold c) 1) (λ (c : ℕ). field-byte c && eqb c 0) refl c h)
 
-same-small : (n x : ℕ) → x < 256 → Small (replicate n x)
+pub same-small : (n x : ℕ) → x < 256 → Small (replicate n x)
 same-small n x h i k = rw (getD-replicate {A = ℕ} n i x 0 (omega (arith, k, length-replicate {A = ℕ} n x))) h
 
 -- its bytes can be read less their case

@@ -1,7 +1,10 @@
 pub mod RowLaws
+pub mod CountLaws
+pub mod GatherLaws
 pub mod HalfLaws
 pub mod OrderLaws
-pub mod GatherLaws
+pub mod FloorLaws
 pub mod PassedLaws
+pub mod TailLaws
 pub mod TellLaws
 pub mod PresenceLaws

@@ -1,172 +1,151 @@
--- What the loop over the presences keeps of the rows passed, and what its tests say of the next one. Assumes nothing.
-use Prim.Native.Nat.{ℕ, _+_, _<_}
+-- What the loop over the presences keeps of the rows passed. Assumes nothing.
+use Prim.Native.Nat.{ℕ, _+_, _*_, _%_, _^_, _<_}
 use native.Mathlib.Omega.{arith}
 use mathlib.Core.Path.{_≡_, refl, sym, ap, ap₂, _∙_, subst}
-use mathlib.Core.Logic.{inl}
+use mathlib.Core.Logic.{_⊎_, inl, inr, ⊎-elim}
 use mathlib.Core.List.{List}
-use mathlib.Core.Bool.{Bool, true, false, not, _&&_, _||_, true≢false, false≢true}
+use mathlib.Core.Bool.{Bool, true, false, cond, true≢false, false≢true}
+use lib.Bits.{bitOr}
 use lib.Dec.{ltb}
-use lib.ListN.{length, getD, set, replicate}
+use lib.ListN.{getD, set, replicate}
 use borrow.Author.Count.{below-none, below-more}
-use borrow.Author.Tests.{ltb-true, ltb-false, lt-ltb, le-ltb, eq-eqb, ne-eqb}
+use borrow.Author.Tests.{ltb-true, ltb-false}
 use Rattle.rules.specs.01-Lists.{bytes-before}
 use Rattle.rules.specs.02-Limits.{limits}
 use Rattle.rules.specs.04-Schema.{used-sds}
-use Rattle.rules.specs.07-Picture.{base-length}
 use Rattle.rules.specs.Read.{type-offset}
 use Rattle.type_set.specs.Set.{bit}
-use Rattle.rows.specs.declared.order.Key.{Key}
-use Rattle.rows.specs.Order.{front, numbers-of, Keyed}
+use Rattle.type_set.proofs.Bit.{bit-zero}
 use Rattle.rows.proofs.Decides.{decides-yes, decides-no}
-use Rattle.rows.proofs.OrderLaws.{keyed-before, before-apart, before-alike}
 use Rattle.rows.proofs.Scan.{rising-one, rising-more, rising-not}
 use Rattle.base.specs.Rows.{presence-at}
 use Rattle.base.specs.Back.{schema-of}
 use Rattle.check_held.specs.Held.{marked}
-use Rattle.check_presences.specs.Rows.{Row-fine, System-first, tag, told-apart, Rows-fine}
-use Rattle.check_presences.specs.Fields.{halves, names-before}
-use Rattle.check_presences.specs.Gathered.{Gathers, Rows-gathered}
-use Rattle.check_presences.proofs.GatherLaws.{gathers-first, gathers-more}
-use Rattle.check_presences.proofs.OrderLaws.{told-rows}
+use Rattle.check_presences.specs.declared.Floor.{Floor}
+use Rattle.check_presences.specs.Rows.{Row-fine, System-first, told-apart, Names-rise, Rows-fine}
+use Rattle.check_presences.specs.Fields.{By-itself}
+use Rattle.check_presences.specs.Floor.{Follows, Last}
+use Rattle.check_presences.specs.Gathered.{Gathers, bits-in, Rows-gathered}
+use Rattle.check_presences.proofs.GatherLaws.{zero-at, zeros-room, gathers-first, gathers-more}
+use Rattle.check_presences.proofs.CountLaws.{bits-none, bits-marked}
 use Rattle.check_presences.proofs.RowLaws.{object-named}
 
--- the rows up to row k are fine and gathered, and the key is that of row k
-pub record Passed (b : List ℕ) (k : ℕ) (row : Key) (held : List ℕ) : Type 0 where
-  pub key : Keyed b (presence-at k) row
-  pub fine : Rows-fine b (k + 1)
+-- no two of the first n rows are of one SDS and one type
+abbrev Once-each : List ℕ → ℕ → Type 0
+Once-each b n = (i j : ℕ) → i < j → j < n → getD b (presence-at i) 0 ≡ getD b (presence-at j) 0
+    → getD b (presence-at i + type-offset) 0 ≡ getD b (presence-at j + type-offset) 0 → ⊥
+
+-- as many bits as rows, or fewer, and then some two are
+abbrev Tallied : List ℕ → ℕ → ℕ → Type 0
+Tallied b n bits = ((bits ≡ n) × Once-each b n) ⊎ ((bits < n) × (Once-each b n → ⊥))
+
+-- the rows up to row k are fine, but for two of one type, and gathered, and row k has made the floor
+pub record Passed (b : List ℕ) (k : ℕ) (f : Floor) (held : List ℕ) : Type 0 where
+  pub last : Last b k f
+  pub each : (i : ℕ) → i < k + 1 → Row-fine b i
+  pub in-used : (i : ℕ) → i < k + 1 → used-sds (schema-of b) (getD b (presence-at i) 0) ≡ true
+  pub rise : Names-rise b (k + 1)
   pub gathers : Gathers b (k + 1) held
+  pub tally : Tallied b (k + 1) (bits-in held)
 
 pub rows-refused : {b : List ℕ} {n : ℕ} {held : List ℕ} → (Rows-fine b n → ⊥) → Rows-gathered b n held false
 rows-refused f = record { fine = decides-no f; gathers = λ e. absurd (false≢true e) }
 
-pub passed-first : {b : List ℕ} {n : ℕ} {row : Key} (held : List ℕ) → System-first b n → used-sds (schema-of b) 0 ≡ true
-    → held ≡ replicate {A = ℕ} (limits .types) 0 → Keyed b (presence-at 0) row → Passed b 0 row (set held 0 1)
-passed-first {b} held s u e key = record {
-  key = key;
-  fine = record {
-    each = below-more _ 0 (below-none _) (record {
-      named = inl (object-named _ (s .name));
-      small = omega (arith, s .type);
-      known = record { usage = omega (arith, s .usage); definition = omega (arith, s .definition) };
-    });
-    in-used = below-more _ 0 (below-none _) (ap (used-sds (schema-of b)) (s .sds) ∙ u);
-    rise = rising-one (told-apart b);
-    once = λ i j l h. absurd (omega arith);
-  };
-  gathers = gathers-first b held e (s .type) (s .sds);
-}
+-- one bit
+first-bit : (held : List ℕ) → held ≡ replicate {A = ℕ} (limits .types) 0 → bits-in (set held 0 1) ≡ 1
+first-bit held e =
+    let none = zero-at e 0 (omega arith) in
+    let one : set held 0 1 ≡ marked held 0 0 = sym (ap (λ (w : ℕ). set held 0 (bitOr w (1 * 2 ^ 0 % 2 ^ 16))) none) in
+    let new : bit (getD held 0 0) 0 ≡ false = ap (λ (w : ℕ). bit w 0) none ∙ bit-zero 0 in
+    ap bits-in one
+    ∙ bits-marked held 0 0 (omega (arith, zeros-room held e)) (omega arith)
+    ∙ ap₂ (λ (x : ℕ) (t : Bool). x + cond t 0 1) (ap bits-in e ∙ bits-none 128) new
 
--- all are passed
-pub passed-all : {b held : List ℕ} {n k : ℕ} {row : Key} → Passed b k row held → n ≡ k + 1 → Rows-gathered b n held true
-passed-all {b} {held} p e =
-    subst (λ (m : ℕ). Rows-gathered b m held true) (sym e) (record { fine = decides-yes (p .fine); gathers = λ _. p .gathers })
+pub passed-first : {b : List ℕ} {n : ℕ} {f : Floor} (held : List ℕ) → System-first b n → used-sds (schema-of b) 0 ≡ true
+    → held ≡ replicate {A = ℕ} (limits .types) 0 → Last b 0 f → Passed b 0 f (set held 0 1)
+passed-first {b} held s u e last = record {
+  last = last;
+  each = below-more _ 0 (below-none _) (record {
+    named = inl (object-named _ (s .name));
+    small = omega (arith, s .type);
+    known = record { usage = omega (arith, s .usage); definition = omega (arith, s .definition) };
+  });
+  in-used = below-more _ 0 (below-none _) (ap (used-sds (schema-of b)) (s .sds) ∙ u);
+  rise = rising-one (told-apart b);
+  gathers = gathers-first b held e (s .type) (s .sds);
+  tally = inl (first-bit held e, λ i j l h. absurd (omega arith));
+}
 
 -- ---- the next row
 
--- two rows stand by their keys, and where these are the same by their tags
-pub keys-before : (b : List ℕ) {i j : ℕ} {row next : Key} → length b ≡ base-length → ((k : ℕ) → getD b k 0 < 256) → i < limits .presences
-    → j < limits .presences → Keyed b (presence-at i) row → Keyed b (presence-at j) next → bytes-before (told-apart b i) (told-apart b j)
-    ≡ (bytes-before (numbers-of row) (numbers-of next) || (not (bytes-before (numbers-of next) (numbers-of row)) && ltb (tag b i) (tag b j)))
-keys-before b {i} {j} {row} {next} long bytes h k x y =
-    told-rows b long i j h k ∙ (λ z. keys h k x y z || (not (keys k h y x z) && ltb (tag b i) (tag b j)))
-  where
-    keys : {i j : ℕ} {row next : Key} → i < limits .presences → j < limits .presences → Keyed b (presence-at i) row → Keyed b (presence-at j) next
-        → bytes-before (front b (presence-at i)) (front b (presence-at j)) ≡ bytes-before (numbers-of row) (numbers-of next)
-    keys {i} {j} {row} {next} h k x y = keyed-before b (presence-at i) (presence-at j) row next bytes (omega arith) (omega arith) x y
+module _ {b held : List ℕ} (k : ℕ) (g : Gathers b (k + 1) held) (t d : ℕ) (is-t : t ≡ getD b (presence-at (k + 1) + type-offset) 0)
+    (is-d : d ≡ getD b (presence-at (k + 1)) 0) (ht : t < 128) (hd : d < 16) where
+  -- a bit that is there already: an SDS holds a type twice
+  twice : bit (getD held t 0) d ≡ true → Once-each b (k + 1 + 1) → ⊥
+  twice q once = let (i, h, s, e) = g .marks t d ht hd q in once i (k + 1) h (omega arith) (s ∙ is-d) (e ∙ is-t)
 
--- where the SDSs differ these decide, and where not the names
-module _ (b : List ℕ) {i j : ℕ} {row next : Key} (long : length b ≡ base-length) (bytes : (k : ℕ) → getD b k 0 < 256) (h : i < limits .presences)
-    (k : j < limits .presences) (x : Keyed b (presence-at i) row) (y : Keyed b (presence-at j) next) where
-  pub sds-apart : {d e : ℕ} → d ≡ getD b (presence-at i) 0 → e ≡ getD b (presence-at j) 0 → (d ≡ e → ⊥)
-      → ltb d e ≡ bytes-before (told-apart b i) (told-apart b j)
-  sds-apart p q n = ap₂ ltb p q ∙ sym (before-apart (getD b (presence-at i) 0) (getD b (presence-at j) 0) _ _ (λ z. n (p ∙ z ∙ sym q)))
+  -- and one that is not
+  once-more : bit (getD held t 0) d ≡ false → Once-each b (k + 1) → Once-each b (k + 1 + 1)
+  once-more new once i j l h s y = go (ltb j (k + 1)) refl
+    where
+      go : (r : Bool) → ltb j (k + 1) ≡ r → ⊥
+      go true q = once i j l (ltb-true j (k + 1) q) s y
+      go false q =
+          let here : j ≡ k + 1 = omega (arith, ltb-false j (k + 1) q) in
+          let same-d : getD b (presence-at i) 0 ≡ d = s ∙ ap (λ (m : ℕ). getD b (presence-at m) 0) here ∙ sym is-d in
+          let same-t : getD b (presence-at i + type-offset) 0 ≡ t = y ∙ ap (λ (m : ℕ). getD b (presence-at m + type-offset) 0) here ∙ sym is-t in
+          true≢false (sym (g .marked i (omega arith)) ∙ ap₂ (λ (u e : ℕ). bit (getD held u 0) e) same-t same-d ∙ new)
 
-  pub sds-same : getD b (presence-at i) 0 ≡ getD b (presence-at j) 0 → names-before b i j row next ≡ bytes-before (told-apart b i) (told-apart b j)
-  sds-same e =
-      let same : row .sds ≡ next .sds = x .sds ∙ e ∙ sym (y .sds) in
-      sym (λ z. before-alike (row .sds) (next .sds) (halves row) (halves next) same z
-      || (not (before-alike (next .sds) (row .sds) (halves next) (halves row) (sym same) z) && ltb (tag b i) (tag b j)))
-      ∙ sym (keys-before b long bytes h k x y)
+  tally-more : Tallied b (k + 1) (bits-in held) → Tallied b (k + 1 + 1) (bits-in (marked held t d))
+  tally-more tally = go (bit (getD held t 0) d) refl
+    where
+      bits : {r : Bool} → bit (getD held t 0) d ≡ r → bits-in (marked held t d) ≡ bits-in held + cond r 0 1
+      bits e = bits-marked held t d (omega (arith, g .room)) hd ∙ ap (λ (r : Bool). bits-in held + cond r 0 1) e
 
--- names by their halves
-module _ (b : List ℕ) (i j : ℕ) (row next : Key) where
-  pub first-less : row .first < next .first → true ≡ names-before b i j row next
-  unfolding bytes-before
-  first-less l = rw (lt-ltb (row .first) (next .first) l)
+      go : (r : Bool) → bit (getD held t 0) d ≡ r → Tallied b (k + 1 + 1) (bits-in (marked held t d))
+      go true e = inr (⊎-elim (λ x. omega (arith, x .0, bits e)) (λ x. omega (arith, x .0, bits e)) tally, twice e)
+      go false e =
+          ⊎-elim
+          (λ x. inl (omega (arith, x .0, bits e), once-more e (x .1)))
+          (λ x. inr (omega (arith, x .0, bits e), λ once. x .1 (λ i j l h. once i j l (omega arith))))
+          tally
 
-  pub first-more : next .first < row .first → false ≡ names-before b i j row next
-  unfolding bytes-before
-  first-more l =
-      rw (le-ltb (row .first) (next .first) (omega arith), ne-eqb (row .first) (next .first) (λ e. omega arith), lt-ltb (next .first) (row .first) l)
-
-  module _ (e : row .first ≡ next .first) where
-    pub second-less : row .second < next .second → true ≡ names-before b i j row next
-    unfolding bytes-before
-    second-less l =
-        rw (le-ltb (row .first) (next .first) (omega arith), eq-eqb (row .first) (next .first) e, lt-ltb (row .second) (next .second) l)
-
-    pub second-more : next .second < row .second → false ≡ names-before b i j row next
-    unfolding bytes-before
-    second-more l =
-        rw (
-          le-ltb (row .first) (next .first) (omega arith),
-          eq-eqb (row .first) (next .first) e,
-          le-ltb (row .second) (next .second) (omega arith),
-          ne-eqb (row .second) (next .second) (λ z. omega arith),
-          le-ltb (next .first) (row .first) (omega arith),
-          eq-eqb (next .first) (row .first) (sym e),
-          lt-ltb (next .second) (row .second) l,
-        )
-
-    pub halves-same : row .second ≡ next .second → ltb (tag b i) (tag b j) ≡ names-before b i j row next
-    unfolding bytes-before
-    halves-same l =
-        rw (
-          le-ltb (row .first) (next .first) (omega arith),
-          eq-eqb (row .first) (next .first) e,
-          le-ltb (row .second) (next .second) (omega arith),
-          eq-eqb (row .second) (next .second) l,
-          le-ltb (next .first) (row .first) (omega arith),
-          eq-eqb (next .first) (row .first) (sym e),
-          le-ltb (next .second) (row .second) (omega arith),
-          eq-eqb (next .second) (row .second) (sym l),
-        )
-
--- the rows up to row k are passed, there is a next one, and `next` is its key
-pub record Next (b : List ℕ) (n k : ℕ) (row : Key) (held : List ℕ) (next : Key) : Type 0 where
-  pub passed : Passed b k row held
-  pub below : k + 1 < n
-  pub key : Keyed b (presence-at (k + 1)) next
-
-module _ {b held : List ℕ} {n k : ℕ} {row next : Key} (x : Next b n k row held next) where
-  pub not-rising : {r : Bool} → r ≡ bytes-before (told-apart b k) (told-apart b (k + 1)) → r ≡ false → Rows-fine b n → ⊥
-  not-rising e f fine = rising-not (told-apart b) k n (omega (arith, x .below)) (sym e ∙ f) (fine .rise)
-
-  module _ (t d : ℕ) (is-t : t ≡ getD b (presence-at (k + 1) + type-offset) 0) (is-d : d ≡ next .sds) (ht : t < 128) (hd : d < 16) where
-    -- a bit that is there already: an SDS holds a type twice
-    pub held-twice : bit (getD held t 0) d ≡ true → Rows-fine b n → ⊥
-    held-twice q fine =
-        let (i, h, s, e) = x .passed .gathers .marks t d ht hd q in
-        fine .once i (k + 1) h (x .below) (s ∙ is-d ∙ x .key .sds) (e ∙ is-t)
-
-    pub passed-more : {r : Bool} → r ≡ bytes-before (told-apart b k) (told-apart b (k + 1)) → r ≡ true → used-sds (schema-of b) d ≡ true
-        → Row-fine b (k + 1) → bit (getD held t 0) d ≡ false → Passed b (k + 1) next (marked held t d)
-    passed-more e f used fine new = record {
-      key = x .key;
-      fine = record {
-        each = below-more _ (k + 1) (x .passed .fine .each) fine;
-        in-used = below-more _ (k + 1) (x .passed .fine .in-used) (ap (used-sds (schema-of b)) (sym (x .key .sds) ∙ sym is-d) ∙ used);
-        rise = rising-more (told-apart b) k (x .passed .fine .rise) (sym e ∙ f);
-        once = λ i j l h s y. go i j l h s y (ltb j (k + 1)) refl;
-      };
-      gathers = gathers-more (x .passed .gathers) t d is-t (is-d ∙ x .key .sds) ht hd;
+pub passed-more : {b held : List ℕ} {k : ℕ} {f next : Floor} → Passed b k f held → Follows b k (k + 1) → Last b (k + 1) next → By-itself b (k + 1)
+    → (t d : ℕ) → t ≡ getD b (presence-at (k + 1) + type-offset) 0 → d ≡ getD b (presence-at (k + 1)) 0 → d < 16
+    → Passed b (k + 1) next (marked held t d)
+passed-more {b} {held} {k} p follows last fine t d is-t is-d hd =
+    let ht : t < 128 = omega (arith, is-t, fine .small) in record {
+      last = last;
+      each = below-more _ (k + 1) (p .each) (record { named = follows .named; small = fine .small; known = fine .known });
+      in-used = below-more _ (k + 1) (p .in-used) (follows .used);
+      rise = rising-more (told-apart b) k (p .rise) (follows .behind);
+      gathers = gathers-more (p .gathers) t d is-t is-d ht hd;
+      tally = tally-more k (p .gathers) t d is-t is-d ht hd (p .tally);
     }
-      where
-        go : (i j : ℕ) → i < j → j < k + 1 + 1 → getD b (presence-at i) 0 ≡ getD b (presence-at j) 0
-            → getD b (presence-at i + type-offset) 0 ≡ getD b (presence-at j + type-offset) 0 → (r : Bool) → ltb j (k + 1) ≡ r → ⊥
-        go i j l h s y true q = x .passed .fine .once i j l (ltb-true j (k + 1) q) s y
-        go i j l h s y false q =
-            let here : j ≡ k + 1 = omega (arith, ltb-false j (k + 1) q) in
-            let same-d : getD b (presence-at i) 0 ≡ d = s ∙ ap (λ (m : ℕ). getD b (presence-at m) 0) here ∙ sym (is-d ∙ x .key .sds) in
-            let same-t : getD b (presence-at i + type-offset) 0 ≡ t = y ∙ ap (λ (m : ℕ). getD b (presence-at m + type-offset) 0) here ∙ sym is-t in
-            true≢false (sym (x .passed .gathers .marked i (omega arith)) ∙ ap₂ (λ (u e : ℕ). bit (getD held u 0) e) same-t same-d ∙ new)
+
+-- rows that are fine follow each other
+pub fine-follows : {b : List ℕ} {n : ℕ} (k : ℕ) → k + 1 < n → Rows-fine b n → Follows b k (k + 1)
+fine-follows {b} {n} k h f = record {
+  named = f .each (k + 1) h .named;
+  used = f .in-used (k + 1) h;
+  behind = go (bytes-before (told-apart b k) (told-apart b (k + 1))) refl;
+}
+  where
+    go : (r : Bool) → bytes-before (told-apart b k) (told-apart b (k + 1)) ≡ r → r ≡ true
+    go true e = refl
+    go false e = absurd (rising-not (told-apart b) k n (omega arith) e (f .rise))
+
+-- ---- all are passed
+
+module _ {b held : List ℕ} {n k : ℕ} {f : Floor} (p : Passed b k f held) (e : n ≡ k + 1) where
+  pub passed-all : bits-in held ≡ n → Rows-gathered b n held true
+  passed-all all =
+      let once : Once-each b (k + 1) = ⊎-elim (λ x. x .1) (λ x. absurd (omega (arith, x .0))) (p .tally) in
+      subst (λ (m : ℕ). Rows-gathered b m held true) (sym e) (record {
+        fine = decides-yes (record { each = p .each; in-used = p .in-used; rise = p .rise; once = once });
+        gathers = λ _. p .gathers;
+      })
+
+  pub passed-twice : (bits-in held ≡ n → ⊥) → Rows-gathered b n held false
+  passed-twice x =
+      rows-refused (λ fine. ⊎-elim (λ y. x (y .0 ∙ sym e)) (λ y. y .1 (λ i j l h. fine .once i j l (omega arith))) (p .tally))

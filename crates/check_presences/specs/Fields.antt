@@ -1,4 +1,4 @@
--- What the two passes over the presences look at: fields and modes row by row, and rows beside each other.
+-- What the two passes over the presences look at: fields, types and modes row by row, and rows beside each other.
 use Prim.Native.Nat.{ℕ, _+_, _*_, _%_, _^_, _<_}
 use mathlib.Core.Path.{_≡_}
 use mathlib.Core.List.{List, [], _∷_}
@@ -9,7 +9,7 @@ use Rattle.rules.specs.01-Lists.{bytes-before}
 use Rattle.rules.specs.02-Limits.{limits}
 use Rattle.rules.specs.04-Schema.{Presence, all-modes, used-sds}
 use Rattle.rules.specs.06-Good.{Known-modes}
-use Rattle.rules.specs.Read.{name-offset, usage-offset, definition-offset}
+use Rattle.rules.specs.Read.{name-offset, type-offset, usage-offset, definition-offset}
 use Rattle.name_fields.specs.Field.{orderly}
 use Rattle.rows.specs.declared.order.Key.{Key}
 use Rattle.rows.specs.Rows.{part}
@@ -20,17 +20,20 @@ use Rattle.check_presences.specs.Rows.{tag, Rows-fine}
 
 -- ---- a row by itself
 
--- its modes, definition above usage
-abbrev pub modes-of : List ℕ → ℕ → ℕ
-modes-of b i = getD b (presence-at i + definition-offset) 0 * 256 + getD b (presence-at i + usage-offset) 0
+-- the last byte of its name, its type, usage and definition, in one number, the lowest first
+abbrev pub tail-of : List ℕ → ℕ → ℕ
+tail-of b i =
+    getD b (presence-at i + limits .name) 0 + getD b (presence-at i + type-offset) 0 * 256 + getD b (presence-at i + usage-offset) 0 * 65536
+    + getD b (presence-at i + definition-offset) 0 * 16777216
 
 -- its field holds letters, digits and underscores, and zeros behind them
 abbrev pub Field-fine : List ℕ → ℕ → Type 0
 Field-fine b i = orderly (part b (presence-at i + name-offset) (limits .name)) ≡ true
 
--- and its modes are some of the five
+-- its type is one that there can be, and its modes are some of the five
 pub record By-itself (b : List ℕ) (i : ℕ) : Type 0 where
   pub field : Field-fine b i
+  pub small : getD b (presence-at i + type-offset) 0 < limits .types
   pub known : Known-modes (presence-shown b i)
 
 pub record All-modes (p : Presence) : Type 0 where
@@ -47,6 +50,9 @@ pub record Fields-told (b : List ℕ) (n r : ℕ) : Type 0 where
 abbrev pub first-half : List ℕ → ℕ → ℕ
 first-half b i = number 0 (folded (part b (presence-at i + name-offset) 8))
 
+abbrev pub second-half : List ℕ → ℕ → ℕ
+second-half b i = number 0 (folded (part b (presence-at i + 9) 8))
+
 -- ---- two rows
 
 abbrev pub halves : Key → List ℕ
@@ -62,8 +68,3 @@ names-before b last i row next =
 pub record Sds-bit (b : List ℕ) (d r : ℕ) : Type 0 where
   pub used : used-sds (schema-of b) d ≡ true
   pub is : r ≡ 1 * 2 ^ d % 2 ^ 16
-
--- or 0, where the SDS is not used
-pub record Used-bit (b : List ℕ) (d r : ℕ) : Type 0 where
-  pub some : (r ≡ 0 → ⊥) → Sds-bit b d r
-  pub none : r ≡ 0 → used-sds (schema-of b) d ≡ true → ⊥

@@ -1,8 +1,9 @@
 -- Words that show which SDSs hold each type, and what a pass that gathers them answers.
 use Prim.Native.Nat.{ℕ, _+_, _<_}
 use mathlib.Core.Path.{_≡_}
-use mathlib.Core.List.{List}
+use mathlib.Core.List.{List, [], _∷_}
 use mathlib.Core.Bool.{Bool, true}
+use lib.Count.{ones}
 use lib.ListN.{length, getD}
 use Rattle.rules.specs.02-Limits.{limits}
 use Rattle.rules.specs.Read.{type-offset}
@@ -18,6 +19,11 @@ pub record Gathers (b : List ℕ) (n : ℕ) (held : List ℕ) : Type 0 where
   pub marked : (i : ℕ) → i < n → bit (getD held (getD b (presence-at i + type-offset) 0) 0) (getD b (presence-at i) 0) ≡ true
   pub marks : (t d : ℕ) → t < limits .types → d < limits .sdss → bit (getD held t 0) d ≡ true
       → (i : ℕ) × (i < n) × (getD b (presence-at i) 0 ≡ d) × (getD b (presence-at i + type-offset) 0 ≡ t)
+
+-- how many bits words have
+unfoldable pub bits-in : List ℕ → ℕ
+bits-in [] = 0
+bits-in (w ∷ l) = ones w + bits-in l
 
 -- true where the first n rows are fine; then the words are theirs
 pub record Rows-gathered (b : List ℕ) (n : ℕ) (held : List ℕ) (r : Bool) : Type 0 where

@@ -5,7 +5,7 @@ use mathlib.Core.Path.{_≡_, refl, sym, ap, ap₂, _∙_}
 use mathlib.Core.List.{List, [], _∷_}
 use mathlib.Core.Bool.{Bool, true, false, cond, not, _&&_, _||_, and-true, and-false, and-assoc, false≢true}
 use lib.Dec.{eqb, ltb, eqb·zero-suc, eqb·suc-zero}
-use lib.ListN.{length, getD, take, drop}
+use lib.ListN.{length, getD, set, take, drop}
 use lib.Seq.{drop-cons}
 use lib.Bits.{bitOr, bitXor, or-lt}
 use borrow.Author.Tests.{lt-leb, ltb-true, ltb-false, eqb-true, ne-eqb}
@@ -13,7 +13,7 @@ use Rattle.rules.specs.01-Lists.{same-bytes, all}
 use Rattle.rules.specs.03-Names.{letter, letter-or-digit}
 use Rattle.rules.proofs.Bools.{and-both, eqb-turned}
 use Rattle.names.proofs.Laws.{agree}
-use Rattle.name_fields.specs.Field.{blank-field, field-byte, orderly, standing}
+use Rattle.name_fields.specs.Field.{blank-field, field-byte, may-stand, orderly, standing}
 use Rattle.name_fields.proofs.FieldLaws.{or-zero, zero-no-word, word-filled}
 
 -- ---- one byte
@@ -59,7 +59,7 @@ byte-low c e = go (ltb c 128) refl
 -- ---- one behind the other
 
 -- two bytes of which the one is 0 where c can stand, and the other where it may stand behind `last`
-both-fine : (last c s z : ℕ) → eqb s 0 ≡ field-byte c → z ≡ cond (eqb last 0) c 0 → eqb (bitOr s z) 0 ≡ (field-byte c && (not (eqb last 0) || eqb c 0))
+pub both-fine : (last c s z : ℕ) → eqb s 0 ≡ field-byte c → z ≡ cond (eqb last 0) c 0 → eqb (bitOr s z) 0 ≡ may-stand last c
 both-fine last c s z es ez = or-zero s z ∙ ap₂ _&&_ es (ap (λ (k : ℕ). eqb k 0) ez ∙ go (eqb last 0))
   where
     go : (t : Bool) → eqb (cond t c 0) 0 ≡ (not t || eqb c 0)
@@ -76,28 +76,43 @@ stand-none b at =
     let same : at ≡ at + 0 = omega arith in
     ap (λ (k : ℕ). standing (getD b k 0) (take 16 (drop (k + 1) b))) same
 
-pub stand-more : (b : List ℕ) (at i faults s z : ℕ) → at + 17 ≤ length b → i < 16 → eqb s 0 ≡ field-byte (getD b (at + i + 1) 0)
-    → z ≡ cond (eqb (getD b (at + i) 0) 0) (getD b (at + i + 1) 0) 0
-    → (eqb faults 0 && left b at i) ≡ (eqb (bitOr faults (bitOr s z)) 0 && left b at (i + 1))
+stand-more : (b : List ℕ) (at i : ℕ) (t : Bool) → at + 17 ≤ length b → i < 16
+    → (t && left b at i) ≡ ((t && may-stand (getD b (at + i) 0) (getD b (at + i + 1) 0)) && left b at (i + 1))
 unfolding standing
-stand-more b at i faults s z h k es ez =
-    let last = getD b (at + i) 0 in
-    let c = getD b (at + i + 1) 0 in
+stand-more b at i t h k =
+    let fine = may-stand (getD b (at + i) 0) (getD b (at + i + 1) 0) in
     let rest : ℕ = 16 - (i + 1) in
     let more : 16 - i ≡ suc rest = omega arith in
     let on : suc (at + i + 1) ≡ at + (i + 1) + 1 = omega arith in
     let same : at + i + 1 ≡ at + (i + 1) = omega arith in
-    let fine : Bool = field-byte c && (not (eqb last 0) || eqb c 0) in
-    ap (λ (t : Bool). eqb faults 0 && t) (rw (more, drop-cons b (at + i + 1) 0 (omega arith), on))
-    ∙ sym (and-assoc (eqb faults 0) fine (standing c (take rest (drop (at + (i + 1) + 1) b))))
-    ∙ ap₂ (λ (t : Bool) (k : ℕ). t && standing (getD b k 0) (take rest (drop (at + (i + 1) + 1) b)))
-    (ap (λ (t : Bool). eqb faults 0 && t) (sym (both-fine last c s z es ez)) ∙ sym (or-zero faults (bitOr s z))) same
+    ap (λ (u : Bool). t && u) (rw (more, drop-cons b (at + i + 1) 0 (omega arith), on))
+    ∙ sym (and-assoc t fine (standing (getD b (at + i + 1) 0) (take rest (drop (at + (i + 1) + 1) b))))
+    ∙ ap (λ (k : ℕ). (t && fine) && standing (getD b k 0) (take rest (drop (at + (i + 1) + 1) b))) same
 
-pub stand-end : (b : List ℕ) (at i faults : ℕ) → 16 ≤ i → (eqb faults 0 && left b at i) ≡ eqb faults 0
+pub stand-end : (b : List ℕ) (at i : ℕ) (t : Bool) → 16 ≤ i → (t && left b at i) ≡ t
 unfolding standing
-stand-end b at i faults h =
+stand-end b at i t h =
     let none : 16 - i ≡ 0 = omega arith in
-    rw (none) (and-true (eqb faults 0))
+    rw (none) (and-true t)
+
+-- a fault is added to one of the faults
+fault-set : (l : List ℕ) (i x : ℕ) → i < length l → blank-field (set l i (bitOr (getD l i 0) x)) ≡ (blank-field l && eqb x 0)
+unfolding blank-field same-bytes
+fault-set [] i x h = absurd (omega arith)
+fault-set (y ∷ l) zero x h = rw (eqb-turned 0 (bitOr y x), or-zero y x, eqb-turned 0 y) (go (eqb y 0) (eqb x 0) (blank-field l))
+  where
+    go : (t u v : Bool) → ((t && u) && v) ≡ ((t && v) && u)
+    go true true v = sym (and-true v)
+    go true false v = sym (and-false v)
+    go false u v = refl
+fault-set (y ∷ l) (suc i) x h = ap (λ (t : Bool). eqb 0 y && t) (fault-set l i x (omega arith)) ∙ sym (and-assoc (eqb 0 y) (blank-field l) (eqb x 0))
+
+pub gather-more : (b l : List ℕ) (at i x : ℕ) → at + 17 ≤ length b → length l ≡ 16 → i < 16
+    → eqb x 0 ≡ may-stand (getD b (at + i) 0) (getD b (at + i + 1) 0)
+    → (blank-field l && left b at i) ≡ (blank-field (set l i (bitOr (getD l i 0) x)) && left b at (i + 1))
+gather-more b l at i x h long k e =
+    stand-more b at i (blank-field l) h k
+    ∙ ap (λ (t : Bool). t && left b at (i + 1)) (ap (λ (t : Bool). blank-field l && t) (sym e) ∙ sym (fault-set l i x (omega arith)))
 
 -- ---- what stands so is a name that need not begin with a letter, or none
 
@@ -113,7 +128,7 @@ stand-filled last [] n = refl
 stand-filled last (c ∷ l) n = go (letter-or-digit c) refl (eqb c 0) refl (stand-filled c l)
   where
     go : (w : Bool) → letter-or-digit c ≡ w → (z : Bool) → eqb c 0 ≡ z → ((c ≡ 0 → ⊥) → standing c l ≡ orderly l)
-        → ((field-byte c && (not (eqb last 0) || eqb c 0)) && standing c l) ≡ cond (letter-or-digit c) (orderly l) (eqb 0 c && blank-field l)
+        → (may-stand last c && standing c l) ≡ cond (letter-or-digit c) (orderly l) (eqb 0 c && blank-field l)
     go true e z f ih = rw (e, ne-eqb last 0 n) (ih (word-filled c e))
     go false e true f ih = rw (e, eqb-true c 0 f, ne-eqb last 0 n) (stand-zero l)
     go false e false f ih = rw (e, f, eqb-turned 0 c, f)

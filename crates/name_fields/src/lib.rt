@@ -3,9 +3,9 @@ ghost use mathlib.Core.Path.{_≡_};
 ghost use mathlib.Core.Bool.{cond};
 ghost use Prim.Native.Nat.{_+_, _-_, _≤_};
 ghost use lib.Dec.{eqb, ltb};
-ghost use lib.ListN.{length, getD, take, drop};
+ghost use lib.ListN.{length};
 ghost use Rattle.rules.specs.03-Names.{letter};
-ghost use Rattle.name_fields.specs.Field.{name-field, blank-field, Stripped, may-follow, following, field-byte, standing};
+ghost use Rattle.name_fields.specs.Field.{name-field, blank-field, Stripped, may-follow, following, field-byte, may-stand, Gathered};
 use rules::Limits;
 
 // How many bytes of a field are the name: those before its first zero.
@@ -100,21 +100,25 @@ fn behind_zero(last: u8, c: u8) -> u8
     0
 }
 
-// Whether the 16 bytes behind the one at `at` are such that a field can hold, and behind a zero only zeros. The byte before a byte is read
-// again, and not kept: so the compiler reads sixteen of either kind at once.
-pub fn stands(base: &[u8], at: usize) -> bool
-    requires { ⌜ at + 17 ≤ length (now base) ⌝ }
-    ensures { λ r. ⌜ r ≡ standing (getD (now (base .entry)) at 0) (take 16 (drop (at + 1) (now (base .entry)))) ⌝ }
+// What is wrong with byte c behind byte `last`: 0 where nothing is.
+fn fault(last: u8, c: u8) -> u8
+    ensures { λ r. ⌜ eqb r 0 ≡ may-stand last c ⌝ }
 {
-    let mut faults: u8 = 0;
+    strangeness(c) | behind_zero(last, c)
+}
+
+// Gathers what is wrong with the 16 bytes behind the one at `at`, each in its own fault: such that a field cannot hold, or not zero behind a
+// zero. The faults are looked at when all rows are passed: so no row needs a test, and the compiler keeps sixteen in one register. The byte
+// before a byte is read again, and not kept: so it reads sixteen of either kind at once.
+pub fn gather(base: &[u8], at: usize, faults: &mut [u8])
+    requires { ⌜ (at + 17 ≤ length (now base)) × (length (now faults) ≡ 16) ⌝ }
+    ensures { λ _. ⌜ Gathered (now (base .entry)) at (now (faults .entry)) (now (faults .exit)) ⌝ }
+{
     let mut i = 0;
     while i < Limits::NAME {
-        let last = base[at + i];
-        let c = base[at + i + 1];
-        faults |= strangeness(c) | behind_zero(last, c);
+        faults[i] |= fault(base[at + i], base[at + i + 1]);
         i += 1;
     }
-    faults == 0
 }
 
 // Whether a field of any length is zero. No way out of this loop either.

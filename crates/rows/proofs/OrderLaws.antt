@@ -16,7 +16,7 @@ use Rattle.rules.proofs.Bools.{same-test}
 use Rattle.rules.proofs.01-Lists.{same-bytes-is, same-bytes-refl, before-connected}
 use Rattle.rows.specs.declared.order.Key.{Key}
 use Rattle.rows.specs.Rows.{part, row-at, Rising}
-use Rattle.rows.specs.Order.{fold, folded, front, number, number-passed, Climbs, Small, Low, Folded, numbers-of, Keyed}
+use Rattle.rows.specs.Order.{fold, folded, front, number, low-first, number-passed, Climbs, Small, Low, Folded, numbers-of, Keyed}
 use Rattle.rows.proofs.Rows.{part-byte}
 use Rattle.rows.proofs.Scan.{part-cons, length-part}
 use Rattle.rows.proofs.TableLaws.{row-fits}
@@ -269,3 +269,43 @@ module _ (b : List ℕ) (at i x : ℕ) where
 
 pub number-start : (b : List ℕ) (at : ℕ) → number 0 (part b at 8) ≡ number 0 (part b (at + 0) (8 - 0))
 number-start b at = rw (add-zero at)
+
+-- ---- bytes in one number, the first lowest
+
+-- as many bytes in the same number are the same
+low-first-same : (l m : List ℕ) → length l ≡ length m → Small l → Small m → low-first l ≡ low-first m → l ≡ m
+unfolding low-first
+low-first-same [] [] e s t h = refl
+low-first-same [] (d ∷ m) e s t h = absurd (omega arith)
+low-first-same (c ∷ l) [] e s t h = absurd (omega arith)
+low-first-same (c ∷ l) (d ∷ m) e s t h =
+    let small : c < 256 = s 0 (omega arith) in
+    let small-too : d < 256 = t 0 (omega arith) in
+    let rest : l ≡ m = low-first-same l m (omega arith) (small-rest c l s) (small-rest d m t) (omega arith) in
+    let here : c ≡ d = omega arith in
+    ap₂ _∷_ here rest
+
+pub eight-same : (b : List ℕ) (a c : ℕ) → ((i : ℕ) → getD b i 0 < 256) → a + 8 ≤ length b → c + 8 ≤ length b
+    → low-first (part b a 8) ≡ low-first (part b c 8) → part b a 8 ≡ part b c 8
+eight-same b a c s h l =
+    low-first-same (part b a 8) (part b c 8) (length-part b a 8 h ∙ sym (length-part b c 8 l)) (small-part b a 8 s h) (small-part b c 8 s l)
+
+-- read from the last byte on
+module _ (i : ℕ) (more : 0 < i) (most : i ≤ 8) where
+  pub low-first-room : (x : ℕ) → x < 2 ^ (8 * (8 - i)) → (c : ℕ) → c < 256 → x * 256 + c < 2 ^ (8 * (8 - (i - 1)))
+  low-first-room x room c h =
+      let one : 8 - (i - 1) ≡ 8 - i + 1 = omega arith in
+      rw one (next-room (8 - i) x (omega arith) room c h)
+
+  pub low-first-next : (b : List ℕ) (at : ℕ) → at + 8 ≤ length b
+      → low-first (part b (at + i) (8 - i)) * 256 + getD b (at + (i - 1)) 0 ≡ low-first (part b (at + (i - 1)) (8 - (i - 1)))
+  unfolding low-first
+  low-first-next b at h =
+      let one : 8 - (i - 1) ≡ suc (8 - i) = omega arith in
+      let next : at + (i - 1) + 1 ≡ at + i = omega arith in
+      rw (part-cons b (at + (i - 1)) (8 - (i - 1)) (8 - i) (omega arith) one, next)
+
+pub low-first-end : (b : List ℕ) (at i : ℕ) → i ≤ 0 → low-first (part b (at + i) (8 - i)) ≡ low-first (part b at 8)
+low-first-end b at i h =
+    let none : i ≡ 0 = omega arith in
+    rw (none, add-zero at)

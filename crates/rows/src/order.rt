@@ -1,10 +1,11 @@
 // The order of rows by keys of 17 bytes, eight bytes at a time, without regard to case.
 ghost use mathlib.Core.Path.{_≡_};
+ghost use mathlib.Core.Bool.{true};
 ghost use Prim.Native.Nat.{_+_, _≤_};
 ghost use lib.ListN.{length};
 ghost use Rattle.rules.specs.01-Lists.{bytes-before};
 ghost use Rattle.rows.specs.Rows.{part};
-ghost use Rattle.rows.specs.Order.{folded, number, numbers-of, Low, Low-name, Keyed, Folded};
+ghost use Rattle.rows.specs.Order.{folded, number, low-first, numbers-of, Low, Low-name, Keyed, Folded};
 
 // The 17 bytes of a presence that are compared: its SDS, and its name, less its case, in two numbers.
 pub struct Key {
@@ -25,6 +26,27 @@ fn word(base: &[u8], at: usize) -> u64
         i += 1;
     }
     x
+}
+
+// Eight bytes as one number, the first of them lowest, as the machine reads them: to tell whether they are others'.
+fn low_word(base: &[u8], at: usize) -> u64
+    requires { ⌜ at + 8 ≤ length (now base) ⌝ }
+    ensures { λ r. ⌜ r ≡ low-first (part (now (base .entry)) at 8) ⌝ }
+{
+    let mut x: u64 = 0;
+    let mut i = 8;
+    while 0 < i {
+        i -= 1;
+        x = x * 256 + (base[at + i] as u64);
+    }
+    x
+}
+
+pub fn are_eight_same(base: &[u8], a: usize, c: usize) -> bool
+    requires { ⌜ (a + 8 ≤ length (now base)) × (c + 8 ≤ length (now base)) ⌝ }
+    ensures { λ r. ⌜ (r ≡ true → part (now (base .entry)) a 8 ≡ part (now (base .entry)) c 8) ⌝ }
+{
+    low_word(base, a) == low_word(base, c)
 }
 
 // Eight bytes less their case. One more brings the underscore from right before the small letters to where the mask takes it before all

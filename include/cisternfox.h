@@ -28,7 +28,7 @@
 #include <stddef.h>
 #include <stdint.h>
 
-#define CF_VERSION "0.7.1"
+#define CF_VERSION "0.7.2"
 
 /* What a base has room for, and its length in bytes. tests/c/test.c holds these to the library. */
 #define CF_BASE_LENGTH 14336

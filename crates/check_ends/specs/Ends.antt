@@ -111,22 +111,26 @@ pub record Link-fine (b : List ℕ) (i : ℕ) : Type 0 where
 
 -- ---- groups
 
--- row i is of a group of a link type that its SDS holds: its highest number, how far back its mirrors are, and what its rows add
+-- row i is of a group: its highest number, how far back its mirrors are, and what its rows add; where none are behind, its link type is fine
 pub record Group-fine (b : List ℕ) (i high away adds : ℕ) : Type 0 where
-  pub link : Link-fine b i
+  pub link : away ≡ 0 → Link-fine b i
   pub top : high ≡ row-number b i / 256 * 256 + 255
   pub back : mirror-number b i + away ≡ row-number b i
   pub weight : adds ≡ weight b i
 
--- the group is that of row i, of which nothing is known but its link type
+-- the group is that of row i, of which nothing else is known
 pub record Begun (b : List ℕ) (i : ℕ) (g : Group) : Type 0 where
   pub near : g .near ≤ i
   pub group : Group-fine b i (g .top) (g .back) (g .weight)
 
--- l is the link type of row i, and one of a pair
+-- the group of row i, if it has a highest number; if not, its link type is not fine
+pub record First (b : List ℕ) (i : ℕ) (g : Group) : Type 0 where
+  pub begun : 0 < g .top → Begun b i g
+  pub fails : g .top ≡ 0 → Link-fine b i → ⊥
+
+-- l is the link type of row i, and no designation
 pub record Pair (b : List ℕ) (i l : ℕ) : Type 0 where
   pub is : l ≡ link-byte b i
-  pub fine : Link-fine b i
   pub paired : getD b (type-at l + value-offset) 0 ≡ 4 → ⊥
 
 -- the group of the row before row i, which has number w, is that of row i up to its highest number

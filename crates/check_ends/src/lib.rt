@@ -1,8 +1,8 @@
 // The ends, in one pass: their order, their sides, the types that their SDS holds, and their mirrors. The mirror of an end is of the reverse
 // of its link type, on the other side. Of a pair of link types the one with the higher number has its mirrors behind it, and they are looked
-// for among the rows passed; what such a mirror was asked of its object type need not be asked again. Those of the lower one lie ahead and
-// are not looked for: no two ends have one mirror, so where there are as many ends of lower types as of higher ones, none of them is left
-// over.
+// for among the rows passed; what such a mirror was asked of its types need not be asked again, for a type whose reverse is a link type is
+// one too, in the same SDSs. Those of the lower one lie ahead and are not looked for: no two ends have one mirror, so where there are as
+// many ends of lower types as of higher ones, none of them is left over.
 use base::Base;
 use rules::Limits;
 ghost use mathlib.Core.Path.{_≡_};
@@ -11,14 +11,12 @@ ghost use Prim.Native.Nat.{_≤_, _<_};
 ghost use lib.ListN.{length};
 ghost use Rattle.rules.specs.02-Limits.{limits};
 ghost use Rattle.rules.specs.07-Picture.{base-length};
-ghost use Rattle.rules.specs.Parts.{Reverses};
 ghost use Rattle.rows.specs.Rows.{Halved};
 ghost use Rattle.rows.specs.Decides.{Decides};
 ghost use Rattle.base.specs.Tables.{In-order, by-end, ends};
-ghost use Rattle.base.specs.Back.{schema-of};
 ghost use Rattle.check_held.specs.Held.{Held-by};
-ghost use Rattle.check_held.specs.Fine.{Shown, Ends-fine};
-ghost use Rattle.check_ends.specs.Ends.{row-number, Small, Row-past, Reached, Link-fine, Begun, Pair, Last, Passed};
+ghost use Rattle.check_held.specs.Fine.{Types-fine, Shown, Ends-fine};
+ghost use Rattle.check_ends.specs.Ends.{link-byte, row-number, Small, Row-past, Reached, Link-fine, Begun, First, Pair, Last, Passed};
 
 // The group of an end: those of one SDS, link type and side. `top` is the highest number that one of them could have, `back` how far below
 // an end's number that of its mirror is, 0 where it does not stand behind. The next mirror is most often at `near`, past the one found
@@ -125,8 +123,8 @@ fn refused() -> Group
 
 // The group with row i, where its mirror stands behind: near, or 256 rows off, which a hint does not tell, or found by halving.
 fn behind(base: &[u8], i: usize, number: usize, group: Group) -> Group
-    requires { ⌜ (Reached (now base) i) × (number ≡ row-number (now base) i) ⌝ }
-    requires { ⌜ (Begun (now base) i group) × (0 < group .back) ⌝ }
+    requires { ⌜ (Reached (now base) i) × (Types-fine (now base)) ⌝ }
+    requires { ⌜ (number ≡ row-number (now base) i) × ((Begun (now base) i group) × (0 < group .back)) ⌝ }
     ensures { λ r. ⌜ Passed (now (base .entry)) i r ⌝ }
 {
     let mirror = number - group.back;
@@ -168,82 +166,92 @@ fn own(base: &[u8], i: usize, group: Group, held: &[u16]) -> Group
     }
 }
 
-// Whether row i is of the last group, which has numbers up to `top`, or its link type is one, which its SDS holds.
-fn link_fine(base: &[u8], i: usize, number: usize, top: usize, held: &[u16]) -> bool
+// Whether the link type of row i is one, and its SDS holds it.
+fn link_fine(base: &[u8], i: usize, link: usize, held: &[u16]) -> bool
     requires { ⌜ (Reached (now base) i) × (Shown (now base) (now held)) ⌝ }
-    ensures { λ r. ⌜ Decides (top < number → Link-fine (now (base .entry)) i) r ⌝ }
+    requires { ⌜ link ≡ link-byte (now base) i ⌝ }
+    ensures { λ r. ⌜ Decides (Link-fine (now (base .entry)) i) r ⌝ }
 {
-    if number <= top {
-        return true;
-    }
-    let link = base::end_link(base, i);
     if base::kind(base, link) != Base::LINK {
         return false;
     }
     is_held(held, base::end_sds(base, i), link)
 }
 
-// The group that begins with row i, of a link type of a pair. Where its mirrors stand ahead, it leaves the row, without its highest bit, at a
-// place that is the same for theirs: a hint, and nothing else. They begin to look at the last row that it could be, up to their own.
-fn pair(base: &[u8], i: usize, number: usize, link: usize, starts: &mut [u8]) -> Group
-    requires { ⌜ (Reached (now base) i) × (Reverses ((schema-of (now base)) .types)) ⌝ }
+// The group that begins with row i, of no designation. Where its mirrors stand ahead, its link type is asked, and it leaves the row, without
+// its highest bit, at a place that is the same for theirs: a hint, and nothing else. They begin to look at the last row that it could be,
+// up to their own.
+fn pair(base: &[u8], i: usize, number: usize, link: usize, held: &[u16], starts: &mut [u8]) -> Group
+    requires { ⌜ (Reached (now base) i) × (Shown (now base) (now held)) ⌝ }
     requires { ⌜ (number ≡ row-number (now base) i) × (Pair (now base) i link) ⌝ }
     requires { ⌜ length (now starts) ≡ limits .types ⌝ }
-    ensures { λ r. ⌜ Begun (now (base .entry)) i r ⌝ }
+    ensures { λ r. ⌜ First (now (base .entry)) i r ⌝ }
 {
     let side = base::end_side(base, i);
     let reverse = base::reverse(base, link);
     let place = either(side == 0, link, reverse);
     let top = number - number % 256 + 255;
-    if link <= reverse {
-        starts[place] = (i % 256) as u8;
+    if reverse < link {
+        let hint = rows::wide(starts[place]);
         return Group {
             top,
-            back: 0,
-            near: 0,
-            weight: Weight::AHEAD,
+            back: (link - reverse) * 65536 + side * 512 - 256,
+            near: row_back(i, (i + 256 - hint) % 256),
+            weight: Weight::BEHIND,
         };
     }
-    let hint = rows::wide(starts[place]);
+    if !link_fine(base, i, link, held) {
+        return refused();
+    }
+    starts[place] = (i % 256) as u8;
     Group {
         top,
-        back: (link - reverse) * 65536 + side * 512 - 256,
-        near: row_back(i, (i + 256 - hint) % 256),
-        weight: Weight::BEHIND,
+        back: 0,
+        near: 0,
+        weight: Weight::AHEAD,
     }
 }
 
-// The group that begins with row i, of which nothing but its link type is asked yet.
-fn first(base: &[u8], i: usize, number: usize, starts: &mut [u8]) -> Group
-    requires { ⌜ (Reached (now base) i) × (Reverses ((schema-of (now base)) .types)) ⌝ }
-    requires { ⌜ (number ≡ row-number (now base) i) × (Link-fine (now base) i) ⌝ }
+// The group that begins with row i, refused where its link type is not fine and no mirror would tell.
+fn first(base: &[u8], i: usize, number: usize, held: &[u16], starts: &mut [u8]) -> Group
+    requires { ⌜ (Reached (now base) i) × (Shown (now base) (now held)) ⌝ }
+    requires { ⌜ number ≡ row-number (now base) i ⌝ }
     requires { ⌜ length (now starts) ≡ limits .types ⌝ }
-    ensures { λ r. ⌜ Begun (now (base .entry)) i r ⌝ }
+    ensures { λ r. ⌜ First (now (base .entry)) i r ⌝ }
 {
     let link = base::end_link(base, i);
-    if base::value(base, link) == Base::DESIGNATION {
-        return Group {
-            top: number - number % 256 + 255,
-            back: 0,
-            near: 0,
-            weight: Weight::NONE,
-        };
+    if base::value(base, link) != Base::DESIGNATION {
+        return pair(base, i, number, link, held, starts);
     }
-    pair(base, i, number, link, starts)
+    if !link_fine(base, i, link, held) {
+        return refused();
+    }
+    Group {
+        top: number - number % 256 + 255,
+        back: 0,
+        near: 0,
+        weight: Weight::NONE,
+    }
 }
 
-// The group that row i is of, before it is passed: the last one, or another that begins with it.
-fn begun(base: &[u8], i: usize, number: usize, last: Group, starts: &mut [u8]) -> Group
-    requires { ⌜ (Reached (now base) i) × (Reverses ((schema-of (now base)) .types)) ⌝ }
+// The group that row i is of, before it is passed: the last one, or another that begins with it, or is refused.
+fn begun(
+    base: &[u8],
+    i: usize,
+    number: usize,
+    last: Group,
+    held: &[u16],
+    starts: &mut [u8],
+) -> Group
+    requires { ⌜ (Reached (now base) i) × (Shown (now base) (now held)) ⌝ }
     requires { ⌜ (number ≡ row-number (now base) i) × (Last (now base) i number last) ⌝ }
-    requires { ⌜ (last .top < number → Link-fine (now base) i) ⌝ }
     requires { ⌜ length (now starts) ≡ limits .types ⌝ }
-    ensures { λ r. ⌜ Begun (now (base .entry)) i r ⌝ }
+    ensures { λ r. ⌜ First (now (base .entry)) i r ⌝ }
 {
     if number <= last.top {
         return last;
     }
-    first(base, i, number, starts)
+    first(base, i, number, held, starts)
 }
 
 // The group with row i. Bytes of the row are read again: so they need not be taken out of its number.
@@ -260,10 +268,10 @@ fn group_at(
     requires { ⌜ length (now starts) ≡ limits .types ⌝ }
     ensures { λ r. ⌜ Passed (now (base .entry)) i r ⌝ }
 {
-    if !link_fine(base, i, number, last.top, held) {
+    let group = begun(base, i, number, last, held, starts);
+    if group.top == 0 {
         return refused();
     }
-    let group = begun(base, i, number, last, starts);
     if group.back == 0 {
         return own(base, i, group, held);
     }

@@ -13,24 +13,20 @@ use borrow.Author.Count.{below-more}
 use borrow.Author.Tests.{ltb-true, ltb-false, eqb-true, eqb-false}
 use Rattle.rules.specs.01-Lists.{_∈_}
 use Rattle.rules.specs.02-Limits.{limits}
-use Rattle.rules.specs.04-Schema.{Kind, Presence, system-presence, used-sds, kind-of, is-link}
-use Rattle.rules.specs.04-Schema.Kind.{unused, object, attribute, designation, paired}
+use Rattle.rules.specs.04-Schema.{Presence, system-presence, used-sds, kind-of, is-link}
+use Rattle.rules.specs.04-Schema.Kind.{paired}
 use Rattle.rules.specs.06-Good.{presence-before, Known-modes, Same-modes}
-use Rattle.rules.specs.07-Picture.{pad, type-row}
 use Rattle.rules.specs.Parts.{Alike}
-use Rattle.rules.specs.Read.{reverse-offset}
 use Rattle.rules.proofs.Bools.{or-cases, and-both}
 use Rattle.rules.proofs.01-Lists.{rising-at}
 use Rattle.rules.proofs.Edits.{set-either}
 use Rattle.rows.specs.Decides.{Decides}
 use Rattle.rows.proofs.Decides.{decides-yes}
-use Rattle.rows.proofs.Rows.{part-byte}
 use Rattle.base.specs.Tables.{presences}
-use Rattle.base.specs.Rows.{type-at}
-use Rattle.base.specs.Back.{schema-of, presence-count, presence-shown, kind-shown}
+use Rattle.base.specs.Back.{schema-of, presence-count, presence-shown}
 use Rattle.base.proofs.Back.{rows-few}
-use Rattle.base.proofs.Shown.{kind-is, presences-long, presence-is, presence-in, presence-there}
-use Rattle.lookup.proofs.KindBytes.{reverse-byte, paired-bytes}
+use Rattle.base.proofs.Shown.{presences-long, presence-is, presence-in, presence-there}
+use Rattle.lookup.proofs.KindBytes.{reverse-byte, paired-bytes, reverse-paired}
 use Rattle.lookup.proofs.SdsShown.{used-below}
 use Rattle.check_modes.specs.Pairs.{Fine, word, Agrees, Keeps, Agreed}
 
@@ -59,15 +55,6 @@ before-sds p q e =
 
 -- ---- a type's reverse
 
--- a row that has a reverse is that of a link type with one
-written-reverse : (k : Kind) → (getD (type-row k) reverse-offset 0 ≡ 0 → ⊥) → (c : ℕ) × (r : ℕ) × (k ≡ paired c r)
-unfolding type-row pad
-written-reverse unused n = absurd (n refl)
-written-reverse (object ps) n = absurd (n refl)
-written-reverse (attribute v) n = absurd (n refl)
-written-reverse designation n = absurd (n refl)
-written-reverse (paired c r) n = (c, r, refl)
-
 -- r is the reverse of t, and t that of r; neither is 0
 record Reversed (b : List ℕ) (t r : ℕ) : Type 0 where
   is : reverse-byte b t ≡ r
@@ -92,14 +79,6 @@ module _ {b : List ℕ} (f : Fine b) where
         other-some = paired-some r d t turn;
         other-is = is;
       }
-
-  reverse-paired : (t : ℕ) → t < 128 → (reverse-byte b t ≡ 0 → ⊥) → (c : ℕ) × (kind-of (schema-of b) t ≡ paired c (reverse-byte b t))
-  reverse-paired t h n =
-      let byte : getD (type-row (kind-shown b t)) reverse-offset 0 ≡ reverse-byte b t
-      = ap (λ (l : List ℕ). getD l reverse-offset 0) (f .types .type-rows t h) ∙ part-byte b (type-at t) 8 reverse-offset (omega arith) in
-      let (c, r, e) = written-reverse (kind-shown b t) (λ z. n (sym byte ∙ z)) in
-      let is : kind-of (schema-of b) t ≡ paired c r = kind-is b t h ∙ e in
-      (c, is ∙ ap (paired c) (sym (paired-bytes b t c r is .4)))
 
   -- ---- rows
 
@@ -221,7 +200,7 @@ module _ {b words : List ℕ} {i t r : ℕ} (x : Row-read b i words t r) where
 
     pair : (c : ℕ) × (kind-of (schema-of b) t ≡ paired c r)
     pair =
-        let (c, e) = reverse-paired (x .fine) t small (λ z. some (x .reverse ∙ z)) in
+        let (c, e) = reverse-paired b t small (x .fine .types .type-rows t small) (λ z. some (x .reverse ∙ z)) in
         (c, e ∙ ap (paired c) (sym (x .reverse)))
 
     reversed : Reversed b t r

@@ -222,3 +222,21 @@ link-below b t e = go (ltb t 128) refl
     go : (x : Bool) → ltb t 128 ≡ x → t < 128
     go true q = ltb-true t 128 q
     go false q = absurd (true≢false (sym e ∙ ap is-link (kind-none b t (ltb-false t 128 q))))
+
+-- a row that has a reverse is that of a link type of a pair
+written-reverse : (k : Kind) → (getD (type-row k) reverse-offset 0 ≡ 0 → ⊥) → (c : ℕ) × (r : ℕ) × (k ≡ paired c r)
+unfolding type-row pad
+written-reverse unused n = absurd (n refl)
+written-reverse (object ps) n = absurd (n refl)
+written-reverse (attribute v) n = absurd (n refl)
+written-reverse designation n = absurd (n refl)
+written-reverse (paired c r) n = (c, r, refl)
+
+pub reverse-paired : (b : List ℕ) (t : ℕ) → t < 128 → type-row (kind-shown b t) ≡ part b (type-at t) type-width → (reverse-byte b t ≡ 0 → ⊥)
+    → (c : ℕ) × (kind-of (schema-of b) t ≡ paired c (reverse-byte b t))
+reverse-paired b t h row some =
+    let byte : getD (type-row (kind-shown b t)) reverse-offset 0 ≡ reverse-byte b t
+    = ap (λ (l : List ℕ). getD l reverse-offset 0) row ∙ part-byte b (type-at t) 8 reverse-offset (omega arith) in
+    let (c, r, e) = written-reverse (kind-shown b t) (λ z. some (sym byte ∙ z)) in
+    let is : kind-of (schema-of b) t ≡ paired c r = kind-is b t h ∙ e in
+    (c, is ∙ ap (paired c) (sym (paired-bytes b t c r is .4)))

@@ -19,8 +19,9 @@ add-t9 c = search needs
 returns : tie.Need-returns
 returns c =
     let x = c .before .before .before .before .before in
-    behind-passed (x .pre .0 .0) (x .pre .1 .0) (x .pre .1 .1) (omega (arith, x .pre .0 .1, x .pre .1 .0 .group .back))
-    (row-past-at (omega (arith, x .pre .1 .0 .near), sym (c .before .before .end-number .ensures) ∙ c .before .if1 .taken))
+    let (number, (begun, some)) = x .pre .1 in
+    behind-passed (x .pre .0 .0) (x .pre .0 .1) begun some (omega (arith, number, begun .group .back))
+    (row-past-at (omega (arith, begun .near), sym (c .before .before .end-number .ensures) ∙ c .before .if1 .taken))
 
 add-far : tie.Need-add-far
 add-far c = search needs
@@ -33,13 +34,14 @@ past-far-requires c κs =
     let x = c .before .before .before .before .before in
     let y = here (x .pre .0 .0) in (
       (x .pre .0 .0 .long, omega (arith, x .pre .0 .0 .few)),
-      (omega (arith, y .is, y .sds, y .link, y .side, y .object, x .pre .0 .1), x .pre .0 .0 .rise),
+      (omega (arith, y .is, y .sds, y .link, y .side, y .object, x .pre .1 .0), x .pre .0 .0 .rise),
     )
 
 returns-2 : tie.Need-returns-2
 returns-2 c =
     let x = c .before .before .before .before .before .before in
-    behind-passed (x .pre .0 .0) (x .pre .1 .0) (x .pre .1 .1) (omega (arith, x .pre .0 .1, x .pre .1 .0 .group .back)) (c .past-far .ensures)
+    let (number, (begun, some)) = x .pre .1 in
+    behind-passed (x .pre .0 .0) (x .pre .0 .1) begun some (omega (arith, number, begun .group .back)) (c .past-far .ensures)
 
 pub behind-spec : {M : Type 1} → statement M
 behind-spec =

@@ -23,7 +23,7 @@ use Rattle.base.specs.Back.{schema-of}
 use Rattle.check_held.specs.Held.{marked}
 use Rattle.check_presences.specs.declared.Floor.{Floor}
 use Rattle.check_presences.specs.Rows.{Row-fine, System-first, told-apart, Names-rise, Rows-fine}
-use Rattle.check_presences.specs.Fields.{By-itself}
+use Rattle.check_presences.specs.Fields.{first-half, second-half, Sds-bit, By-itself}
 use Rattle.check_presences.specs.Floor.{Follows, Last}
 use Rattle.check_presences.specs.Gathered.{Gathers, bits-in, Rows-gathered}
 use Rattle.check_presences.proofs.GatherLaws.{zero-at, zeros-room, gathers-first, gathers-more}
@@ -74,6 +74,14 @@ passed-first {b} held s u e last = record {
   rise = rising-one (told-apart b);
   gathers = gathers-first b held e (s .type) (s .sds);
   tally = inl (first-bit held e, λ i j l h. absurd (omega arith));
+}
+
+-- what row 0 makes
+pub first-made : {b : List ℕ} {n : ℕ} {f : Floor} → System-first b n → used-sds (schema-of b) 0 ≡ true → f .bit ≡ 1 → f .first ≡ first-half b 0
+    → f .second ≡ second-half b 0 → Last b 0 f
+first-made {b} {f = f} s u bit first second = record {
+  bit = subst (λ (d : ℕ). Sds-bit b d (f .bit)) (sym (s .sds)) (record { used = u; is = bit });
+  made = inl (record { named = object-named _ (s .name); first = first; second = second });
 }
 
 -- ---- the next row
@@ -149,3 +157,10 @@ module _ {b held : List ℕ} {n k : ℕ} {f : Floor} (p : Passed b k f held) (e 
   pub passed-twice : (bits-in held ≡ n → ⊥) → Rows-gathered b n held false
   passed-twice x =
       rows-refused (λ fine. ⊎-elim (λ y. x (y .0 ∙ sym e)) (λ y. y .1 (λ i j l h. fine .once i j l (omega arith))) (p .tally))
+
+-- there is but one
+pub first-all : {b : List ℕ} {n : ℕ} (held : List ℕ) → System-first b n → used-sds (schema-of b) 0 ≡ true
+    → held ≡ replicate {A = ℕ} (limits .types) 0 → n ≡ 1 → Rows-gathered b n (set held 0 1) true
+first-all {b} held s u e one =
+    let floor : Floor = record { bit = 1; first = first-half b 0; second = second-half b 0 } in
+    passed-all (passed-first held s u e (first-made {f = floor} s u refl refl refl)) one (first-bit held e ∙ sym one)

@@ -291,6 +291,10 @@ pub fn rows_fine(base: &[u8], n: usize, held: &mut [u16]) -> bool
     ensures { λ r. ⌜ Rows-gathered (now (base .entry)) n (now (held .exit)) r ⌝ }
 {
     held[0] = 1;
+    // as in a fresh base: nothing to count
+    if n == 1 {
+        return true;
+    }
     let key = base::order::presence_key(base, 0);
     let mut floor = Floor {
         bit: 1,

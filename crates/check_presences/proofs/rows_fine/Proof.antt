@@ -4,7 +4,6 @@ use borrow.Author.Needs.{needs}
 use Prim.Native.Nat.{ℕ, _+_, _-_, _≤_, _<_}
 use native.Mathlib.Omega.{arith}
 use mathlib.Core.Path.{_≡_, refl, sym, _∙_, subst}
-use mathlib.Core.Logic.{inl}
 use mathlib.Core.Bool.{Bool, true, false}
 use lib.Bits.{bitOr}
 use lib.Dec.{eqb}
@@ -12,13 +11,11 @@ use lib.ListN.{length, getD, set}
 use borrow.Author.Tests.{eqb-true, eqb-false}
 use Rattle.lookup.proofs.SdsShown.{used-below}
 use Rattle.base.specs.Rows.{presence-at}
-use Rattle.check_presences.specs.Fields.{Sds-bit}
 use Rattle.check_presences.specs.Floor.{Last}
 use Rattle.check_presences.specs.Gathered.{Rows-gathered, bits-in}
 use Rattle.check_presences.proofs.HalfLaws.{field-low}
-use Rattle.check_presences.proofs.RowLaws.{object-named}
 use Rattle.check_presences.proofs.GatherLaws.{zeros-room, gathers-room}
-use Rattle.check_presences.proofs.PassedLaws.{Passed, rows-refused, passed-first, passed-more, fine-follows, passed-all, passed-twice}
+use Rattle.check_presences.proofs.PassedLaws.{Passed, rows-refused, passed-first, first-made, first-all, passed-more, fine-follows, passed-all, passed-twice}
 use Rattle.check_presences.proofs.rows_fine.Statement.{statement}
 use Rattle.check_presences.proofs.rows_fine.Tie as tie
 
@@ -29,7 +26,7 @@ abbrev μ-loop : tie.MeasureT-loop
 μ-loop base n held₀ floor₀ at₀ last₀ held floor at last = n - last
 
 abbrev start : tie.At-loop Inv-loop μ-loop → tie.Start Inv-loop μ-loop
-start c = c .before .before .before .before
+start c = c .before .before .before .before .before
 
 -- from where the type was read to where the row was passed
 abbrev passed : tie.After-presence-type Inv-loop μ-loop → tie.After-passed Inv-loop μ-loop
@@ -41,7 +38,7 @@ at c = c .before .before
 -- the next row has made what it has passed
 made : (c : tie.After-presence-type Inv-loop μ-loop) → let row = passed c in
     Last (start (at row) .args .base .now) (at row .loop .last + 1) (row .passed .result)
-made c = passed c .passed .ensures .made (c .before .if1 .left)
+made c = passed c .passed .ensures .made (c .before .if2 .left)
 
 -- its type and its SDS have their places
 places : (c : tie.After-presence-type Inv-loop μ-loop) → let here = at (passed c) in
@@ -59,9 +56,17 @@ room c = gathers-room (c .loop .inv .1 .1 .gathers) _ (start c .pre .1 .1 .1)
 slice-write-held : tie.Need-slice-write-held Inv-loop μ-loop
 slice-write-held c = let x = c .before .before in omega (arith, zeros-room (x .args .held .now) (x .pre .1 .1 .1))
 
+same-length : tie.Need-same-length Inv-loop μ-loop
+same-length c = search needs
+
+returns : tie.Need-returns Inv-loop μ-loop
+returns c =
+    let x = c .before .before .before in
+    first-all (x .args .held .now) (x .pre .1 .0 .0) (x .pre .1 .0 .1) (x .pre .1 .1 .1) (c .if1 .taken)
+
 presence-key-requires : tie.Need-presence-key-requires Inv-loop μ-loop
 presence-key-requires c κs =
-    let x = c .before .before in
+    let x = c .before .before .before in
     let b = x .args .base .now in
     let below = x .pre .1 .0 .0 .some in
     ((x .pre .0 .0, omega arith), field-low b 0 (x .pre .0 .0) (omega arith) (x .pre .1 .1 .0 0 below .field))
@@ -71,15 +76,13 @@ add-at c = search needs
 
 loop-holds : tie.Need-loop-holds Inv-loop μ-loop
 loop-holds c =
-    let x = c .before .before .before in
+    let x = c .before .before .before .before in
     let first = x .pre .1 .0 .0 in (
       omega (arith, first .some),
       (
         refl,
-        passed-first _ first (x .pre .1 .0 .1) (x .pre .1 .1 .1) (record {
-          bit = subst (λ (d : ℕ). Sds-bit (x .args .base .now) d 1) (sym (first .sds)) (record { used = x .pre .1 .0 .1; is = refl });
-          made = inl (record { named = object-named _ (first .name); first = c .presence-key .ensures .first; second = c .presence-key .ensures .second });
-        }),
+        passed-first _ first (x .pre .1 .0 .1) (x .pre .1 .1 .1)
+            (first-made first (x .pre .1 .0 .1) refl (c .presence-key .ensures .first) (c .presence-key .ensures .second)),
       ),
     )
 
@@ -101,13 +104,13 @@ passed-requires c κs =
       ),
     )
 
-same-length : tie.Need-same-length Inv-loop μ-loop
-same-length c = room (at (c .before .before))
+same-length-2 : tie.Need-same-length-2 Inv-loop μ-loop
+same-length-2 c = room (at (c .before .before))
 
-returns : tie.Need-returns Inv-loop μ-loop
-returns c =
+returns-2 : tie.Need-returns-2 Inv-loop μ-loop
+returns-2 c =
     let row = c .before .before in
-    rows-refused (λ f. row .passed .ensures .none (c .if1 .taken) (fine-follows (at row .loop .last) (row .before .loop-test .taken) f))
+    rows-refused (λ f. row .passed .ensures .none (c .if2 .taken) (fine-follows (at row .loop .last) (row .before .loop-test .taken) f))
 
 presence-type-requires : tie.Need-presence-type-requires Inv-loop μ-loop
 presence-type-requires c κs = search needs
@@ -146,7 +149,7 @@ loop-again c =
       (
         omega (arith, here .loop .inv .1 .0),
         subst (λ (w : ℕ). Passed b (k + 1) floor (set held t (bitOr (getD held t 0) w))) (sym (made .bit .is))
-            (passed-more (here .loop .inv .1 .1) (row .passed .ensures .follows (type .before .if1 .left)) made
+            (passed-more (here .loop .inv .1 .1) (row .passed .ensures .follows (type .before .if2 .left)) made
             (x .pre .1 .1 .0 (k + 1) (row .before .loop-test .taken)) t (getD b (presence-at (k + 1)) 0) (type .presence-type .ensures .is) refl (places type .1)),
       ),
     )
@@ -154,11 +157,11 @@ loop-again c =
 bits-in-requires : tie.Need-bits-in-requires Inv-loop μ-loop
 bits-in-requires c κs = c .before .before .loop .inv .1 .1 .gathers .room
 
-same-length-2 : tie.Need-same-length-2 Inv-loop μ-loop
-same-length-2 c = room (c .before .before .before)
+same-length-3 : tie.Need-same-length-3 Inv-loop μ-loop
+same-length-3 c = room (c .before .before .before)
 
-returns-2 : tie.Need-returns-2 Inv-loop μ-loop
-returns-2 c =
+returns-3 : tie.Need-returns-3 Inv-loop μ-loop
+returns-3 c =
     let here = c .before .before .before in
     let x = start here .args in
     let all : x .n ≡ here .loop .last + 1 = omega (arith, c .before .before .loop-test .left) in
@@ -176,14 +179,16 @@ rows-fine-spec =
     Inv-loop
     μ-loop
     slice-write-held
+    same-length
+    returns
     presence-key-requires
     add-at
     loop-holds
     add-loop
     add-i
     passed-requires
-    same-length
-    returns
+    same-length-2
+    returns-2
     presence-type-requires
     mul-sdss
     slice-read-sdss
@@ -193,5 +198,5 @@ rows-fine-spec =
     loop-less
     loop-again
     bits-in-requires
-    same-length-2
-    returns-2)
+    same-length-3
+    returns-3)

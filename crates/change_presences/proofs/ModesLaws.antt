@@ -4,13 +4,12 @@ use native.Mathlib.Numerals.{add-one}
 use native.Mathlib.Omega.{arith}
 use mathlib.Core.Path.{_≡_, refl, sym, ap, _∙_, subst}
 use mathlib.Core.List.{List, [], _∷_, map}
-use mathlib.Core.List.List·Memᴰ.{List·Memᴰ·head, List·Memᴰ·tail}
 use mathlib.Core.Bool.{Bool, true, false, cond, _&&_, _||_, or-false}
 use lib.Dec.{ltb, eqb}
 use lib.ListN.{length, getD, set}
 use lib.Seq.{set-getD}
 use borrow.Author.Tests.{eqb-true, eq-eqb, ne-eqb, ltb-false}
-use Rattle.rules.specs.01-Lists.{_∈_, any, all, among, rising}
+use Rattle.rules.specs.01-Lists.{any, all, among, rising}
 use Rattle.rules.specs.03-Names.{Name}
 use Rattle.rules.specs.04-Schema.{Schema, Modes, all-modes, Presence, nowhere, with-modes, with-reverse, type-named, with-presences}
 use Rattle.rules.specs.06-Good.{presence-before, Good}
@@ -19,6 +18,7 @@ use Rattle.rules.specs.09-Refusals.{Outcome, unknown-mode}
 use Rattle.rules.specs.09-Refusals.Outcome.{done}
 use Rattle.rules.specs.10-Changes.{modes-set, set-modes, set-modes-refusals}
 use Rattle.rules.proofs.Bools.{and-both, or-neither}
+use Rattle.rules.proofs.01-Lists.{map-same}
 use Rattle.rules.proofs.05-Descent.{used-below}
 use Rattle.rules.proofs.09-Refusals.{Left}
 use Rattle.rules.proofs.Modes.{Same-but-modes, perhaps-moded, modes-rise}
@@ -164,16 +164,12 @@ pub set-left : (d : ℕ) (n : Name) (usage definition : Modes) (s : Schema)
 unfolding set-modes
 set-left d n usage definition s = record { is = refl }
 
-map-same : {A B : Type 0} (f g : A → B) (l : List A) → ((x : A) → x ∈ l → f x ≡ g x) → map f l ≡ map g l
-map-same f g [] e = refl
-map-same f g (x ∷ l) e = λ i. e x (List·Memᴰ·head refl) i ∷ map-same f g l (λ y m. e y (List·Memᴰ·tail m)) i
-
 -- a type and its reverse by their numbers, 128 where it has none, which no type has
 pub resets-all : {s : Schema} → Good s → (d : ℕ) {t r : ℕ} (usage definition : Modes) → Reverse-of s t r
     → modes-set d (with-reverse s t) usage definition (s .presences) ≡ map (reset d t r usage definition) (s .presences)
 unfolding modes-set any
 resets-all {s} good d {t} {r} usage definition pair =
-    map-same _ _ (s .presences) (λ p m.
+    map-same (s .presences) (λ p m.
     ap (λ (x : Bool). cond (eqb (p .sds) d && x) (with-modes usage definition p) p)
     (ap (λ (l : List ℕ). among (t ∷ l) (p .type)) (pair .is)
     ∙ go (ltb r 128) refl (p .type) (used-below good (p .type) (good .presence-type p m))))

@@ -7,7 +7,7 @@ use mathlib.Core.Logic.{⊎-elim}
 use mathlib.Core.List.{List}
 use mathlib.Core.Bool.{Bool, true, false, false≢true}
 use lib.Dec.{ltb, eqb}
-use lib.ListN.{length, getD, set, replicate, length-set, length-replicate, getD-replicate, List·getD-eq-default}
+use lib.ListN.{length, getD, set, replicate, length-set}
 use lib.Seq.{getD-set-same}
 use borrow.Author.Count.{below-more}
 use borrow.Author.Tests.{ltb-true, ltb-false, eqb-true, eqb-false}
@@ -22,6 +22,7 @@ use Rattle.rules.proofs.01-Lists.{rising-at}
 use Rattle.rules.proofs.Edits.{set-either}
 use Rattle.rows.specs.Decides.{Decides}
 use Rattle.rows.proofs.Decides.{decides-yes}
+use Rattle.rows.proofs.Scan.{zeros-room, zero-at}
 use Rattle.base.specs.Tables.{presences}
 use Rattle.base.specs.Back.{schema-of, presence-count, presence-shown}
 use Rattle.base.proofs.Back.{rows-few}
@@ -145,27 +146,17 @@ module _ {b : List ℕ} (f : Fine b) where
 
 -- ---- what the words keep
 
-zeros-room : (words : List ℕ) → words ≡ replicate {A = ℕ} (limits .types) 0 → length words ≡ limits .types
-zeros-room words e = ap length e ∙ length-replicate {A = ℕ} 128 0
-
 -- there are as many words as before
 pub keeps-room : {b words : List ℕ} {n : ℕ} → Keeps b n words → (before : List ℕ) → before ≡ replicate {A = ℕ} (limits .types) 0
     → length words ≡ length before
-keeps-room k before e = k .room ∙ sym (zeros-room before e)
+keeps-room k before e = k .room ∙ sym (zeros-room (limits .types) e)
 
 pub keeps-none : (b words : List ℕ) → words ≡ replicate {A = ℕ} (limits .types) 0 → Keeps b 0 words
 keeps-none b words e = record {
-  room = zeros-room words e;
-  shown = λ t h. absurd (omega (arith, zero-at t));
+  room = zeros-room (limits .types) e;
+  shown = λ t h. absurd (omega (arith, zero-at (limits .types) e t));
   passed = λ j h. absurd (omega arith);
 }
-  where
-    zero-at : (t : ℕ) → getD words t 0 ≡ 0
-    zero-at t = go (ltb t 128) refl
-      where
-        go : (x : Bool) → ltb t 128 ≡ x → getD words t 0 ≡ 0
-        go true q = ap (λ (l : List ℕ). getD l t 0) e ∙ getD-replicate {A = ℕ} 128 t 0 0 (ltb-true t 128 q)
-        go false q = List·getD-eq-default words 0 {n = t} (omega (arith, ltb-false t 128 q, zeros-room words e))
 
 -- what was read of row i: its type and the reverse of that
 pub record Row-read (b : List ℕ) (i : ℕ) (words : List ℕ) (t r : ℕ) : Type 0 where

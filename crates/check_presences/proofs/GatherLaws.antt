@@ -7,7 +7,7 @@ use mathlib.Core.List.{List}
 use mathlib.Core.Bool.{true, _&&_, false≢true}
 use lib.Bits.{bitOr}
 use lib.Dec.{eqb}
-use lib.ListN.{length, getD, set, replicate, length-set, length-replicate, getD-replicate}
+use lib.ListN.{length, getD, set, replicate, length-set}
 use borrow.Author.Count.{below-more}
 use borrow.Author.Tests.{eqb-true, eq-eqb}
 use Rattle.rules.specs.02-Limits.{limits}
@@ -15,28 +15,23 @@ use Rattle.rules.specs.Read.{type-offset}
 use Rattle.rules.proofs.Bools.{or-cases, or-left, or-right, and-both, and-of}
 use Rattle.type_set.specs.Set.{bit}
 use Rattle.type_set.proofs.Bit.{bit-zero, bit-mark}
+use Rattle.rows.proofs.Scan.{zeros-room, zero-at}
 use Rattle.base.specs.Rows.{presence-at}
 use Rattle.check_held.specs.Held.{marked}
 use Rattle.check_held.proofs.WordLaws.{marked-bit, marked-small}
 use Rattle.check_presences.specs.Gathered.{Gathers}
 
-pub zero-at : {held : List ℕ} → held ≡ replicate {A = ℕ} (limits .types) 0 → (t : ℕ) → t < 128 → getD held t 0 ≡ 0
-zero-at e t h = ap (λ (l : List ℕ). getD l t 0) e ∙ getD-replicate {A = ℕ} 128 t 0 0 h
-
-pub zeros-room : (held : List ℕ) → held ≡ replicate {A = ℕ} (limits .types) 0 → length held ≡ limits .types
-zeros-room held e = ap length e ∙ length-replicate {A = ℕ} 128 0
-
 gathers-none : (b held : List ℕ) → held ≡ replicate {A = ℕ} (limits .types) 0 → Gathers b 0 held
 gathers-none b held e = record {
-  room = zeros-room held e;
-  words = λ t h. omega (arith, zero-at e t h);
+  room = zeros-room (limits .types) e;
+  words = λ t h. omega (arith, zero-at (limits .types) e t);
   marked = λ i h. absurd (omega arith);
-  marks = λ t d h k q. absurd (false≢true (sym (bit-zero d) ∙ ap (λ (w : ℕ). bit w d) (sym (zero-at e t h)) ∙ q));
+  marks = λ t d h k q. absurd (false≢true (sym (bit-zero d) ∙ ap (λ (w : ℕ). bit w d) (sym (zero-at (limits .types) e t)) ∙ q));
 }
 
 pub gathers-room : {b held : List ℕ} {n : ℕ} → Gathers b n held → (before : List ℕ) → before ≡ replicate {A = ℕ} (limits .types) 0
     → length held ≡ length before
-gathers-room g before e = g .room ∙ sym (zeros-room before e)
+gathers-room g before e = g .room ∙ sym (zeros-room (limits .types) e)
 
 -- row n too
 pub gathers-more : {b : List ℕ} {n : ℕ} {held : List ℕ} → Gathers b n held → (t d : ℕ) → t ≡ getD b (presence-at n + type-offset) 0
@@ -70,7 +65,7 @@ gathers-more {b} {n} {held} g t d is-t is-d ht hd = record {
 pub gathers-first : (b held : List ℕ) → held ≡ replicate {A = ℕ} (limits .types) 0 → getD b (presence-at 0 + type-offset) 0 ≡ 0
     → getD b (presence-at 0) 0 ≡ 0 → Gathers b 1 (set held 0 1)
 gathers-first b held e t d =
-    subst (λ (w : ℕ). Gathers b 1 (set held 0 w)) (ap (λ (w : ℕ). bitOr w (1 * 2 ^ 0 % 2 ^ 16)) (zero-at e 0 (omega arith)))
+    subst (λ (w : ℕ). Gathers b 1 (set held 0 w)) (ap (λ (w : ℕ). bitOr w (1 * 2 ^ 0 % 2 ^ 16)) (zero-at (limits .types) e 0))
     (gathers-more (gathers-none b held e) 0 0 (sym t) (sym d) (omega arith) (omega arith))
 
 -- ---- the bit of an SDS

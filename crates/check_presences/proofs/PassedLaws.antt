@@ -17,7 +17,7 @@ use Rattle.rules.specs.Read.{type-offset}
 use Rattle.type_set.specs.Set.{bit}
 use Rattle.type_set.proofs.Bit.{bit-zero}
 use Rattle.rows.proofs.Decides.{decides-yes, decides-no}
-use Rattle.rows.proofs.Scan.{rising-one, rising-more, rising-not}
+use Rattle.rows.proofs.Scan.{zeros-room, zero-at, rising-one, rising-more, rising-not}
 use Rattle.base.specs.Rows.{presence-at}
 use Rattle.base.specs.Back.{schema-of}
 use Rattle.check_held.specs.Held.{marked}
@@ -26,7 +26,7 @@ use Rattle.check_presences.specs.Rows.{Row-fine, System-first, told-apar
 use Rattle.check_presences.specs.Fields.{first-half, second-half, Sds-bit, By-itself}
 use Rattle.check_presences.specs.Floor.{Follows, Last}
 use Rattle.check_presences.specs.Gathered.{Gathers, bits-in, Rows-gathered}
-use Rattle.check_presences.proofs.GatherLaws.{zero-at, zeros-room, gathers-first, gathers-more}
+use Rattle.check_presences.proofs.GatherLaws.{gathers-first, gathers-more}
 use Rattle.check_presences.proofs.CountLaws.{bits-none, bits-marked}
 use Rattle.check_presences.proofs.RowLaws.{object-named}
 
@@ -54,11 +54,11 @@ rows-refused f = record { fine = decides-no f; gathers = λ e. absurd (false≢t
 -- one bit
 first-bit : (held : List ℕ) → held ≡ replicate {A = ℕ} (limits .types) 0 → bits-in (set held 0 1) ≡ 1
 first-bit held e =
-    let none = zero-at e 0 (omega arith) in
+    let none = zero-at (limits .types) e 0 in
     let one : set held 0 1 ≡ marked held 0 0 = sym (ap (λ (w : ℕ). set held 0 (bitOr w (1 * 2 ^ 0 % 2 ^ 16))) none) in
     let new : bit (getD held 0 0) 0 ≡ false = ap (λ (w : ℕ). bit w 0) none ∙ bit-zero 0 in
     ap bits-in one
-    ∙ bits-marked held 0 0 (omega (arith, zeros-room held e)) (omega arith)
+    ∙ bits-marked held 0 0 (omega (arith, zeros-room (limits .types) e)) (omega arith)
     ∙ ap₂ (λ (x : ℕ) (t : Bool). x + cond t 0 1) (ap bits-in e ∙ bits-none 128) new
 
 pub passed-first : {b : List ℕ} {n : ℕ} {f : Floor} (held : List ℕ) → System-first b n → used-sds (schema-of b) 0 ≡ true

@@ -48,7 +48,7 @@ module _ (b : List ℕ) (i : ℕ) (e : Named-fine b i) where
 
 module _ (b : List ℕ) (long : length b ≡ base-length) (i : ℕ) (h : i < limits .presences) where
   -- a row is its SDS, its field, and its type and modes
-  pub row-parts : row-of presences b i
+  row-parts : row-of presences b i
       ≡ getD b (presence-at i) 0 ∷ (part b (presence-at i + name-offset) (limits .name) ++ behind-name (presence-shown b i))
   row-parts =
       let at = presence-at i in

@@ -3,19 +3,18 @@ use Prim.Native.Nat.{ℕ, _+_, _*_, _≤_, _<_}
 use native.Mathlib.Omega.{arith}
 use mathlib.Core.Path.{_≡_, refl, sym, ap, _∙_}
 use mathlib.Core.List.{List, [], _∷_, _++_, map}
-use mathlib.Core.List.List·Memᴰ.{List·Memᴰ·head, List·Memᴰ·tail}
 use mathlib.Core.Bool.{Bool, true, false, not, cond}
 use lib.Dec.{eqb}
 use lib.ListN.{length, getD, take, drop, set, length-map}
 use lib.Seq.{take-take}
 use borrow.Author.Tests.{eq-eqb, ne-eqb}
-use Rattle.rules.specs.01-Lists.{_∈_, numbers, joined}
+use Rattle.rules.specs.01-Lists.{numbers, joined}
 use Rattle.rules.specs.02-Limits.{limits}
 use Rattle.rules.specs.04-Schema.{used-sds, kind-of, is-used}
 use Rattle.rules.specs.05-Descent.{members}
 use Rattle.rules.specs.07-Picture.{Sound, sds-width, sds-row, type-width, type-row}
 use Rattle.rules.specs.11-File.{sds-entry, type-entry, sds-entries, type-entries}
-use Rattle.rules.proofs.01-Lists.{numbers-alike, numbers-in}
+use Rattle.rules.proofs.01-Lists.{map-same, numbers-alike, numbers-in}
 use Rattle.rows.specs.Rows.{part}
 use Rattle.rows.specs.Table.{written}
 use Rattle.rows.proofs.Rows.{part-byte}
@@ -102,11 +101,7 @@ entries-alike : (f g : ℕ → List ℕ) (p q : ℕ → Bool) (m : ℕ) → ((k 
     → map f (numbers 0 m p) ≡ map g (numbers 0 m q)
 entries-alike f g p q m t e =
     ap (map f) (numbers-alike p q 0 m (λ k l u. t k (omega arith)))
-    ∙ map-alike (numbers 0 m q) (λ k i. e k (omega (arith, numbers-in q 0 m k i .1)))
-  where
-    map-alike : (l : List ℕ) → ((k : ℕ) → k ∈ l → f k ≡ g k) → map f l ≡ map g l
-    map-alike [] h = refl
-    map-alike (k ∷ l) h = λ i. h k (List·Memᴰ·head refl) i ∷ map-alike l (λ j n. h j (List·Memᴰ·tail n)) i
+    ∙ map-same (numbers 0 m q) (λ k i. e k (omega (arith, numbers-in q 0 m k i .1)))
 
 module _ {b : List ℕ} (s : Sound b) where
   sds-begun : (d : ℕ) → d < limits .sdss → begun b (sds-at d) ≡ used-sds (schema-of b) d

@@ -4,7 +4,6 @@ ghost use mathlib.Core.Bool.{cond};
 ghost use Prim.Native.Nat.{_+_, _-_, _≤_};
 ghost use lib.Dec.{eqb, ltb};
 ghost use lib.ListN.{length};
-ghost use Rattle.rules.specs.03-Names.{letter};
 ghost use Rattle.name_fields.specs.Field.{name-field, blank-field, Stripped, may-follow, following, field-byte, may-stand, Gathered};
 use rules::Limits;
 

@@ -7,7 +7,7 @@ use mathlib.Core.Path.{_≡_, refl, sym, ap, _∙_, subst}
 use mathlib.Core.List.{List, _∷_}
 use mathlib.Core.Bool.{Bool, true, false, true≢false}
 use lib.Dec.{ltb}
-use lib.ListN.{length, getD, take, drop, replicate, getD-replicate, length-take, length-drop}
+use lib.ListN.{length, getD, take, drop, replicate, length-replicate, getD-replicate, length-take, length-drop, List·getD-eq-default}
 use lib.Seq.{drop-cons, drop-drop}
 use borrow.Author.Tests.{ltb-true, ltb-false}
 use Rattle.rules.specs.01-Lists.{same-bytes, bytes-before}
@@ -25,6 +25,16 @@ pub length-part : (b : List ℕ) (at n : ℕ) → at + n ≤ length b → length
 length-part b at n h = length-take n (drop at b) ∙ omega (arith, length-drop at b)
 
 -- ---- zeros
+
+pub zeros-room : {l : List ℕ} (n : ℕ) → l ≡ replicate n 0 → length l ≡ n
+zeros-room n e = ap length e ∙ length-replicate {A = ℕ} n 0
+
+pub zero-at : {l : List ℕ} (n : ℕ) → l ≡ replicate n 0 → (i : ℕ) → getD l i 0 ≡ 0
+zero-at {l} n e i = go (ltb i n) refl
+  where
+    go : (x : Bool) → ltb i n ≡ x → getD l i 0 ≡ 0
+    go true q = ap (λ (m : List ℕ). getD m i 0) e ∙ getD-replicate {A = ℕ} n i 0 0 (ltb-true i n q)
+    go false q = List·getD-eq-default l 0 {n = i} (omega (arith, ltb-false i n q, zeros-room n e))
 
 blank-same : (l : List ℕ) (n : ℕ) → length l ≡ n → blank-field l ≡ same-bytes (replicate n 0) l
 unfolding blank-field

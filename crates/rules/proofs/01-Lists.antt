@@ -99,6 +99,11 @@ unfolding same-bytes
 same-bytes-refl [] = refl
 same-bytes-refl (x ∷ a) = and-of (eqb x x) (same-bytes a a) (eq-eqb x x refl) (same-bytes-refl a)
 
+-- the same of each
+pub map-same : {A B : Type 0} {f g : A → B} (l : List A) → ((x : A) → x ∈ l → f x ≡ g x) → map f l ≡ map g l
+map-same [] e = refl
+map-same (x ∷ l) e = λ i. e x (List·Memᴰ·head refl) i ∷ map-same l (λ y m. e y (List·Memᴰ·tail m)) i
+
 -- ---- the numbers that pass
 
 module _ (p : ℕ → Bool) where

@@ -9,12 +9,14 @@ use lib.Bits.{bitOr}
 use lib.Dec.{eqb}
 use lib.ListN.{length, getD, set}
 use borrow.Author.Tests.{eqb-true, eqb-false}
-use Rattle.lookup.proofs.SdsShown.{used-below}
+use Rattle.rules.specs.02-Limits.{limits}
+use Rattle.rows.proofs.Scan.{zeros-room}
 use Rattle.base.specs.Rows.{presence-at}
+use Rattle.lookup.proofs.SdsShown.{used-below}
 use Rattle.check_presences.specs.Floor.{Last}
 use Rattle.check_presences.specs.Gathered.{Rows-gathered, bits-in}
 use Rattle.check_presences.proofs.HalfLaws.{field-low}
-use Rattle.check_presences.proofs.GatherLaws.{zeros-room, gathers-room}
+use Rattle.check_presences.proofs.GatherLaws.{gathers-room}
 use Rattle.check_presences.proofs.PassedLaws.{Passed, rows-refused, passed-first, first-made, first-all, passed-more, fine-follows, passed-all, passed-twice}
 use Rattle.check_presences.proofs.rows_fine.Statement.{statement}
 use Rattle.check_presences.proofs.rows_fine.Tie as tie
@@ -54,7 +56,7 @@ room : (c : tie.At-loop Inv-loop μ-loop) → length (c .loop .held) ≡ length 
 room c = gathers-room (c .loop .inv .1 .1 .gathers) _ (start c .pre .1 .1 .1)
 
 slice-write-held : tie.Need-slice-write-held Inv-loop μ-loop
-slice-write-held c = let x = c .before .before in omega (arith, zeros-room (x .args .held .now) (x .pre .1 .1 .1))
+slice-write-held c = let x = c .before .before in omega (arith, zeros-room (limits .types) (x .pre .1 .1 .1))
 
 same-length : tie.Need-same-length Inv-loop μ-loop
 same-length c = search needs

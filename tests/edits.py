@@ -4,7 +4,7 @@
 def bends(edit):
     """Each bend of an edit file, as (the comment above it, the file, the old text, the new text).
 
-    A comment and a 'file:' line hold until the next, as in rt.
+    A 'file:' line holds until the next, as in rt, and so does a comment.
     """
     said = file = old = ""
     with open(edit, encoding="utf-8") as lines:

@@ -1,4 +1,6 @@
 // The asking calls. They read a sound base, and change nothing but an output.
+#![tactic(auto)]
+
 ghost use Rattle.rules.specs.11-Asks.{scan_object, scan_link, profile, find, depth_of, name, descendant_set, modes_of};
 ghost use Rattle.rules.specs.12-Contracts.{room, Listed, Answered, Handed};
 

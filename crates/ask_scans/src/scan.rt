@@ -76,7 +76,7 @@ pub fn of_object(base: &[u8], sdss: u16, t: usize, code: usize) -> TypeSet
 }
 
 // What a profile lists.
-#[derive(Drop)]
+#[derive(Clone, Copy)]
 pub struct Profile {
     pub ancestors: TypeSet,
     pub attributes: TypeSet,

@@ -8,7 +8,7 @@ ghost use Rattle.ask_scans.specs.View.{of_kind, Viewed};
 use base::Base;
 
 // The number of the refusal, 0 where there is none; then the SDSs that are listed.
-#[derive(Drop)]
+#[derive(Clone, Copy)]
 pub struct View {
     pub no: usize,
     pub listed: u16,

@@ -1,5 +1,7 @@
 // The lent base: here alone stands where a row starts, how wide it is and which of its bytes holds what. Everything above reads
 // fields by their number of SDS, type or row.
+#![tactic(auto)]
+
 pub mod order;
 pub mod used;
 
@@ -15,7 +17,7 @@ ghost use Rattle.base.specs.Rows.{sds_at, type_at, presence_at, application_at, 
 
 use rules::Limits;
 
-#[derive(Drop)]
+#[derive(Clone, Copy)]
 pub struct Base {}
 
 impl Base {

@@ -1,5 +1,7 @@
 // The edges of 01 and 02 as lines of calls (stdin), each printed with what it answers (stdout): its number, its three values, and the types
 // that it put down. A heading is printed as it is. The line `output n` is no call of 01: it shows the first n entries of the output.
+#![tactic(auto)]
+
 mod asks;
 mod calls;
 mod changes;

@@ -1,4 +1,6 @@
 // Attribute types applied to object and link types, and taken off them again.
+#![tactic(auto)]
+
 ghost use Rattle.std.specs.Prelude.{◌≡◌, length};
 ghost use Rattle.rules.specs.07-Picture.{base_length};
 ghost use Rattle.rules.specs.10-Changes.{application_refusals, apply, unapply};

@@ -1,4 +1,6 @@
 // The ends of link types: what the four calls test of their inputs, once, in the order of their refusals; and the calls.
+#![tactic(auto)]
+
 ghost use Rattle.std.specs.Prelude.{◌≡◌, suc, ◌<◌, length};
 ghost use Rattle.rules.specs.07-Picture.{base_length};
 ghost use Rattle.rules.specs.09-Refusals.{ends_full};

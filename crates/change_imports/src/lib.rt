@@ -1,4 +1,6 @@
 // A type of one SDS gets a presence in another, and its reverse with it, or its ancestors that are missing there.
+#![tactic(auto)]
+
 pub mod ancestors;
 
 ghost use Rattle.std.specs.Prelude.{◌≡◌, [], ◌∷◌, true, false, not, ◌&&◌, ◌||◌, eqb, length};

@@ -1,4 +1,6 @@
 // A fresh base; SDSs made and removed. Each call tests the refusals of its rule in their order, and writes only where none holds.
+#![tactic(auto)]
+
 ghost use Rattle.rules.specs.10-Changes.{new_sds, remove_sds};
 ghost use Rattle.rules.specs.12-Contracts.{Kept, Freshened};
 

@@ -1,4 +1,6 @@
 // The calls that make types. What they test of their inputs they test once, in the order of their refusals.
+#![tactic(auto)]
+
 ghost use Rattle.rules.specs.07-Picture.{Sound};
 ghost use Rattle.rules.specs.10-Changes.{new_attribute, new_designation};
 ghost use Rattle.rules.specs.12-Contracts.{Kept};

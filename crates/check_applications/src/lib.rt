@@ -1,4 +1,6 @@
 // Whether the applications of a base are fine: what their numbers may be, and then each row, in one pass over them.
+#![tactic(auto)]
+
 ghost use Rattle.std.specs.Prelude.{◌≡◌, ◌+◌, ◌≤◌, ◌<◌, length};
 ghost use Rattle.rules.specs.02-Limits.{limits};
 ghost use Rattle.rules.specs.07-Picture.{base_length, application_width};

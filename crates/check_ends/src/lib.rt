@@ -3,6 +3,8 @@
 // for among the rows passed; what such a mirror was asked of its types need not be asked again, for a type whose reverse is a link type is
 // one too, in the same SDSs. Those of the lower one lie ahead and are not looked for: no two ends have one mirror, so where there are as
 // many ends of lower types as of higher ones, none of them is left over.
+#![tactic(auto)]
+
 ghost use Rattle.std.specs.Prelude.{◌≡◌, cond, ◌≤◌, ◌<◌, length};
 ghost use Rattle.rules.specs.02-Limits.{limits};
 ghost use Rattle.rules.specs.07-Picture.{base_length};
@@ -19,7 +21,7 @@ use rules::Limits;
 // The group of an end: those of one SDS, link type and side. `top` is the highest number that one of them could have, `back` how far below
 // an end's number that of its mirror is, 0 where it does not stand behind. The next mirror is most often at `near`, past the one found
 // last; that is 0 where an end is not fine. The weights of all ends make the tally.
-#[derive(Drop)]
+#[derive(Clone, Copy)]
 pub struct Group {
     pub top: usize,
     pub back: usize,
@@ -28,7 +30,7 @@ pub struct Group {
 }
 
 // What an end counts in the tally: the ends whose mirrors stand ahead, and, in its higher half, those whose mirrors stand behind.
-#[derive(Drop)]
+#[derive(Clone, Copy)]
 pub struct Weight {}
 
 impl Weight {

@@ -1,4 +1,6 @@
 // Which SDSs hold each type: a word for each type, with a bit for each SDS.
+#![tactic(auto)]
+
 ghost use Rattle.std.specs.Prelude.{◌≡◌, length, get_or};
 ghost use Rattle.rules.specs.02-Limits.{limits};
 ghost use Rattle.rows.specs.Decides.{Decides};

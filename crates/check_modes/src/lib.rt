@@ -1,5 +1,7 @@
 // Whether a link type and its reverse have the same modes in every SDS: in one pass over the presences, which stand by SDS, with the last
 // row passed of each type in a word.
+#![tactic(auto)]
+
 ghost use Rattle.std.specs.Prelude.{◌≡◌, ◌<◌, replicate};
 ghost use Rattle.rules.specs.02-Limits.{limits};
 ghost use Rattle.rules.specs.Parts.{Alike};

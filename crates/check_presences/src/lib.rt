@@ -1,5 +1,7 @@
 // Whether the presences are as they would be written, in order, each in an SDS and with a name, or of an object type, and none twice: in
 // two passes, one over names, types and modes, and one over the rows' order, in which is gathered which SDSs hold each type.
+#![tactic(auto)]
+
 ghost use Rattle.std.specs.Prelude.{◌≡◌, true, false, ℕ, ◌+◌, ◌≤◌, ◌<◌, length, replicate};
 ghost use Rattle.std.specs.Int.Count.{ones};
 ghost use Rattle.rules.specs.02-Limits.{limits};
@@ -106,7 +108,7 @@ pub fn fields_told(base: &[u8], n: usize) -> usize
 // What a row is to stand above: the halves, less their case, of the name passed last in an SDS, and the bit of that SDS. Before the first
 // name of an SDS they are below every name and above a blank field: so one comparison tells that a row has a name and stands in its
 // place. Where the bit is 0 a row was refused.
-#[derive(Drop)]
+#[derive(Clone, Copy)]
 pub struct Floor {
     pub bit: u16,
     pub first: u64,

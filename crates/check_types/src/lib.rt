@@ -1,5 +1,7 @@
 // The types, in one pass: each row is as its kind is written, the types that it names are as its kind asks, and the SDSs that hold it
 // hold them too.
+#![tactic(auto)]
+
 ghost use Rattle.std.specs.Prelude.{◌≡◌, ℕ, ◌+◌, ◌≤◌, ◌<◌, true, length, replicate};
 ghost use Rattle.rules.specs.02-Limits.{limits};
 ghost use Rattle.rules.specs.07-Picture.{base_length, type_width};

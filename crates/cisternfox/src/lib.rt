@@ -1,5 +1,7 @@
 // The functions that the C service calls. Each is one call of document 01 or 02 and keeps that call's contract; include/cisternfox.h
 // says what the host owes.
+#![tactic(auto)]
+
 ghost use Rattle.rules.specs.10-Changes.{new_sds, remove_sds, new_object, new_attribute, new_designation, new_pair, import, apply, unapply};
 ghost use Rattle.rules.specs.10-Changes.{apply_link, unapply_link, add_destination, remove_destination, remove_type, remove_number, rename};
 ghost use Rattle.rules.specs.10-Changes.{rename_number, set_modes};

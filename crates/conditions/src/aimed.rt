@@ -10,7 +10,7 @@ ghost use Rattle.conditions.specs.Aimed.{sds_refusals, aim_refusals, AimTold, tw
 use rules::Limits;
 
 // The number of the refusal, 0 where there is none; then the types that a call goes on with, or the one that a refusal tells.
-#[derive(Drop)]
+#[derive(Clone, Copy)]
 pub struct Told {
     pub no: usize,
     pub one: usize,

@@ -1,4 +1,6 @@
 // The conditions under which the changing calls refuse, each decided.
+#![tactic(auto)]
+
 pub mod aimed;
 
 ghost use Rattle.std.specs.Prelude.{◌≡◌, ◌<◌, eqb, length};

@@ -1,5 +1,7 @@
 // Rows put in, taken out and written over: each is the same edit of the schema that the bytes show. Within a call a base is not
 // always sound; here it need only be stored. Where a row starts and how wide it is, `base` says.
+#![tactic(auto)]
+
 ghost use Rattle.std.specs.Prelude.{◌≡◌, ◌⊎◌, true, false, ◌||◌, ◌≤◌, ◌<◌, length, get_or};
 ghost use Rattle.rules.specs.01-Lists.{put, rising};
 ghost use Rattle.rules.specs.02-Limits.{limits};

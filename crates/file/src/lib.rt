@@ -1,4 +1,6 @@
 // The exchange file, out and in: the two calls. What stands where in a file its parts say, below.
+#![tactic(auto)]
+
 ghost use Rattle.std.specs.Prelude.{◌≡◌, cond, ◌≤◌, length};
 ghost use Rattle.rules.specs.07-Picture.{Sound, base_length};
 ghost use Rattle.rules.specs.11-File.{file_of, write_file};

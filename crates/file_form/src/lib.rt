@@ -1,4 +1,6 @@
 // The form of an exchange file. What its entries say is not looked at.
+#![tactic(auto)]
+
 ghost use Rattle.std.specs.Prelude.{◌≡◌, ◌≤◌, ◌<◌, length, get_or};
 ghost use Rattle.rules.specs.11-File.{widths};
 ghost use Rattle.file_form.specs.Form.{Told};
@@ -7,14 +9,14 @@ ghost use Rattle.file_form.specs.Walk.{full, above, within, top_byte, top, fitti
 use file_sections::Width;
 
 // Whether a file is well formed, and how long a start it shares with one that is.
-#[derive(Drop)]
+#[derive(Clone, Copy)]
 pub struct Verdict {
     pub good: bool,
     pub start: usize,
 }
 
 // Where a walk has come to, and whether what it was to pass is passed whole.
-#[derive(Drop)]
+#[derive(Clone, Copy)]
 pub struct Walk {
     pub at: usize,
     pub whole: bool,

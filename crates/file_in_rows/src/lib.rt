@@ -1,5 +1,7 @@
 // The last three sections of an exchange file, put into an area as long as a base. What comes of a bad file does not matter, since the
 // area is tested afterwards: so nothing is asked of the bytes, and something is promised only where they are those of a good schema.
+#![tactic(auto)]
+
 ghost use Rattle.std.specs.Prelude.{◌≡◌, ◌+◌, ◌*◌, ◌≤◌, ◌<◌, length, drop};
 ghost use Rattle.rules.specs.02-Limits.{limits};
 ghost use Rattle.rules.specs.07-Picture.{presence_width, base_length};

@@ -1,5 +1,7 @@
 // The first half of reading an exchange file: SDSs, types and parents. Any bytes are taken, and what is no entry of a schema is passed over or
 // written as it stands: whoever reads a file tests afterwards what came of it.
+#![tactic(auto)]
+
 ghost use Rattle.std.specs.Prelude.{◌≡◌, ◌≤◌, ◌<◌, length};
 ghost use Rattle.rules.specs.07-Picture.{base_length};
 ghost use Rattle.file_in_types.specs.Steps.{width_of, limit_of, step_of, sds_in, type_in, parent_in};
@@ -12,7 +14,7 @@ use rules::Limits;
 const MOST_PARENTS: usize = 4;
 
 // The sections, by number.
-#[derive(Drop)]
+#[derive(Clone, Copy)]
 struct Which {}
 
 impl Which {

@@ -1,5 +1,7 @@
 // The file of a sound base, part by part, so that a caller can write the parts one behind the other, or compare each with a piece of
 // a file.
+#![tactic(auto)]
+
 pub mod numbered;
 pub mod parents;
 pub mod tables;
@@ -20,7 +22,7 @@ use rules::Limits;
 const TYPE_KEPT: usize = Width::TYPE - 1;
 
 // Which part is which. Those of the presences are their count, and the entries of each SDS.
-#[derive(Drop)]
+#[derive(Clone, Copy)]
 pub struct Parts {}
 
 impl Parts {

@@ -1,11 +1,13 @@
 // The sections of an exchange file: how wide their entries are, here alone, and how many entries there are in one, wherever it starts.
+#![tactic(auto)]
+
 ghost use Rattle.std.specs.Prelude.{◌≡◌, ◌≤◌, ◌<◌};
 ghost use Rattle.file_sections.specs.Section.{SectionAt};
 
 use rules::Limits;
 
 // How many bytes a count takes, and an entry of each section.
-#[derive(Drop)]
+#[derive(Clone, Copy)]
 pub struct Width {}
 
 impl Width {

@@ -1,4 +1,5 @@
 // Whether no type is its own ancestor, from the rows of types alone.
+#![tactic(auto)]
 
 ghost use Rattle.std.specs.Prelude.{◌≡◌, true, ◌<◌, length, drop};
 ghost use Rattle.rules.specs.02-Limits.{limits};

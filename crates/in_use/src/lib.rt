@@ -1,5 +1,7 @@
 // What stands in the way when a type is removed from an SDS, or an SDS itself: the lowest type of each kind of obstacle, found by one
 // pass over its rows. As many as there are types stand for none.
+#![tactic(auto)]
+
 ghost use Rattle.std.specs.Prelude.{◌≡◌, ◌∷◌, ◌&&◌, ◌<◌, eqb};
 ghost use Rattle.rules.specs.01-Lists.{any, among};
 ghost use Rattle.rules.specs.02-Limits.{limits};

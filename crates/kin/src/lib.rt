@@ -1,5 +1,7 @@
 // The kin of a set of types: parents, children and ancestors, from the rows of types alone, and the descendants that are in some SDSs; and
 // the depth of a type.
+#![tactic(auto)]
+
 ghost use Rattle.std.specs.Prelude.{◌≡◌, true, false, ◌||◌, ℕ, ◌+◌, ◌≤◌, ◌<◌};
 ghost use Rattle.rules.specs.02-Limits.{limits};
 ghost use Rattle.rules.specs.04-Schema.{is_object, is_parent, kind_of};

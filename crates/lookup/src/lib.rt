@@ -1,4 +1,6 @@
 // A thing is looked up: by its numbers, by its name, or the lowest number that is free.
+#![tactic(auto)]
+
 pub mod applications;
 pub mod ends;
 pub mod named;

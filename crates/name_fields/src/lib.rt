@@ -1,4 +1,6 @@
 // The name in a field of a fixed width: its bytes, and zeros behind them.
+#![tactic(auto)]
+
 ghost use Rattle.std.specs.Prelude.{◌≡◌, ◌+◌, ◌-◌, ◌≤◌, length, if◌then◌else◌, ◌==◌, nat_eq, nat_lt};
 ghost use Rattle.name_fields.specs.Field.{name_field, blank_field, Stripped, may_follow, following, field_byte, may_stand, Gathered};
 

@@ -1,4 +1,6 @@
 // Names, and the runs of bytes that they stand in. What is well formed and what is the same is `rules`'.
+#![tactic(auto)]
+
 ghost use Rattle.std.specs.Prelude.{◌≡◌, ◌≤◌, eqb, length};
 ghost use Rattle.rules.specs.01-Lists.{same_bytes};
 ghost use Rattle.rules.specs.03-Names.{letter, letter_or_digit, well_formed, lower, same_name};
@@ -120,14 +122,14 @@ pub fn is_same(a: &[u8], b: &[u8]) -> bool
 }
 
 // A place in a run of names parted by single spaces, by value; where there is no more, none is left.
-#[derive(Drop)]
+#[derive(Clone, Copy)]
 pub struct Run {
     pub at: usize,
     pub more: bool,
 }
 
 // A name of a run, from start to end, and the place behind it.
-#[derive(Drop)]
+#[derive(Clone, Copy)]
 pub struct Part {
     pub start: usize,
     pub end: usize,

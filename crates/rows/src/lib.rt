@@ -1,4 +1,6 @@
 // Rows of a table by their bytes: a start, a width, a number of rows. No offset of a base is known here.
+#![tactic(auto)]
+
 pub mod order;
 pub mod table;
 pub mod used;

@@ -5,7 +5,7 @@ ghost use Rattle.rows.specs.Rows.{part};
 ghost use Rattle.rows.specs.Order.{folded, number, low_first, numbers_of, Low, LowName, Keyed, Folded};
 
 // The 17 bytes of a presence that are compared: its SDS, and its name, less its case, in two numbers.
-#[derive(Drop)]
+#[derive(Clone, Copy)]
 pub struct Key {
     pub sds: u8,
     pub first: u64,

@@ -225,7 +225,7 @@ module _ {A : Type 0} where
 
 -- ---- each made another
 
-pub map_of : {A B : Type 0} (f : A → B) {l : List A} {x : A} → x ∈ l → f x ∈ map f l
+pub map_of : {A B : Type 0} (f : A → B) {x : A} {l : List A} → x ∈ l → f x ∈ map f l
 map_of f (Memᴰ.head h) = Memᴰ.head (ap f h)
 map_of f (Memᴰ.tail i) = Memᴰ.tail (map_of f i)
 

@@ -1,11 +1,13 @@
 // What every crate above needs to speak of a base: its limits, and the answer of a call. The rules themselves are
 // definitions, in specs/.
+#![tactic(auto)]
+
 ghost use Rattle.std.specs.Prelude.{◌≡◌};
 ghost use Rattle.rules.specs.02-Limits.{limits};
 ghost use Rattle.rules.specs.09-Refusals.{telling, refusal, success};
 
 // The room of a base. The definitions cannot name a constant of the source, so `all` ties the two.
-#[derive(Drop)]
+#[derive(Clone, Copy)]
 pub struct Limits {
     pub name: usize,
     pub sdss: usize,
@@ -44,7 +46,7 @@ impl Limits {
 
 // 01's number, and the values in 01's order; those that a call does not speak of are 0.
 #[repr(C)]
-#[derive(Drop)]
+#[derive(Clone, Copy)]
 pub struct Answer {
     pub no: usize,
     pub one: usize,

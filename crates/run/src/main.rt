@@ -1,4 +1,6 @@
 // The run program: from a fresh base, a line printed for each line that is read. All but reading and writing is in `words` and `reply`.
+#![tactic(auto)]
+
 ghost use Rattle.std.specs.Prelude.{◌≡◌, length};
 ghost use Rattle.rules.specs.07-Picture.{base_length};
 

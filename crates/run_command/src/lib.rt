@@ -1,4 +1,6 @@
 // Which command a line gives.
+#![tactic(auto)]
+
 pub mod called;
 pub mod parts;
 

@@ -1,4 +1,6 @@
 // What the run program prints: numbers in decimal, one after the other.
+#![tactic(auto)]
+
 ghost use Rattle.std.specs.Prelude.{◌+◌, ◌*◌, ◌≤◌, ◌<◌, [], ◌∷◌, length};
 ghost use Rattle.rules.specs.01-Lists.{bytes};
 ghost use Rattle.rules.specs.14-Run.{decimal};

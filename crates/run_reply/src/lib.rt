@@ -1,4 +1,6 @@
 // The run program's reply to a line.
+#![tactic(auto)]
+
 pub mod change;
 pub mod question;
 

@@ -3,7 +3,7 @@ ghost use Rattle.std.specs.Prelude.{◌≡◌, false, length, take};
 ghost use Rattle.run_words.specs.Input.{Within, Ready, unread, Filled, Advanced, NextLine};
 
 // A place in the bytes that were read last, of which there are n; how many bytes are kept of the line at hand; whether the input is over.
-#[derive(Drop)]
+#[derive(Clone, Copy)]
 pub struct Input {
     pub from: usize,
     pub n: usize,
@@ -11,7 +11,7 @@ pub struct Input {
     pub over: bool,
 }
 
-#[derive(Drop)]
+#[derive(Clone, Copy)]
 struct Step {
     input: Input,
     whole: bool,

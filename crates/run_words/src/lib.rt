@@ -1,4 +1,6 @@
 // The lines of the run program: gathered from what is read, and split into words.
+#![tactic(auto)]
+
 pub mod input;
 
 ghost use Rattle.std.specs.Prelude.{◌≡◌, ◌≤◌, ◌<◌, length};
@@ -12,7 +14,7 @@ use names::Run;
 // ---- lines
 
 // A line may have 127 bytes. One more is kept of it, so that a longer one is told from it.
-#[derive(Drop)]
+#[derive(Clone, Copy)]
 pub struct Line {}
 
 impl Line {
@@ -20,7 +22,7 @@ impl Line {
 }
 
 // The place behind what was gathered, how many bytes are kept of the line, and whether its newline was met.
-#[derive(Drop)]
+#[derive(Clone, Copy)]
 pub struct Gathered {
     pub at: usize,
     pub kept: usize,
@@ -68,7 +70,7 @@ pub fn gather(read: &[u8], from: usize, line: &mut [u8], n: usize) -> Gathered
 // ---- words
 
 // A word of a line, from start to end.
-#[derive(Drop)]
+#[derive(Clone, Copy)]
 pub struct Word {
     pub start: usize,
     pub end: usize,

@@ -1,5 +1,7 @@
 // The check of soundness: exactly the pictures of good schemas. Each part of it decides some fields of `Good`, and what they need of
 // the bytes; every call of the keeper begins with it.
+#![tactic(auto)]
+
 ghost use Rattle.rules.specs.07-Picture.{Sound};
 ghost use Rattle.rows.specs.Decides.{Decides};
 

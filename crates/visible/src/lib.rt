@@ -1,4 +1,6 @@
 // What the SDSs of a word show: sets of types, each gathered row by row from one table, and the modes of a type.
+#![tactic(auto)]
+
 ghost use Rattle.std.specs.Prelude.{◌≡◌, ◌&&◌, ℕ, ◌<◌, eqb};
 ghost use Rattle.rules.specs.04-Schema.{side_code};
 ghost use Rattle.rules.specs.07-Picture.{Sound};
@@ -36,7 +38,7 @@ pub fn is_visible(base: &[u8], sdss: u16, t: usize) -> bool
 }
 
 // Two sets of modes, usage and definition.
-#[derive(Drop)]
+#[derive(Clone, Copy)]
 pub struct Modes {
     pub usage: usize,
     pub definition: usize,

@@ -3,11 +3,11 @@ use Rattle.std.proofs.Common.{eq-eqb, ne_eqb}
 use Rattle.name_fields.proofs.behind_zero.Statement.{statement}
 use Rattle.name_fields.proofs.behind_zero.Tie as tie
 
+returns-then-last-eq0 : tie.Need-returns-then-last-eq0
+returns-then-last-eq0 c = rw (eq-eqb c.args.last 0 c.if-last-eq0.true)
+
 returns : tie.Need-returns
-returns c = rw (eq-eqb c.before.args.last 0 c.if1.true)
+returns c = rw (ne_eqb c.args.last 0 c.if-last-eq0.false)
 
-returns-2 : tie.Need-returns-2
-returns-2 c = rw (ne_eqb c.before.args.last 0 c.if1.false)
-
-pub behind-zero-spec : {M : Type 1} → statement M
-behind-zero-spec = tie.close (tie.spec returns returns-2)
+pub behind_zero_spec : {M : Type 1} → statement M
+behind_zero_spec = tie.close (tie.spec returns-then-last-eq0 returns)

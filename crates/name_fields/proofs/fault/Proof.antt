@@ -7,14 +7,14 @@ use Rattle.name_fields.proofs.fault.Tie as tie
 strangeness-requires : tie.Need-strangeness-requires
 strangeness-requires c κs = search rules
 
-behind-zero-requires : tie.Need-behind-zero-requires
-behind-zero-requires c κs = search rules
+behind_zero-requires : tie.Need-behind_zero-requires
+behind_zero-requires c κs = search rules
 
 returns : tie.Need-returns
 returns c =
     let one = c.before in
-    let x = one.before.args in
-    both_fine x.last x.c one.strangeness.result c.behind-zero.result one.strangeness.ensures c.behind-zero.ensures
+    let x = one.args in
+    both_fine x.last x.c one.strangeness.result c.behind_zero.result one.strangeness.ensures c.behind_zero.ensures
 
-pub fault-spec : {M : Type 1} → statement M
-fault-spec = tie.close (tie.spec strangeness-requires behind-zero-requires returns)
+pub fault_spec : {M : Type 1} → statement M
+fault_spec = tie.close (tie.spec strangeness-requires behind_zero-requires returns)

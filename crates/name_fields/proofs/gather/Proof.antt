@@ -6,88 +6,88 @@ use Rattle.name_fields.proofs.StandLaws.{left, stand_none, stand_end, gather_mor
 use Rattle.name_fields.proofs.gather.Statement.{statement}
 use Rattle.name_fields.proofs.gather.Tie as tie
 
-abbrev invariant-loop : tie.invariant-loop
-invariant-loop base at faults₀ i₀ faults i =
+abbrev invariant-loop-i : tie.invariant-loop-i
+invariant-loop-i base at faults₀ i₀ faults i =
     ((i ≤ 16) × (length faults ≡ 16))
     × ((blank_field faults₀ && standing (get_or base at 0) (take 16 (drop (at + 1) base))) ≡ (blank_field faults && left base at i))
 
-abbrev decreases-loop : tie.decreases-loop
-decreases-loop base at faults₀ i₀ faults i = 16 - i
+abbrev decreases-loop-i : tie.decreases-loop-i
+decreases-loop-i base at faults₀ i₀ faults i = 16 - i
 
-loop-holds : tie.Need-loop-init invariant-loop decreases-loop
-loop-holds c =
+loop-i-init : tie.Need-loop-i-init invariant-loop-i decreases-loop-i
+loop-i-init c =
     let start = c.before.before in
     let x = start.args in
     ((omega arith, start.requires.1), ap (λ t. blank_field x.faults.now && t) (stand_none x.base.now x.at))
 
-add-fault : tie.Need-overflow-add-fault invariant-loop decreases-loop
-add-fault c = search rules
+overflow_add-at : tie.Need-overflow_add-at invariant-loop-i decreases-loop-i
+overflow_add-at c = search rules
 
-shared-slice-read-fault : tie.Need-shared-slice-read-fault invariant-loop decreases-loop
-shared-slice-read-fault c = search rules
+bounds-base-at : tie.Need-bounds-base-at invariant-loop-i decreases-loop-i
+bounds-base-at c = search rules
 
-add-fault-2 : tie.Need-overflow-add-fault-2 invariant-loop decreases-loop
-add-fault-2 c = search rules
+overflow_add-at-in-loop-i : tie.Need-overflow_add-at-in-loop-i invariant-loop-i decreases-loop-i
+overflow_add-at-in-loop-i c = search rules
 
-add-fault-3 : tie.Need-overflow-add-fault-3 invariant-loop decreases-loop
-add-fault-3 c = search rules
+overflow_add-at-in-loop-i-2 : tie.Need-overflow_add-at-in-loop-i-2 invariant-loop-i decreases-loop-i
+overflow_add-at-in-loop-i-2 c = search rules
 
-shared-slice-read-fault-2 : tie.Need-shared-slice-read-fault-2 invariant-loop decreases-loop
-shared-slice-read-fault-2 c = search rules
+bounds-base-at-in-loop-i : tie.Need-bounds-base-at-in-loop-i invariant-loop-i decreases-loop-i
+bounds-base-at-in-loop-i c = search rules
 
-fault-requires : tie.Need-fault-requires invariant-loop decreases-loop
+fault-requires : tie.Need-fault-requires invariant-loop-i decreases-loop-i
 fault-requires c κs = search rules
 
-slice-read-faults : tie.Need-slice-read-faults invariant-loop decreases-loop
-slice-read-faults c = search rules
+bounds-faults-i : tie.Need-bounds-faults-i invariant-loop-i decreases-loop-i
+bounds-faults-i c = search rules
 
-slice-write-faults : tie.Need-slice-write-faults invariant-loop decreases-loop
-slice-write-faults c = search rules
+bounds-faults-i-in-loop-i : tie.Need-bounds-faults-i-in-loop-i invariant-loop-i decreases-loop-i
+bounds-faults-i-in-loop-i c = search rules
 
-add-i : tie.Need-overflow-add-i invariant-loop decreases-loop
-add-i c = search rules
+overflow_add-i : tie.Need-overflow_add-i invariant-loop-i decreases-loop-i
+overflow_add-i c = search rules
 
-loop-less : tie.Need-loop-smaller invariant-loop decreases-loop
-loop-less c = search rules
+loop-i-smaller : tie.Need-loop-i-smaller invariant-loop-i decreases-loop-i
+loop-i-smaller c = search rules
 
-loop-again : tie.Need-loop-preserved invariant-loop decreases-loop
-loop-again c =
+loop-i-preserved : tie.Need-loop-i-preserved invariant-loop-i decreases-loop-i
+loop-i-preserved c =
     let at = c.before.before.before.before.before in
     let start = at.before.before.before in
-    let faults = at.loop.faults in (
-      (omega arith, length-set faults at.loop.i _ ∙ at.loop.invariant.0.1),
-      at.loop.invariant.1 ∙ gather_more start.args.base.now faults start.args.at at.loop.i c.before.fault.result start.requires.0
-          at.loop.invariant.0.1 (omega arith) c.before.fault.ensures,
+    let faults = at.loop-i.faults in (
+      (omega arith, length-set faults at.loop-i.i _ ∙ at.loop-i.invariant.0.1),
+      at.loop-i.invariant.1 ∙ gather_more start.args.base.now faults start.args.at at.loop-i.i c.fault.result start.requires.0
+          at.loop-i.invariant.0.1 (omega arith) c.fault.ensures,
     )
 
-same_length : tie.Need-same-length invariant-loop decreases-loop
-same_length c = search rules
+shape_of-faults : tie.Need-shape_of-faults invariant-loop-i decreases-loop-i
+shape_of-faults c = search rules
 
-returns : tie.Need-returns invariant-loop decreases-loop
+returns : tie.Need-returns invariant-loop-i decreases-loop-i
 returns c =
     let at = c.before in
     let start = at.before.before.before in record {
-      room = at.loop.invariant.0.1;
-      blank = sym (at.loop.invariant.1 ∙ stand_end start.args.base.now start.args.at at.loop.i _ (omega (arith, c.loop-test.false)));
+      room = at.loop-i.invariant.0.1;
+      blank = sym (at.loop-i.invariant.1 ∙ stand_end start.args.base.now start.args.at at.loop-i.i _ (omega (arith, c.loop-i-test.false)));
     }
 
-pub gather-spec : {M : Type 1} → statement M
-gather-spec =
+pub gather_spec : {M : Type 1} → statement M
+gather_spec =
     tie.close
     (tie.spec
-    invariant-loop
-    decreases-loop
-    loop-holds
-    add-fault
-    shared-slice-read-fault
-    add-fault-2
-    add-fault-3
-    shared-slice-read-fault-2
+    invariant-loop-i
+    decreases-loop-i
+    loop-i-init
+    overflow_add-at
+    bounds-base-at
+    overflow_add-at-in-loop-i
+    overflow_add-at-in-loop-i-2
+    bounds-base-at-in-loop-i
     fault-requires
-    slice-read-faults
-    slice-write-faults
-    add-i
-    loop-less
-    loop-again
-    same_length
+    bounds-faults-i
+    bounds-faults-i-in-loop-i
+    overflow_add-i
+    loop-i-smaller
+    loop-i-preserved
+    shape_of-faults
     returns)

@@ -6,35 +6,35 @@ use Rattle.name_fields.proofs.FieldLaws.{blank_more, blank_end}
 use Rattle.name_fields.proofs.is_blank_field.Statement.{statement}
 use Rattle.name_fields.proofs.is_blank_field.Tie as tie
 
-abbrev invariant-loop : tie.invariant-loop
-invariant-loop field bits₀ i₀ bits i = (i ≤ length field) × (blank_field field ≡ (eqb bits 0 && blank_field (drop i field)))
+abbrev invariant-loop-i : tie.invariant-loop-i
+invariant-loop-i field bits₀ i₀ bits i = (i ≤ length field) × (blank_field field ≡ (eqb bits 0 && blank_field (drop i field)))
 
-abbrev decreases-loop : tie.decreases-loop
-decreases-loop field bits₀ i₀ bits i = length field - i
+abbrev decreases-loop-i : tie.decreases-loop-i
+decreases-loop-i field bits₀ i₀ bits i = length field - i
 
-loop-holds : tie.Need-loop-init invariant-loop decreases-loop
-loop-holds c = (omega arith, refl)
+loop-i-init : tie.Need-loop-i-init invariant-loop-i decreases-loop-i
+loop-i-init c = (omega arith, refl)
 
-shared-slice-read-bits : tie.Need-shared-slice-read-bits invariant-loop decreases-loop
-shared-slice-read-bits c = omega arith
+bounds-field-i : tie.Need-bounds-field-i invariant-loop-i decreases-loop-i
+bounds-field-i c = omega arith
 
-add-i : tie.Need-overflow-add-i invariant-loop decreases-loop
-add-i c = omega arith
+overflow_add-i : tie.Need-overflow_add-i invariant-loop-i decreases-loop-i
+overflow_add-i c = omega arith
 
-loop-less : tie.Need-loop-smaller invariant-loop decreases-loop
-loop-less c = omega arith
+loop-i-smaller : tie.Need-loop-i-smaller invariant-loop-i decreases-loop-i
+loop-i-smaller c = omega arith
 
-loop-again : tie.Need-loop-preserved invariant-loop decreases-loop
-loop-again c =
+loop-i-preserved : tie.Need-loop-i-preserved invariant-loop-i decreases-loop-i
+loop-i-preserved c =
     let at = c.before.before in
-    (omega arith, at.loop.invariant.1 ∙ blank_more at.before.args.field.now at.loop.i at.loop.bits (omega arith))
+    (omega arith, at.loop-i.invariant.1 ∙ blank_more at.args.field.now at.loop-i.i at.loop-i.bits (omega arith))
 
-returns : tie.Need-returns invariant-loop decreases-loop
+returns : tie.Need-returns invariant-loop-i decreases-loop-i
 returns c =
     let at = c.before in
-    sym (at.loop.invariant.1 ∙ blank_end at.before.args.field.now at.loop.i at.loop.bits (omega arith))
+    sym (at.loop-i.invariant.1 ∙ blank_end at.args.field.now at.loop-i.i at.loop-i.bits (omega arith))
 
-pub is-blank-field-spec : {M : Type 1} → statement M
-is-blank-field-spec =
+pub is_blank_field_spec : {M : Type 1} → statement M
+is_blank_field_spec =
     tie.close
-    (tie.spec invariant-loop decreases-loop loop-holds shared-slice-read-bits add-i loop-less loop-again returns)
+    (tie.spec invariant-loop-i decreases-loop-i loop-i-init bounds-field-i overflow_add-i loop-i-smaller loop-i-preserved returns)

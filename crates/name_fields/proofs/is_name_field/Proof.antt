@@ -8,7 +8,7 @@ follows-requires : tie.Need-follows-requires
 follows-requires c κs = search rules
 
 returns : tie.Need-returns
-returns c = c.follows.ensures ∙ following_named _ c.before.before.requires
+returns c = c.follows.ensures ∙ following_named _ c.requires
 
-pub is-name-field-spec : {M : Type 1} → statement M
-is-name-field-spec = tie.close (tie.spec follows-requires returns)
+pub is_name_field_spec : {M : Type 1} → statement M
+is_name_field_spec = tie.close (tie.spec follows-requires returns)

@@ -3,11 +3,11 @@ use Rattle.std.proofs.Common.{le-ltb, lt-ltb}
 use Rattle.name_fields.proofs.lesser.Statement.{statement}
 use Rattle.name_fields.proofs.lesser.Tie as tie
 
+returns-then-x-y : tie.Need-returns-then-x-y
+returns-then-x-y c = rw (lt-ltb c.args.x c.args.y c.if-x-y.true)
+
 returns : tie.Need-returns
-returns c = rw (lt-ltb c.before.args.x c.before.args.y c.if1.true)
+returns c = rw (le-ltb c.args.x c.args.y c.if-x-y.false)
 
-returns-2 : tie.Need-returns-2
-returns-2 c = rw (le-ltb c.before.args.x c.before.args.y c.if1.false)
-
-pub lesser-spec : {M : Type 1} → statement M
-lesser-spec = tie.close (tie.spec returns returns-2)
+pub lesser_spec : {M : Type 1} → statement M
+lesser_spec = tie.close (tie.spec returns-then-x-y returns)

@@ -9,5 +9,5 @@ returns : tie.Need-returns
 unfolding may_follow letter letter_or_digit
 returns c = refl
 
-pub may-follow-spec : {M : Type 1} → statement M
-may-follow-spec = tie.close (tie.spec returns)
+pub may_follow_spec : {M : Type 1} → statement M
+may_follow_spec = tie.close (tie.spec returns)

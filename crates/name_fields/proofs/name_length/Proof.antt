@@ -6,54 +6,54 @@ use Rattle.name_fields.proofs.FieldLaws.{strip_zero, strip_end, strip_step, stri
 use Rattle.name_fields.proofs.name_length.Statement.{statement}
 use Rattle.name_fields.proofs.name_length.Tie as tie
 
-abbrev invariant-loop : tie.invariant-loop
-invariant-loop field i₀ i = (i ≤ length field) × (length (strip field) ≡ i + length (strip (drop i field)))
+abbrev invariant-loop-i : tie.invariant-loop-i
+invariant-loop-i field i₀ i = (i ≤ length field) × (length (strip field) ≡ i + length (strip (drop i field)))
 
-abbrev decreases-loop : tie.decreases-loop
-decreases-loop field i₀ i = length field - i
+abbrev decreases-loop-i : tie.decreases-loop-i
+decreases-loop-i field i₀ i = length field - i
 
-loop-holds : tie.Need-loop-init invariant-loop decreases-loop
-loop-holds c = omega arith
+loop-i-init : tie.Need-loop-i-init invariant-loop-i decreases-loop-i
+loop-i-init c = omega arith
 
-shared-slice-read-if1 : tie.Need-shared-slice-read-if1 invariant-loop decreases-loop
-shared-slice-read-if1 c = omega arith
+bounds-field-i : tie.Need-bounds-field-i invariant-loop-i decreases-loop-i
+bounds-field-i c = omega arith
 
-returns : tie.Need-returns invariant-loop decreases-loop
-returns c =
+returns-then-field-i-eq0 : tie.Need-returns-then-field-i-eq0 invariant-loop-i decreases-loop-i
+returns-then-field-i-eq0 c =
     let at = c.before.before.before in
-    let l = at.before.args.field.now in
-    let i = at.loop.i in
-    stripped l i at.loop.invariant.0 at.loop.invariant.1 (strip_zero l i (omega arith) c.if1.true)
+    let l = at.args.field.now in
+    let i = at.loop-i.i in
+    stripped l i at.loop-i.invariant.0 at.loop-i.invariant.1 (strip_zero l i (omega arith) c.if-field-i-eq0.true)
 
-add-i : tie.Need-overflow-add-i invariant-loop decreases-loop
-add-i c = omega arith
+overflow_add-i : tie.Need-overflow_add-i invariant-loop-i decreases-loop-i
+overflow_add-i c = omega arith
 
-loop-less : tie.Need-loop-smaller invariant-loop decreases-loop
-loop-less c = omega arith
+loop-i-smaller : tie.Need-loop-i-smaller invariant-loop-i decreases-loop-i
+loop-i-smaller c = omega arith
 
-loop-again : tie.Need-loop-preserved invariant-loop decreases-loop
-loop-again c =
+loop-i-preserved : tie.Need-loop-i-preserved invariant-loop-i decreases-loop-i
+loop-i-preserved c =
     let at = c.before.before.before in
-    let next = strip_step at.before.args.field.now at.loop.i (omega arith) c.if1.false in
+    let next = strip_step at.args.field.now at.loop-i.i (omega arith) c.if-field-i-eq0.false in
     omega arith
 
-returns-2 : tie.Need-returns-2 invariant-loop decreases-loop
-returns-2 c =
+returns : tie.Need-returns invariant-loop-i decreases-loop-i
+returns c =
     let at = c.before in
-    let l = at.before.args.field.now in
-    let i = at.loop.i in
-    stripped l i at.loop.invariant.0 at.loop.invariant.1 (strip_end l i (omega arith))
+    let l = at.args.field.now in
+    let i = at.loop-i.i in
+    stripped l i at.loop-i.invariant.0 at.loop-i.invariant.1 (strip_end l i (omega arith))
 
-pub name-length-spec : {M : Type 1} → statement M
-name-length-spec =
+pub name_length_spec : {M : Type 1} → statement M
+name_length_spec =
     tie.close
     (tie.spec
-    invariant-loop
-    decreases-loop
-    loop-holds
-    shared-slice-read-if1
-    returns
-    add-i
-    loop-less
-    loop-again
-    returns-2)
+    invariant-loop-i
+    decreases-loop-i
+    loop-i-init
+    bounds-field-i
+    returns-then-field-i-eq0
+    overflow_add-i
+    loop-i-smaller
+    loop-i-preserved
+    returns)

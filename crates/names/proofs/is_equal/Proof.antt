@@ -9,60 +9,60 @@ use Rattle.names.proofs.Laws.{same_length, same_stop, same_go_on, same_end}
 use Rattle.names.proofs.is_equal.Statement.{statement}
 use Rattle.names.proofs.is_equal.Tie as tie
 
-abbrev invariant-loop : tie.invariant-loop
-invariant-loop a b i₀ i = (i ≤ length a) × (same_bytes a b ≡ same_bytes (drop i a) (drop i b))
+abbrev invariant-loop-i : tie.invariant-loop-i
+invariant-loop-i a b i₀ i = (i ≤ length a) × (same_bytes a b ≡ same_bytes (drop i a) (drop i b))
 
-abbrev decreases-loop : tie.decreases-loop
-decreases-loop a b i₀ i = length a - i
+abbrev decreases-loop-i : tie.decreases-loop-i
+decreases-loop-i a b i₀ i = length a - i
 
-returns : tie.Need-returns invariant-loop decreases-loop
-returns c = sym (same_length c.before.args.a.now c.before.args.b.now c.if1.true)
+returns-then-a-b : tie.Need-returns-then-a-b invariant-loop-i decreases-loop-i
+returns-then-a-b c = sym (same_length c.args.a.now c.args.b.now c.if-a-b.true)
 
-loop-holds : tie.Need-loop-init invariant-loop decreases-loop
-loop-holds c = (omega arith, refl)
+loop-i-init : tie.Need-loop-i-init invariant-loop-i decreases-loop-i
+loop-i-init c = (omega arith, refl)
 
-shared-slice-read-if2 : tie.Need-shared-slice-read-if2 invariant-loop decreases-loop
-shared-slice-read-if2 c = omega arith
+bounds-a-i : tie.Need-bounds-a-i invariant-loop-i decreases-loop-i
+bounds-a-i c = omega arith
 
-shared-slice-read-if2-2 : tie.Need-shared-slice-read-if2-2 invariant-loop decreases-loop
-shared-slice-read-if2-2 c = omega arith
+bounds-b-i : tie.Need-bounds-b-i invariant-loop-i decreases-loop-i
+bounds-b-i c = omega arith
 
-returns-2 : tie.Need-returns-2 invariant-loop decreases-loop
-returns-2 c =
+returns-then-a-i : tie.Need-returns-then-a-i invariant-loop-i decreases-loop-i
+returns-then-a-i c =
     let at = c.before.before.before.before in
-    let args = at.before.before.args in
-    sym (at.loop.invariant.1 ∙ same_stop args.a.now args.b.now at.loop.i (omega arith) (omega arith) c.if2.true)
+    let args = at.args in
+    sym (at.loop-i.invariant.1 ∙ same_stop args.a.now args.b.now at.loop-i.i (omega arith) (omega arith) c.if-a-i.true)
 
-add-i : tie.Need-overflow-add-i invariant-loop decreases-loop
-add-i c = omega arith
+overflow_add-i : tie.Need-overflow_add-i invariant-loop-i decreases-loop-i
+overflow_add-i c = omega arith
 
-loop-less : tie.Need-loop-smaller invariant-loop decreases-loop
-loop-less c = omega arith
+loop-i-smaller : tie.Need-loop-i-smaller invariant-loop-i decreases-loop-i
+loop-i-smaller c = omega arith
 
-loop-again : tie.Need-loop-preserved invariant-loop decreases-loop
-loop-again c =
+loop-i-preserved : tie.Need-loop-i-preserved invariant-loop-i decreases-loop-i
+loop-i-preserved c =
     let at = c.before.before.before.before in
-    let args = at.before.before.args in
-    (omega arith, at.loop.invariant.1 ∙ same_go_on args.a.now args.b.now at.loop.i (omega arith) (omega arith) c.if2.false)
+    let args = at.args in
+    (omega arith, at.loop-i.invariant.1 ∙ same_go_on args.a.now args.b.now at.loop-i.i (omega arith) (omega arith) c.if-a-i.false)
 
-returns-3 : tie.Need-returns-3 invariant-loop decreases-loop
-returns-3 c =
+returns : tie.Need-returns invariant-loop-i decreases-loop-i
+returns c =
     let at = c.before in
-    let args = at.before.before.args in
-    sym (at.loop.invariant.1 ∙ same_end args.a.now args.b.now at.loop.i (omega arith) (omega arith))
+    let args = at.args in
+    sym (at.loop-i.invariant.1 ∙ same_end args.a.now args.b.now at.loop-i.i (omega arith) (omega arith))
 
-pub is-equal-spec : {M : Type 1} → statement M
-is-equal-spec =
+pub is_equal_spec : {M : Type 1} → statement M
+is_equal_spec =
     tie.close
     (tie.spec
-    invariant-loop
-    decreases-loop
-    returns
-    loop-holds
-    shared-slice-read-if2
-    shared-slice-read-if2-2
-    returns-2
-    add-i
-    loop-less
-    loop-again
-    returns-3)
+    invariant-loop-i
+    decreases-loop-i
+    returns-then-a-b
+    loop-i-init
+    bounds-a-i
+    bounds-b-i
+    returns-then-a-i
+    overflow_add-i
+    loop-i-smaller
+    loop-i-preserved
+    returns)

@@ -6,11 +6,11 @@ use Rattle.names.proofs.Laws.{marked_letter}
 use Rattle.names.proofs.is_letter.Statement.{statement}
 use Rattle.names.proofs.is_letter.Tie as tie
 
-is-marked-requires : tie.Need-is-marked-requires
-is-marked-requires c κs = search rules
+is_marked-requires : tie.Need-is_marked-requires
+is_marked-requires c κs = search rules
 
 returns : tie.Need-returns
-returns c = c.is-marked.ensures ∙ marked_letter c.before.args.c (search rules)
+returns c = c.is_marked.ensures ∙ marked_letter c.args.c (search rules)
 
-pub is-letter-spec : {M : Type 1} → statement M
-is-letter-spec = tie.close (tie.spec is-marked-requires returns)
+pub is_letter_spec : {M : Type 1} → statement M
+is_letter_spec = tie.close (tie.spec is_marked-requires returns)

@@ -6,28 +6,28 @@ use Rattle.names.proofs.Laws.{marked_low, marked_high, marked_none}
 use Rattle.names.proofs.is_marked.Statement.{statement}
 use Rattle.names.proofs.is_marked.Tie as tie
 
-shr-result : tie.Need-overflow-shr-result
-shr-result c = search rules
+overflow_shr-result : tie.Need-overflow_shr-result
+overflow_shr-result c = search rules
+
+returns-then-c-lt64 : tie.Need-returns-then-c-lt64
+returns-then-c-lt64 c = sym (marked_low c.args.low c.args.high c.args.c c.if-c-lt64.true)
+
+overflow_cast-result-then-c-lt128 : tie.Need-overflow_cast-result-then-c-lt128
+overflow_cast-result-then-c-lt128 c = search rules
+
+overflow_shr-result-then-c-lt128 : tie.Need-overflow_shr-result-then-c-lt128
+overflow_shr-result-then-c-lt128 c = search rules
+
+returns-then-c-lt128 : tie.Need-returns-then-c-lt128
+returns-then-c-lt128 c =
+    let args = c.args in
+    sym (marked_high args.low args.high args.c c.if-c-lt64.false c.if-c-lt128.true)
 
 returns : tie.Need-returns
-returns c = sym (marked_low c.before.args.low c.before.args.high c.before.args.c c.if1.true)
+returns c =
+    let args = c.args in
+    sym (marked_none args.low args.high args.c c.if-c-lt128.false)
 
-cast-result : tie.Need-overflow-cast-result
-cast-result c = search rules
-
-shr-result-2 : tie.Need-overflow-shr-result-2
-shr-result-2 c = search rules
-
-returns-2 : tie.Need-returns-2
-returns-2 c =
-    let args = c.before.before.args in
-    sym (marked_high args.low args.high args.c c.before.if1.false c.if2.true)
-
-returns-3 : tie.Need-returns-3
-returns-3 c =
-    let args = c.before.before.args in
-    sym (marked_none args.low args.high args.c c.if2.false)
-
-pub is-marked-spec : {M : Type 1} → statement M
-is-marked-spec =
-    tie.close (tie.spec shr-result returns cast-result shr-result-2 returns-2 returns-3)
+pub is_marked_spec : {M : Type 1} → statement M
+is_marked_spec =
+    tie.close (tie.spec overflow_shr-result returns-then-c-lt64 overflow_cast-result-then-c-lt128 overflow_shr-result-then-c-lt128 returns-then-c-lt128 returns)

@@ -7,8 +7,8 @@ use Rattle.rules.specs.03-Names.{lower}
 use Rattle.names.proofs.is_same_byte.Statement.{statement}
 use Rattle.names.proofs.is_same_byte.Tie as tie
 
-returns : tie.Need-returns
-returns c = sym (eq-eqb (lower c.before.args.x) (lower c.before.args.y) (ap lower c.if1.true))
+returns-then-x-y : tie.Need-returns-then-x-y
+returns-then-x-y c = sym (eq-eqb (lower c.args.x) (lower c.args.y) (ap lower c.if-x-y.true))
 
 lower-requires : tie.Need-lower-requires
 lower-requires c κs = search rules
@@ -16,8 +16,8 @@ lower-requires c κs = search rules
 lower-requires-2 : tie.Need-lower-requires-2
 lower-requires-2 c κs = search rules
 
-returns-2 : tie.Need-returns-2
-returns-2 c = ap₂ eqb c.before.lower.ensures c.lower2.ensures
+returns : tie.Need-returns
+returns c = ap₂ eqb c.lower.ensures c.lower-2.ensures
 
-pub is-same-byte-spec : {M : Type 1} → statement M
-is-same-byte-spec = tie.close (tie.spec returns lower-requires lower-requires-2 returns-2)
+pub is_same_byte_spec : {M : Type 1} → statement M
+is_same_byte_spec = tie.close (tie.spec returns-then-x-y lower-requires lower-requires-2 returns)

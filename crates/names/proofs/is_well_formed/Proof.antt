@@ -12,81 +12,81 @@ use Rattle.names.proofs.Laws.{formed_empty, formed_past, formed_first, formed_re
 use Rattle.names.proofs.is_well_formed.Statement.{statement}
 use Rattle.names.proofs.is_well_formed.Tie as tie
 
-abbrev invariant-loop : tie.invariant-loop
-invariant-loop name i₀ i = (i ≤ length name) × (well_formed name ≡ all letter_or_digit (drop i name))
+abbrev invariant-loop-i : tie.invariant-loop-i
+invariant-loop-i name i₀ i = (i ≤ length name) × (well_formed name ≡ all letter_or_digit (drop i name))
 
-abbrev decreases-loop : tie.decreases-loop
-decreases-loop name i₀ i = length name - i
+abbrev decreases-loop-i : tie.decreases-loop-i
+decreases-loop-i name i₀ i = length name - i
 
-returns : tie.Need-returns invariant-loop decreases-loop
-returns c = sym (formed_empty c.before.before.args.name.now c.if1.true)
+returns-then-name-eq0 : tie.Need-returns-then-name-eq0 invariant-loop-i decreases-loop-i
+returns-then-name-eq0 c = sym (formed_empty c.args.name.now c.if-name-eq0.true)
 
-returns-2 : tie.Need-returns-2 invariant-loop decreases-loop
-returns-2 c = sym (formed_past c.before.before.before.args.name.now c.if2.true)
+returns-then-name-gt-NAME : tie.Need-returns-then-name-gt-NAME invariant-loop-i decreases-loop-i
+returns-then-name-gt-NAME c = sym (formed_past c.args.name.now c.if-name-gt-NAME.true)
 
-shared-slice-read-is-letter : tie.Need-shared-slice-read-is-letter invariant-loop decreases-loop
-shared-slice-read-is-letter c = omega arith
+bounds-name-0 : tie.Need-bounds-name-0 invariant-loop-i decreases-loop-i
+bounds-name-0 c = omega arith
 
-is-letter-requires : tie.Need-is-letter-requires invariant-loop decreases-loop
-is-letter-requires c κs = search rules
+is_letter-requires : tie.Need-is_letter-requires invariant-loop-i decreases-loop-i
+is_letter-requires c κs = search rules
 
-returns-3 : tie.Need-returns-3 invariant-loop decreases-loop
-returns-3 c = sym (formed_first c.before.before.before.before.before.before.args.name.now (sym c.before.is-letter.ensures
-    ∙ not-true _ c.if3.true))
+returns-then-not-is_letter : tie.Need-returns-then-not-is_letter invariant-loop-i decreases-loop-i
+returns-then-not-is_letter c = sym (formed_first c.args.name.now (sym c.is_letter.ensures
+    ∙ not-true _ c.if-not-is_letter.true-raw))
 
-loop-holds : tie.Need-loop-init invariant-loop decreases-loop
-loop-holds c =
-    let first = sym c.before.is-letter.ensures ∙ not-false _ c.if3.false in
-    (omega arith, formed_rest c.before.before.before.before.before.before.args.name.now (omega arith) (omega arith) first)
+loop-i-init : tie.Need-loop-i-init invariant-loop-i decreases-loop-i
+loop-i-init c =
+    let first = sym c.is_letter.ensures ∙ not-false _ c.if-not-is_letter.false-raw in
+    (omega arith, formed_rest c.args.name.now (omega arith) (omega arith) first)
 
-shared-slice-read-is-letter-or-digit : tie.Need-shared-slice-read-is-letter-or-digit invariant-loop decreases-loop
-shared-slice-read-is-letter-or-digit c = omega arith
+bounds-name-i : tie.Need-bounds-name-i invariant-loop-i decreases-loop-i
+bounds-name-i c = omega arith
 
-is-letter-or-digit-requires : tie.Need-is-letter-or-digit-requires invariant-loop decreases-loop
-is-letter-or-digit-requires c κs = search rules
+is_letter_or_digit-requires : tie.Need-is_letter_or_digit-requires invariant-loop-i decreases-loop-i
+is_letter_or_digit-requires c κs = search rules
 
-returns-4 : tie.Need-returns-4 invariant-loop decreases-loop
-returns-4 c =
+returns-then-not-is_letter_or_digit : tie.Need-returns-then-not-is_letter_or_digit invariant-loop-i decreases-loop-i
+returns-then-not-is_letter_or_digit c =
     let at = c.before.before.before.before in
-    let fails = sym c.before.is-letter-or-digit.ensures ∙ not-true _ c.if4.true in
-    sym (at.loop.invariant.1 ∙ letters_stop at.before.before.before.before.before.before.before.args.name.now at.loop.i (omega arith) fails)
+    let fails = sym c.is_letter_or_digit.ensures ∙ not-true _ c.if-not-is_letter_or_digit.true-raw in
+    sym (at.loop-i.invariant.1 ∙ letters_stop at.args.name.now at.loop-i.i (omega arith) fails)
 
-add-i : tie.Need-overflow-add-i invariant-loop decreases-loop
-add-i c = omega arith
+overflow_add-i : tie.Need-overflow_add-i invariant-loop-i decreases-loop-i
+overflow_add-i c = omega arith
 
-loop-less : tie.Need-loop-smaller invariant-loop decreases-loop
-loop-less c = omega arith
+loop-i-smaller : tie.Need-loop-i-smaller invariant-loop-i decreases-loop-i
+loop-i-smaller c = omega arith
 
-loop-again : tie.Need-loop-preserved invariant-loop decreases-loop
-loop-again c =
+loop-i-preserved : tie.Need-loop-i-preserved invariant-loop-i decreases-loop-i
+loop-i-preserved c =
     let at = c.before.before.before.before in
-    let passes = sym c.before.is-letter-or-digit.ensures ∙ not-false _ c.if4.false in (
+    let passes = sym c.is_letter_or_digit.ensures ∙ not-false _ c.if-not-is_letter_or_digit.false-raw in (
       omega arith,
-      at.loop.invariant.1 ∙ letters_go_on at.before.before.before.before.before.before.before.args.name.now at.loop.i
+      at.loop-i.invariant.1 ∙ letters_go_on at.args.name.now at.loop-i.i
           (omega arith) passes,
     )
 
-returns-5 : tie.Need-returns-5 invariant-loop decreases-loop
-returns-5 c =
+returns : tie.Need-returns invariant-loop-i decreases-loop-i
+returns c =
     let at = c.before in
-    sym (at.loop.invariant.1 ∙ letters_end at.before.before.before.before.before.before.before.args.name.now at.loop.i (omega arith))
+    sym (at.loop-i.invariant.1 ∙ letters_end at.args.name.now at.loop-i.i (omega arith))
 
-pub is-well-formed-spec : {M : Type 1} → statement M
-is-well-formed-spec =
+pub is_well_formed_spec : {M : Type 1} → statement M
+is_well_formed_spec =
     tie.close
     (tie.spec
-    invariant-loop
-    decreases-loop
-    returns
-    returns-2
-    shared-slice-read-is-letter
-    is-letter-requires
-    returns-3
-    loop-holds
-    shared-slice-read-is-letter-or-digit
-    is-letter-or-digit-requires
-    returns-4
-    add-i
-    loop-less
-    loop-again
-    returns-5)
+    invariant-loop-i
+    decreases-loop-i
+    returns-then-name-eq0
+    returns-then-name-gt-NAME
+    bounds-name-0
+    is_letter-requires
+    returns-then-not-is_letter
+    loop-i-init
+    bounds-name-i
+    is_letter_or_digit-requires
+    returns-then-not-is_letter_or_digit
+    overflow_add-i
+    loop-i-smaller
+    loop-i-preserved
+    returns)

@@ -4,17 +4,17 @@ use Rattle.names.proofs.Laws.{lower_below, lower_past, lower_capital}
 use Rattle.names.proofs.lower.Statement.{statement}
 use Rattle.names.proofs.lower.Tie as tie
 
+returns-then-c-lt65 : tie.Need-returns-then-c-lt65
+returns-then-c-lt65 c = lower_below c.args.c c.if-c-lt65.true
+
+returns-then-c-gt90 : tie.Need-returns-then-c-gt90
+returns-then-c-gt90 c = lower_past c.args.c c.if-c-gt90.true
+
+overflow_add-result : tie.Need-overflow_add-result
+overflow_add-result c = search rules
+
 returns : tie.Need-returns
-returns c = lower_below c.before.args.c c.if1.true
-
-returns-2 : tie.Need-returns-2
-returns-2 c = lower_past c.before.before.args.c c.if2.true
-
-add-result : tie.Need-overflow-add-result
-add-result c = search rules
-
-returns-3 : tie.Need-returns-3
-returns-3 c = lower_capital c.before.before.args.c c.before.if1.false c.if2.false
+returns c = lower_capital c.args.c c.if-c-lt65.false c.if-c-gt90.false
 
 pub lower_spec : {M : Type 1} → statement M
-lower_spec = tie.close (tie.spec returns returns-2 add-result returns-3)
+lower_spec = tie.close (tie.spec returns-then-c-lt65 returns-then-c-gt90 overflow_add-result returns)

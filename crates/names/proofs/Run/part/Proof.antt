@@ -5,21 +5,21 @@ use Rattle.names.proofs.Laws.{parted_more, parted_last}
 use Rattle.names.proofs.Run.part.Statement.{statement}
 use Rattle.names.proofs.Run.part.Tie as tie
 
-name-end-requires : tie.Need-name-end-requires
-name-end-requires c κs = c.before.requires.within
+name_end-end-requires : tie.Need-name_end-end-requires
+name_end-end-requires c κs = c.requires.within
 
-add-t7 : tie.Need-overflow-add-t7
-add-t7 c = omega arith
+overflow_add-result : tie.Need-overflow_add-result
+overflow_add-result c = omega arith
+
+returns-then-end-run : tie.Need-returns-then-end-run
+returns-then-end-run c =
+    let at = c.before.before.before in
+    parted_more at.args.run.now at.args.self c.name_end-end.result at.requires c.name_end-end.ensures c.if-end-run.true
 
 returns : tie.Need-returns
 returns c =
     let at = c.before.before.before in
-    parted_more at.args.run.now at.args.self c.before.name-end.result at.requires c.before.name-end.ensures c.if1.true
+    parted_last at.args.run.now at.args.self c.name_end-end.result at.requires c.name_end-end.ensures c.if-end-run.false
 
-returns-2 : tie.Need-returns-2
-returns-2 c =
-    let at = c.before.before.before in
-    parted_last at.args.run.now at.args.self c.before.name-end.result at.requires c.before.name-end.ensures c.if1.false
-
-pub part-spec : {M : Type 1} → statement M
-part-spec = tie.close (tie.spec name-end-requires add-t7 returns returns-2)
+pub part_spec : {M : Type 1} → statement M
+part_spec = tie.close (tie.spec name_end-end-requires overflow_add-result returns-then-end-run returns)

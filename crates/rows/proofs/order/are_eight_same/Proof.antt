@@ -4,18 +4,18 @@ use Rattle.rows.proofs.OrderLaws.{eight_same}
 use Rattle.rows.proofs.order.are_eight_same.Statement.{statement}
 use Rattle.rows.proofs.order.are_eight_same.Tie as tie
 
-low-word-requires : tie.Need-low-word-requires
-low-word-requires c κs = search rules
+low_word-requires : tie.Need-low_word-requires
+low_word-requires c κs = search rules
 
-low-word-requires-2 : tie.Need-low-word-requires-2
-low-word-requires-2 c κs = search rules
+low_word-requires-2 : tie.Need-low_word-requires-2
+low_word-requires-2 c κs = search rules
 
 returns : tie.Need-returns
 returns c h =
     let x = c.before.before.before in
-    let small = c.before.before.shared-slice-known.given in
+    let small = c.shared_slice_known-1.given in
     eight_same x.args.base.now x.args.a x.args.c (λ j. (small j).fits) x.requires.0 x.requires.1
-    (sym c.before.low_word.ensures ∙ eqb-true _ _ h ∙ c.low-word2.ensures)
+    (sym c.low_word.ensures ∙ eqb-true _ _ h ∙ c.low_word-2.ensures)
 
-pub are-eight-same-spec : {M : Type 1} → statement M
-are-eight-same-spec = tie.close (tie.spec low-word-requires low-word-requires-2 returns)
+pub are_eight_same_spec : {M : Type 1} → statement M
+are_eight_same_spec = tie.close (tie.spec low_word-requires low_word-requires-2 returns)

@@ -4,11 +4,11 @@ use Rattle.rows.proofs.FoldLaws.{folded_word}
 use Rattle.rows.proofs.order.fold8.Statement.{statement}
 use Rattle.rows.proofs.order.fold8.Tie as tie
 
-wrapping-add-u64-requires : tie.Need-wrapping-add-u64-requires
-wrapping-add-u64-requires c κs = search rules
+wrapping_add_u64-requires : tie.Need-wrapping_add_u64-requires
+wrapping_add_u64-requires c κs = search rules
 
 returns : tie.Need-returns
-returns c = folded_word c.before.args.w c.wrapping-add-u64.result c.wrapping-add-u64.ensures
+returns c = folded_word c.args.w c.wrapping_add_u64.result c.wrapping_add_u64.ensures
 
-pub fold8-spec : {M : Type 1} → statement M
-fold8-spec = tie.close (tie.spec wrapping-add-u64-requires returns)
+pub fold8_spec : {M : Type 1} → statement M
+fold8_spec = tie.close (tie.spec wrapping_add_u64-requires returns)

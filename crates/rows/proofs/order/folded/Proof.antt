@@ -13,8 +13,8 @@ fold8-requires c κs = search rules
 returns : tie.Need-returns
 returns c =
     let x = c.before.before.before in
-    let small = c.before.before.shared-slice-known.given in
-    half_folded x.args.base.now x.args.at (λ j. (small j).fits) x.requires.0 x.requires.1 c.before.word.ensures c.fold8.ensures
+    let small = c.shared_slice_known-1.given in
+    half_folded x.args.base.now x.args.at (λ j. (small j).fits) x.requires.0 x.requires.1 c.word.ensures c.fold8.ensures
 
-pub folded-spec : {M : Type 1} → statement M
-folded-spec = tie.close (tie.spec word-requires fold8-requires returns)
+pub folded_spec : {M : Type 1} → statement M
+folded_spec = tie.close (tie.spec word-requires fold8-requires returns)

@@ -7,73 +7,73 @@ use Rattle.rows.proofs.OrderLaws.{next_room, next_fits, next_number, number_star
 use Rattle.rows.proofs.order.word.Statement.{statement}
 use Rattle.rows.proofs.order.word.Tie as tie
 
-abbrev invariant-loop : tie.invariant-loop
-invariant-loop base at x₀ i₀ x i = (i ≤ 8) × (x < 2 ^ (8 * i)) × (number 0 (part base at 8) ≡ number x (part base (at + i) (8 - i)))
+abbrev invariant-loop-i : tie.invariant-loop-i
+invariant-loop-i base at x₀ i₀ x i = (i ≤ 8) × (x < 2 ^ (8 * i)) × (number 0 (part base at 8) ≡ number x (part base (at + i) (8 - i)))
 
-abbrev decreases-loop : tie.decreases-loop
-decreases-loop base at x₀ i₀ x i = 8 - i
+abbrev decreases-loop-i : tie.decreases-loop-i
+decreases-loop-i base at x₀ i₀ x i = 8 - i
 
-loop-holds : tie.Need-loop-init invariant-loop decreases-loop
-loop-holds c = (omega arith, omega arith, number_start c.args.base.now c.args.at)
+loop-i-init : tie.Need-loop-i-init invariant-loop-i decreases-loop-i
+loop-i-init c = (omega arith, omega arith, number_start c.args.base.now c.args.at)
 
-mul-x : tie.Need-overflow-mul-x invariant-loop decreases-loop
-mul-x c =
-    let loop = c.before.loop in
-    omega (arith, next_fits loop.i loop.x c.loop-test.true loop.invariant.1 0 (omega arith))
+overflow_mul-x : tie.Need-overflow_mul-x invariant-loop-i decreases-loop-i
+overflow_mul-x c =
+    let loop = c.loop-i in
+    omega (arith, next_fits loop.i loop.x c.loop-i-test.true loop.invariant.1 0 (omega arith))
 
-add-x : tie.Need-overflow-add-x invariant-loop decreases-loop
-add-x c = omega arith
+overflow_add-x : tie.Need-overflow_add-x invariant-loop-i decreases-loop-i
+overflow_add-x c = omega arith
 
-shared-slice-read-x : tie.Need-shared-slice-read-x invariant-loop decreases-loop
-shared-slice-read-x c = omega arith
+bounds-base-at : tie.Need-bounds-base-at invariant-loop-i decreases-loop-i
+bounds-base-at c = omega arith
 
-cast-x : tie.Need-overflow-cast-x invariant-loop decreases-loop
-cast-x c = omega (arith, c.shared-slice-known.given (c.before.before.before.args.at + c.before.before.loop.i))
+overflow_cast-x : tie.Need-overflow_cast-x invariant-loop-i decreases-loop-i
+overflow_cast-x c = omega (arith, c.shared_slice_known-1.given (c.args.at + c.loop-i.i))
 
-add-x-2 : tie.Need-overflow-add-x-2 invariant-loop decreases-loop
-add-x-2 c =
-    let args = c.before.before.before.args in
-    let loop = c.before.before.loop in
-    let byte = (c.shared-slice-known.given (args.at + loop.i)).fits in
-    record { fits = next_fits loop.i loop.x c.before.loop-test.true loop.invariant.1 (get_or args.base.now (args.at + loop.i) 0) byte }
+overflow_add-x-in-loop-i : tie.Need-overflow_add-x-in-loop-i invariant-loop-i decreases-loop-i
+overflow_add-x-in-loop-i c =
+    let args = c.args in
+    let loop = c.loop-i in
+    let byte = (c.shared_slice_known-1.given (args.at + loop.i)).fits in
+    record { fits = next_fits loop.i loop.x c.loop-i-test.true loop.invariant.1 (get_or args.base.now (args.at + loop.i) 0) byte }
 
-add-i : tie.Need-overflow-add-i invariant-loop decreases-loop
-add-i c = omega arith
+overflow_add-i : tie.Need-overflow_add-i invariant-loop-i decreases-loop-i
+overflow_add-i c = omega arith
 
-loop-less : tie.Need-loop-smaller invariant-loop decreases-loop
-loop-less c = omega arith
+loop-i-smaller : tie.Need-loop-i-smaller invariant-loop-i decreases-loop-i
+loop-i-smaller c = omega arith
 
-loop-again : tie.Need-loop-preserved invariant-loop decreases-loop
-loop-again c =
+loop-i-preserved : tie.Need-loop-i-preserved invariant-loop-i decreases-loop-i
+loop-i-preserved c =
     let start = c.before.before.before in
     let args = start.args in
-    let loop = c.before.before.loop in
-    let few = c.before.loop-test.true in
-    let byte = (c.shared-slice-known.given (args.at + loop.i)).fits in (
+    let loop = c.loop-i in
+    let few = c.loop-i-test.true in
+    let byte = (c.shared_slice_known-1.given (args.at + loop.i)).fits in (
       omega arith,
       next_room loop.i loop.x few loop.invariant.1 (get_or args.base.now (args.at + loop.i) 0) byte,
       loop.invariant.2 ∙ next_number args.base.now args.at loop.i loop.x few start.requires,
     )
 
-returns : tie.Need-returns invariant-loop decreases-loop
+returns : tie.Need-returns invariant-loop-i decreases-loop-i
 returns c =
-    let args = c.before.before.args in
-    let loop = c.before.loop in
-    sym (loop.invariant.2 ∙ number_end args.base.now args.at loop.i loop.x c.loop-test.false)
+    let args = c.args in
+    let loop = c.loop-i in
+    sym (loop.invariant.2 ∙ number_end args.base.now args.at loop.i loop.x c.loop-i-test.false)
 
-pub word-spec : {M : Type 1} → statement M
-word-spec =
+pub word_spec : {M : Type 1} → statement M
+word_spec =
     tie.close
     (tie.spec
-    invariant-loop
-    decreases-loop
-    loop-holds
-    mul-x
-    add-x
-    shared-slice-read-x
-    cast-x
-    add-x-2
-    add-i
-    loop-less
-    loop-again
+    invariant-loop-i
+    decreases-loop-i
+    loop-i-init
+    overflow_mul-x
+    overflow_add-x
+    bounds-base-at
+    overflow_cast-x
+    overflow_add-x-in-loop-i
+    overflow_add-i
+    loop-i-smaller
+    loop-i-preserved
     returns)

@@ -5,76 +5,76 @@ use Rattle.rows.proofs.TableLaws.{row_fits}
 use Rattle.rows.proofs.used.halved.Statement.{statement}
 use Rattle.rows.proofs.used.halved.Tie as tie
 
-abbrev invariant-loop : tie.invariant-loop
-invariant-loop base first width n low₀ high₀ low high = Halving base first width n low high
+abbrev invariant-loop-low : tie.invariant-loop-low
+invariant-loop-low base first width n low₀ high₀ low high = Halving base first width n low high
 
-abbrev decreases-loop : tie.decreases-loop
-decreases-loop base first width n low₀ high₀ low high = high - low
+abbrev decreases-loop-low : tie.decreases-loop-low
+decreases-loop-low base first width n low₀ high₀ low high = high - low
 
 -- the row halfway, and that its bytes are below the end of the rows
-abbrev mid : tie.In-loop invariant-loop decreases-loop → ℕ
-mid c = let at = c.before.loop in at.low + (at.high - at.low) / 2
+abbrev mid : tie.In-loop-low invariant-loop-low decreases-loop-low → ℕ
+mid c = let at = c.loop-low in at.low + (at.high - at.low) / 2
 
-inside : (c : tie.In-loop invariant-loop decreases-loop) → let x = c.before.before.args in mid c * x.width + x.width ≤ x.n * x.width
+inside : (c : tie.In-loop-low invariant-loop-low decreases-loop-low) → let x = c.args in mid c * x.width + x.width ≤ x.n * x.width
 inside c =
-    let below : mid c < c.before.before.args.n = omega (arith, c.before.loop.invariant.most) in
-    row_fits c.before.before.args.width below
+    let below : mid c < c.args.n = omega (arith, c.loop-low.invariant.most) in
+    row_fits c.args.width below
 
-loop-holds : tie.Need-loop-init invariant-loop decreases-loop
-loop-holds c = halving_start _ _ _ _
+loop-low-init : tie.Need-loop-low-init invariant-loop-low decreases-loop-low
+loop-low-init c = halving_start _ _ _ _
 
-sub-mid : tie.Need-overflow-sub-mid invariant-loop decreases-loop
-sub-mid c = search rules
+overflow_sub-mid : tie.Need-overflow_sub-mid invariant-loop-low decreases-loop-low
+overflow_sub-mid c = search rules
 
-add-mid : tie.Need-overflow-add-mid invariant-loop decreases-loop
-add-mid c = omega (arith, c.before.loop.invariant.most)
+overflow_add-mid : tie.Need-overflow_add-mid invariant-loop-low decreases-loop-low
+overflow_add-mid c = omega (arith, c.loop-low.invariant.most)
 
-mul-if1 : tie.Need-overflow-mul-if1 invariant-loop decreases-loop
-mul-if1 c = omega (arith, inside c)
+overflow_mul-mid : tie.Need-overflow_mul-mid invariant-loop-low decreases-loop-low
+overflow_mul-mid c = omega (arith, inside c)
 
-add-if1 : tie.Need-overflow-add-if1 invariant-loop decreases-loop
-add-if1 c = omega (arith, inside c)
+overflow_add-first : tie.Need-overflow_add-first invariant-loop-low decreases-loop-low
+overflow_add-first c = omega (arith, inside c)
 
-shared-slice-read-if1 : tie.Need-shared-slice-read-if1 invariant-loop decreases-loop
-shared-slice-read-if1 c = c.before.before.before.requires.0 (mid c.before) (omega (arith, c.before.before.loop.invariant.most))
+bounds-base-first : tie.Need-bounds-base-first invariant-loop-low decreases-loop-low
+bounds-base-first c = c.requires.0 (mid c.before) (omega (arith, c.loop-low.invariant.most))
 
-add_low : tie.Need-overflow-add-low invariant-loop decreases-loop
-add_low c = search rules
+overflow_add-low : tie.Need-overflow_add-low invariant-loop-low decreases-loop-low
+overflow_add-low c = search rules
 
-loop-less : tie.Need-loop-smaller invariant-loop decreases-loop
-loop-less c = search rules
+loop-low-smaller-then-base-first-ne0 : tie.Need-loop-low-smaller-then-base-first-ne0 invariant-loop-low decreases-loop-low
+loop-low-smaller-then-base-first-ne0 c = search rules
 
-loop-again : tie.Need-loop-preserved invariant-loop decreases-loop
-loop-again c =
+loop-low-preserved-then-base-first-ne0 : tie.Need-loop-low-preserved-then-base-first-ne0 invariant-loop-low decreases-loop-low
+loop-low-preserved-then-base-first-ne0 c =
     let turn = c.before.before in
-    halving_up turn.before.loop.invariant (mid turn) (omega arith) (omega arith) c.if1.true
+    halving_up turn.loop-low.invariant (mid turn) (omega arith) (omega arith) c.if-base-first-ne0.true
 
-loop-less-2 : tie.Need-loop-smaller-2 invariant-loop decreases-loop
-loop-less-2 c = search rules
+loop-low-smaller : tie.Need-loop-low-smaller invariant-loop-low decreases-loop-low
+loop-low-smaller c = search rules
 
-loop-again-2 : tie.Need-loop-preserved-2 invariant-loop decreases-loop
-loop-again-2 c =
+loop-low-preserved : tie.Need-loop-low-preserved invariant-loop-low decreases-loop-low
+loop-low-preserved c =
     let turn = c.before.before in
-    halving_down turn.before.loop.invariant (mid turn) (omega arith) (omega arith) c.if1.false
+    halving_down turn.loop-low.invariant (mid turn) (omega arith) (omega arith) c.if-base-first-ne0.false
 
-returns : tie.Need-returns invariant-loop decreases-loop
-returns c = halving_met c.before.loop.invariant c.loop-test.false
+returns : tie.Need-returns invariant-loop-low decreases-loop-low
+returns c = halving_met c.loop-low.invariant c.loop-low-test.false
 
-pub halved-spec : {M : Type 1} → statement M
-halved-spec =
+pub halved_spec : {M : Type 1} → statement M
+halved_spec =
     tie.close
     (tie.spec
-    invariant-loop
-    decreases-loop
-    loop-holds
-    sub-mid
-    add-mid
-    mul-if1
-    add-if1
-    shared-slice-read-if1
-    add_low
-    loop-less
-    loop-again
-    loop-less-2
-    loop-again-2
+    invariant-loop-low
+    decreases-loop-low
+    loop-low-init
+    overflow_sub-mid
+    overflow_add-mid
+    overflow_mul-mid
+    overflow_add-first
+    bounds-base-first
+    overflow_add-low
+    loop-low-smaller-then-base-first-ne0
+    loop-low-preserved-then-base-first-ne0
+    loop-low-smaller
+    loop-low-preserved
     returns)

@@ -7,89 +7,89 @@ use Rattle.rows.proofs.ZeroLaws.{passed_none, passed_more, zeros_broken, zeros_l
 use Rattle.rows.proofs.used.is_zero.Statement.{statement}
 use Rattle.rows.proofs.used.is_zero.Tie as tie
 
-abbrev invariant-loop : tie.invariant-loop
-invariant-loop base from to even₀ odd₀ at₀ even odd at =
+abbrev invariant-loop-at : tie.invariant-loop-at
+invariant-loop-at base from to even₀ odd₀ at₀ even odd at =
     (from ≤ at) × (at ≤ to) × NoBit (blank_field (part base from (at - from))) (bit_or even odd)
 
-abbrev decreases-loop : tie.decreases-loop
-decreases-loop base from to even₀ odd₀ at₀ even odd at = to - at
+abbrev decreases-loop-at : tie.decreases-loop-at
+decreases-loop-at base from to even₀ odd₀ at₀ even odd at = to - at
 
-loop-holds : tie.Need-loop-init invariant-loop decreases-loop
-loop-holds c = (omega arith, omega arith, passed_none c.before.args.base.now c.before.args.from)
+loop-at-init : tie.Need-loop-at-init invariant-loop-at decreases-loop-at
+loop-at-init c = (omega arith, omega arith, passed_none c.args.base.now c.args.from)
 
-add-loop : tie.Need-overflow-add-loop invariant-loop decreases-loop
-add-loop c = omega (arith, c.before.before.well_formed.0.1)
+overflow_add-at : tie.Need-overflow_add-at invariant-loop-at decreases-loop-at
+overflow_add-at c = omega (arith, c.well_formed.0.1)
 
-every-second-requires : tie.Need-every-second-requires invariant-loop decreases-loop
-every-second-requires c κs = omega arith
+every_second-even-requires : tie.Need-every_second-even-requires invariant-loop-at decreases-loop-at
+every_second-even-requires c κs = omega arith
 
-add-every-second : tie.Need-overflow-add-every-second invariant-loop decreases-loop
-add-every-second c = search rules
+overflow_add-at-in-loop-at : tie.Need-overflow_add-at-in-loop-at invariant-loop-at decreases-loop-at
+overflow_add-at-in-loop-at c = search rules
 
-every-second-requires-2 : tie.Need-every-second-requires-2 invariant-loop decreases-loop
-every-second-requires-2 c κs = omega arith
+every_second-odd-requires : tie.Need-every_second-odd-requires invariant-loop-at decreases-loop-at
+every_second-odd-requires c κs = omega arith
 
-add_at : tie.Need-overflow-add-at invariant-loop decreases-loop
-add_at c = search rules
+overflow_add-at-in-loop-at-2 : tie.Need-overflow_add-at-in-loop-at-2 invariant-loop-at decreases-loop-at
+overflow_add-at-in-loop-at-2 c = search rules
 
-loop-less : tie.Need-loop-smaller invariant-loop decreases-loop
-loop-less c = omega arith
+loop-at-smaller : tie.Need-loop-at-smaller invariant-loop-at decreases-loop-at
+loop-at-smaller c = omega arith
 
-loop-again : tie.Need-loop-preserved invariant-loop decreases-loop
-loop-again c =
+loop-at-preserved : tie.Need-loop-at-preserved invariant-loop-at decreases-loop-at
+loop-at-preserved c =
     let at = c.before.before.before in
-    let x = at.before.before.args in (
+    let x = at.args in (
       omega arith,
       omega arith,
-      passed_more x.base.now x.from at.loop.at at.loop.invariant.0 at.loop.even at.loop.odd at.loop.invariant.2
-          c.before.every-second.ensures c.every-second2.ensures,
+      passed_more x.base.now x.from at.loop-at.at at.loop-at.invariant.0 at.loop-at.even at.loop-at.odd at.loop-at.invariant.2
+          c.every_second-even.ensures c.every_second-odd.ensures,
     )
 
-returns : tie.Need-returns invariant-loop decreases-loop
-returns c =
+returns-then-even-odd-ne0 : tie.Need-returns-then-even-odd-ne0 invariant-loop-at decreases-loop-at
+returns-then-even-odd-ne0 c =
     let at = c.before.before in
     let start = at.before.before in
     let x = start.args in
-    zeros_broken x.base.now x.from at.loop.at at.loop.invariant.0 x.to _ at.loop.invariant.1 start.requires.1 at.loop.invariant.2
-    c.if1.true
+    zeros_broken x.base.now x.from at.loop-at.at at.loop-at.invariant.0 x.to _ at.loop-at.invariant.1 start.requires.1 at.loop-at.invariant.2
+    c.if-even-odd-ne0.true
 
-sub-is-blank-field : tie.Need-overflow-sub-is-blank-field invariant-loop decreases-loop
-sub-is-blank-field c = search rules
+slice_bounds-is_blank_field-count : tie.Need-slice_bounds-is_blank_field-count invariant-loop-at decreases-loop-at
+slice_bounds-is_blank_field-count c = search rules
 
-part-is-blank-field-start : tie.Need-slice-bounds-is-blank-field-start invariant-loop decreases-loop
-part-is-blank-field-start c = search rules
+slice_bounds-is_blank_field-start : tie.Need-slice_bounds-is_blank_field-start invariant-loop-at decreases-loop-at
+slice_bounds-is_blank_field-start c = search rules
 
-part-is-blank-field-end : tie.Need-slice-bounds-is-blank-field-end invariant-loop decreases-loop
-part-is-blank-field-end c = search rules
+slice_bounds-is_blank_field-end : tie.Need-slice_bounds-is_blank_field-end invariant-loop-at decreases-loop-at
+slice_bounds-is_blank_field-end c = search rules
 
-is-blank-field-requires : tie.Need-is-blank-field-requires invariant-loop decreases-loop
-is-blank-field-requires c κs = search rules
+is_blank_field-requires : tie.Need-is_blank_field-requires invariant-loop-at decreases-loop-at
+is_blank_field-requires c κs = search rules
 
-returns-2 : tie.Need-returns-2 invariant-loop decreases-loop
-returns-2 c =
+returns : tie.Need-returns invariant-loop-at decreases-loop-at
+returns c =
     let at = c.before.before.before.before in
     let start = at.before.before in
     let x = start.args in
-    zeros_left x.base.now x.from at.loop.at at.loop.invariant.0 x.to _ at.loop.invariant.1 start.requires.1 at.loop.invariant.2 _
-    c.before.before.if1.false c.is-blank-field.ensures
+    zeros_left x.base.now x.from at.loop-at.at at.loop-at.invariant.0 x.to _ at.loop-at.invariant.1 start.requires.1 at.loop-at.invariant.2 _
+    c.if-even-odd-ne0.false c.is_blank_field.ensures
 
-pub is-zero-spec : {M : Type 1} → statement M
-is-zero-spec =
+pub is_zero_spec : {M : Type 1} → statement M
+is_zero_spec =
     tie.close
     (tie.spec
-    invariant-loop
-    decreases-loop
-    loop-holds
-    add-loop
-    every-second-requires
-    add-every-second
-    every-second-requires-2
-    add_at
-    loop-less
-    loop-again
-    returns
-    sub-is-blank-field
-    part-is-blank-field-start
-    part-is-blank-field-end
-    is-blank-field-requires
-    returns-2)
+    invariant-loop-at
+    decreases-loop-at
+    loop-at-init
+    overflow_add-at
+    every_second-even-requires
+    overflow_add-at-in-loop-at
+    every_second-odd-requires
+    overflow_add-at-in-loop-at-2
+    loop-at-smaller
+    loop-at-preserved
+    returns-then-even-odd-ne0
+    slice_bounds-is_blank_field-count
+    slice_bounds-is_blank_field-start
+    slice_bounds-is_blank_field-end
+    is_blank_field-requires
+    returns)

@@ -3,69 +3,69 @@ use Rattle.std.proofs.Common.{◌≡◌, ℕ, ◌+◌, ◌-◌, ◌*◌, ◌<◌
 use Rattle.rows.proofs.used.zero_first.Statement.{statement}
 use Rattle.rows.proofs.used.zero_first.Tie as tie
 
-abbrev invariant-loop : tie.invariant-loop
-invariant-loop base start width n from at₀ k₀ at k =
+abbrev invariant-loop-k : tie.invariant-loop-k
+invariant-loop-k base start width n from at₀ k₀ at k =
     (from ≤ k) × (k ≤ n) × (at ≡ start + k * width) × ((j : ℕ) → j < k → from ≤ j → get_or base (start + j * width) 0 ≡ 0 → ⊥)
 
-abbrev decreases-loop : tie.decreases-loop
-decreases-loop base start width n from at₀ k₀ at k = n - k
+abbrev decreases-loop-k : tie.decreases-loop-k
+decreases-loop-k base start width n from at₀ k₀ at k = n - k
 
-mul_at : tie.Need-overflow-mul-at invariant-loop decreases-loop
-mul_at c = omega (arith, mul-le-mul_right c.args.width c.requires.1.1.1)
+overflow_mul-at : tie.Need-overflow_mul-at invariant-loop-k decreases-loop-k
+overflow_mul-at c = omega (arith, mul-le-mul_right c.args.width c.requires.1.1.1)
 
-add_at : tie.Need-overflow-add-at invariant-loop decreases-loop
-add_at c = omega (arith, mul-le-mul_right c.args.width c.requires.1.1.1)
+overflow_add-at : tie.Need-overflow_add-at invariant-loop-k decreases-loop-k
+overflow_add-at c = omega (arith, mul-le-mul_right c.args.width c.requires.1.1.1)
 
-loop-holds : tie.Need-loop-init invariant-loop decreases-loop
-loop-holds c = (omega arith, omega arith, omega arith, λ j h l. absurd (omega arith))
+loop-k-init : tie.Need-loop-k-init invariant-loop-k decreases-loop-k
+loop-k-init c = (omega arith, omega arith, omega arith, λ j h l. absurd (omega arith))
 
-shared-slice-read-if1 : tie.Need-shared-slice-read-if1 invariant-loop decreases-loop
-shared-slice-read-if1 c = omega (arith, c.before.before.before.requires.0 c.before.before.loop.k c.before.loop-test.true)
+bounds-base-at : tie.Need-bounds-base-at invariant-loop-k decreases-loop-k
+bounds-base-at c = omega (arith, c.requires.0 c.loop-k.k c.loop-k-test.true)
 
-returns : tie.Need-returns invariant-loop decreases-loop
-returns c =
+returns-then-base-at-eq0 : tie.Need-returns-then-base-at-eq0 invariant-loop-k decreases-loop-k
+returns-then-base-at-eq0 c =
     let at = c.before.before.before in
-    record { after = at.loop.invariant.0; fits = at.loop.invariant.1; others = λ k l h. at.loop.invariant.3 k h l }
+    record { after = at.loop-k.invariant.0; fits = at.loop-k.invariant.1; others = λ k l h. at.loop-k.invariant.3 k h l }
 
-add-at-2 : tie.Need-overflow-add-at-2 invariant-loop decreases-loop
-add-at-2 c =
+overflow_add-at-in-loop-k : tie.Need-overflow_add-at-in-loop-k invariant-loop-k decreases-loop-k
+overflow_add-at-in-loop-k c =
     let at = c.before.before.before in
-    omega (arith, mul-le-mul_right at.before.args.width c.before.before.loop-test.true)
+    omega (arith, mul-le-mul_right at.args.width c.loop-k-test.true)
 
-add-k : tie.Need-overflow-add-k invariant-loop decreases-loop
-add-k c = search rules
+overflow_add-k : tie.Need-overflow_add-k invariant-loop-k decreases-loop-k
+overflow_add-k c = search rules
 
-loop-less : tie.Need-loop-smaller invariant-loop decreases-loop
-loop-less c = search rules
+loop-k-smaller : tie.Need-loop-k-smaller invariant-loop-k decreases-loop-k
+loop-k-smaller c = search rules
 
-loop-again : tie.Need-loop-preserved invariant-loop decreases-loop
-loop-again c =
+loop-k-preserved : tie.Need-loop-k-preserved invariant-loop-k decreases-loop-k
+loop-k-preserved c =
     let at = c.before.before.before in
-    let b = at.before.args.base.now in (
+    let b = at.args.base.now in (
       omega arith,
       omega arith,
       omega arith,
-      below_more _ _ at.loop.invariant.3 (λ l e. c.if1.false (ap (λ (i : ℕ). get_or b i 0) at.loop.invariant.2 ∙ e)),
+      below_more _ _ at.loop-k.invariant.3 (λ l e. c.if-base-at-eq0.false (ap (λ (i : ℕ). get_or b i 0) at.loop-k.invariant.2 ∙ e)),
     )
 
-returns-2 : tie.Need-returns-2 invariant-loop decreases-loop
-returns-2 c =
+returns : tie.Need-returns invariant-loop-k decreases-loop-k
+returns c =
     let at = c.before in
-    record { after = at.loop.invariant.0; fits = at.loop.invariant.1; others = λ k l h. at.loop.invariant.3 k h l }
+    record { after = at.loop-k.invariant.0; fits = at.loop-k.invariant.1; others = λ k l h. at.loop-k.invariant.3 k h l }
 
-pub zero-first-spec : {M : Type 1} → statement M
-zero-first-spec =
+pub zero_first_spec : {M : Type 1} → statement M
+zero_first_spec =
     tie.close
     (tie.spec
-    invariant-loop
-    decreases-loop
-    mul_at
-    add_at
-    loop-holds
-    shared-slice-read-if1
-    returns
-    add-at-2
-    add-k
-    loop-less
-    loop-again
-    returns-2)
+    invariant-loop-k
+    decreases-loop-k
+    overflow_mul-at
+    overflow_add-at
+    loop-k-init
+    bounds-base-at
+    returns-then-base-at-eq0
+    overflow_add-at-in-loop-k
+    overflow_add-k
+    loop-k-smaller
+    loop-k-preserved
+    returns)

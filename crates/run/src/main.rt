@@ -19,8 +19,7 @@ fn answer<W: Write>(writer: &mut W, base: &mut [u8], line: &[u8], out: &mut [u8]
     writer.write_all(b"\n")
 }
 
-// Nothing that is typed stops it but the end of the input, and nothing else does but a write that fails. The turns are counted down as
-// `next_line` does it.
+// Nothing that is typed stops it but the end of the input; a write that fails does. The turns are counted down as `next_line` does it.
 fn answer_all<R: Read, W: Write>(
     reader: &mut R,
     writer: &mut W,

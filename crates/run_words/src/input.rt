@@ -1,4 +1,4 @@
-// Standard input, line by line.
+// An input, line by line.
 ghost use Rattle.std.specs.Prelude.{◌≡◌, false, length, take};
 ghost use Rattle.run_words.specs.Input.{Within, Ready, unread, Filled, Advanced, NextLine};
 

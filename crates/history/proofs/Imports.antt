@@ -222,7 +222,7 @@ module _ (target source t : ℕ) (new new_reverse : Name) (s : Schema) where
       comes : presences_full s (length coming) ≡ false → Good after
       comes room =
           with_more_good g
-          (rows_all (rows_of (parts_of g).presences) coming (presences_room s (length coming) room) fits apart)
+          (rows_all coming (rows_of (parts_of g).presences) (presences_room s (length coming) room) fits apart)
           still
           (λ p i. ⊎_elim (λ j. inr (each p j)) (λ j. inl (stayed j refl)) (put_all_in presence_before coming s.presences i))
 

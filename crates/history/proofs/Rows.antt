@@ -155,12 +155,12 @@ Apart [] = Unit {0}
 Apart (x ∷ new) = ((y : Presence) → y ∈ new → Other x y) × Apart new
 
 -- several put in
-pub rows_all : {ns : List Name} {ps : List Presence} → Rows ns ps → (new : List Presence) → length ps + length new ≤ limits.presences
+pub rows_all : {ns : List Name} (new : List Presence) {ps : List Presence} → Rows ns ps → length ps + length new ≤ limits.presences
     → ((x : Presence) → x ∈ new → RowFits ns ps x) → Apart new → Rows ns (put_all presence_before new ps)
 unfolding put_all
-rows_all g [] room fit apart = g
-rows_all {ps = ps} g (x ∷ new) room fit apart =
-    rows_all (rows_more g x (omega arith) (fit x (Memᴰ.head refl))) new (omega (arith, put_long presence_before x ps))
+rows_all [] g room fit apart = g
+rows_all (x ∷ new) {ps = ps} g room fit apart =
+    rows_all new (rows_more g x (omega arith) (fit x (Memᴰ.head refl))) (omega (arith, put_long presence_before x ps))
     (λ y i. fits_still x (fit y (Memᴰ.tail i)) (apart.0 y i)) apart.1
 
 -- a good schema with its presences changed: all that was present still is, and what was not is there with its parents and its reverse

@@ -9,22 +9,22 @@ use Rattle.base.specs.Rows.{type_at}
 use Rattle.base.proofs.is_type_unused.Statement.{statement}
 use Rattle.base.proofs.is_type_unused.Tie as tie
 
-mul_at : tie.Need-overflow-mul-at
-mul_at c = search rules
+overflow_mul-at : tie.Need-overflow_mul-at
+overflow_mul-at c = search rules
 
-add_at : tie.Need-overflow-add-at
-add_at c = search rules
+overflow_add-at : tie.Need-overflow_add-at
+overflow_add-at c = search rules
 
-add-is-zero : tie.Need-overflow-add-is-zero
-add-is-zero c = search rules
+overflow_add-at-2 : tie.Need-overflow_add-at-2
+overflow_add-at-2 c = search rules
 
-is-zero-requires : tie.Need-is-zero-requires
-is-zero-requires c κs = search rules
+is_zero-requires : tie.Need-is_zero-requires
+is_zero-requires c κs = search rules
 
 returns : tie.Need-returns
 returns c =
-    let x = c.before.before.args in
+    let x = c.args in
     room_zero x.base.now (type_at x.t) (type_at x.t + type_width) type_width c.is_zero.result (omega arith) c.is_zero.ensures
 
-pub is-type-unused-spec : {M : Type 1} → statement M
-is-type-unused-spec = tie.close (tie.spec mul_at add_at add-is-zero is-zero-requires returns)
+pub is_type_unused_spec : {M : Type 1} → statement M
+is_type_unused_spec = tie.close (tie.spec overflow_mul-at overflow_add-at overflow_add-at-2 is_zero-requires returns)

@@ -9,27 +9,27 @@ use Rattle.rows.proofs.Rows.{slice_part}
 use Rattle.base.proofs.presence_field.Statement.{statement}
 use Rattle.base.proofs.presence_field.Tie as tie
 
-name-at-requires : tie.Need-name-at-requires
-name-at-requires c κs = search rules
+name_at-at-requires : tie.Need-name_at-at-requires
+name_at-at-requires c κs = search rules
 
-add-end : tie.Need-overflow-add-end
-add-end c = search rules
+overflow_add-end : tie.Need-overflow_add-end
+overflow_add-end c = search rules
 
-sub-result : tie.Need-overflow-sub-result
-sub-result c = search rules
+slice_bounds-result-count : tie.Need-slice_bounds-result-count
+slice_bounds-result-count c = search rules
 
-part-result-start : tie.Need-slice-bounds-result-start
-part-result-start c = search rules
+slice_bounds-result-start : tie.Need-slice_bounds-result-start
+slice_bounds-result-start c = search rules
 
-part-result-end : tie.Need-slice-bounds-result-end
-part-result-end c = search rules
+slice_bounds-result-end : tie.Need-slice_bounds-result-end
+slice_bounds-result-end c = search rules
 
 returns : tie.Need-returns
 returns c =
-    let b = c.before.before.before.args.base.now in
-    slice_part b c.before.name_at.result limits.name ∙ ap (λ (at : ℕ). part b at limits.name) c.before.name_at.ensures
+    let b = c.args.base.now in
+    slice_part b c.name_at-at.result limits.name ∙ ap (λ (at : ℕ). part b at limits.name) c.name_at-at.ensures
 
-pub presence-field-spec : {M : Type 1} → statement M
-presence-field-spec =
+pub presence_field_spec : {M : Type 1} → statement M
+presence_field_spec =
     tie.close
-    (tie.spec name-at-requires add-end sub-result part-result-start part-result-end returns)
+    (tie.spec name_at-at-requires overflow_add-end slice_bounds-result-count slice_bounds-result-start slice_bounds-result-end returns)

@@ -6,27 +6,27 @@ use Rattle.base.specs.Rows.{sds_at}
 use Rattle.base.proofs.sds_field.Statement.{statement}
 use Rattle.base.proofs.sds_field.Tie as tie
 
-mul_at : tie.Need-overflow-mul-at
-mul_at c = search rules
+overflow_mul-at : tie.Need-overflow_mul-at
+overflow_mul-at c = search rules
 
-add_at : tie.Need-overflow-add-at
-add_at c = search rules
+overflow_add-at : tie.Need-overflow_add-at
+overflow_add-at c = search rules
 
-add-end : tie.Need-overflow-add-end
-add-end c = search rules
+overflow_add-end : tie.Need-overflow_add-end
+overflow_add-end c = search rules
 
-sub-result : tie.Need-overflow-sub-result
-sub-result c = search rules
+slice_bounds-result-count : tie.Need-slice_bounds-result-count
+slice_bounds-result-count c = search rules
 
-part-result-start : tie.Need-slice-bounds-result-start
-part-result-start c = search rules
+slice_bounds-result-start : tie.Need-slice_bounds-result-start
+slice_bounds-result-start c = search rules
 
-part-result-end : tie.Need-slice-bounds-result-end
-part-result-end c = search rules
+slice_bounds-result-end : tie.Need-slice_bounds-result-end
+slice_bounds-result-end c = search rules
 
 returns : tie.Need-returns
-returns c = slice_part c.before.args.base.now (sds_at c.before.args.d) limits.name
+returns c = slice_part c.args.base.now (sds_at c.args.d) limits.name
 
-pub sds-field-spec : {M : Type 1} → statement M
-sds-field-spec =
-    tie.close (tie.spec mul_at add_at add-end sub-result part-result-start part-result-end returns)
+pub sds_field_spec : {M : Type 1} → statement M
+sds_field_spec =
+    tie.close (tie.spec overflow_mul-at overflow_add-at overflow_add-end slice_bounds-result-count slice_bounds-result-start slice_bounds-result-end returns)

@@ -5,31 +5,31 @@ use Rattle.check_applications.proofs.NumberLaws.{LowPassed, low_none, low_more, 
 use Rattle.check_applications.proofs.are_low.Statement.{statement}
 use Rattle.check_applications.proofs.are_low.Tie as tie
 
-abbrev invariant-loop : tie.invariant-loop
-invariant-loop base from end bits₀ k₀ bits k = (from ≤ k) × (k ≤ end) × LowPassed base from k bits
+abbrev invariant-loop-k : tie.invariant-loop-k
+invariant-loop-k base from end bits₀ k₀ bits k = (from ≤ k) × (k ≤ end) × LowPassed base from k bits
 
-abbrev decreases-loop : tie.decreases-loop
-decreases-loop base from end bits₀ k₀ bits k = end - k
+abbrev decreases-loop-k : tie.decreases-loop-k
+decreases-loop-k base from end bits₀ k₀ bits k = end - k
 
-loop-holds : tie.Need-loop-init invariant-loop decreases-loop
-loop-holds c = (omega arith, omega arith, low_none _ _)
+loop-k-init : tie.Need-loop-k-init invariant-loop-k decreases-loop-k
+loop-k-init c = (omega arith, omega arith, low_none _ _)
 
-shared-slice-read-bits : tie.Need-shared-slice-read-bits invariant-loop decreases-loop
-shared-slice-read-bits c = omega arith
+bounds-base-k : tie.Need-bounds-base-k invariant-loop-k decreases-loop-k
+bounds-base-k c = omega arith
 
-add-k : tie.Need-overflow-add-k invariant-loop decreases-loop
-add-k c = omega arith
+overflow_add-k : tie.Need-overflow_add-k invariant-loop-k decreases-loop-k
+overflow_add-k c = omega arith
 
-loop-less : tie.Need-loop-smaller invariant-loop decreases-loop
-loop-less c = omega arith
+loop-k-smaller : tie.Need-loop-k-smaller invariant-loop-k decreases-loop-k
+loop-k-smaller c = omega arith
 
-loop-again : tie.Need-loop-preserved invariant-loop decreases-loop
-loop-again c = (omega arith, omega arith, low_more c.before.before.loop.invariant.2 c.before.before.loop.invariant.0)
+loop-k-preserved : tie.Need-loop-k-preserved invariant-loop-k decreases-loop-k
+loop-k-preserved c = (omega arith, omega arith, low_more c.loop-k.invariant.2 c.loop-k.invariant.0)
 
-returns : tie.Need-returns invariant-loop decreases-loop
-returns c = low_all c.before.loop.invariant.2 (omega arith)
+returns : tie.Need-returns invariant-loop-k decreases-loop-k
+returns c = low_all c.loop-k.invariant.2 (omega arith)
 
-pub are-low-spec : {M : Type 1} → statement M
-are-low-spec =
+pub are_low_spec : {M : Type 1} → statement M
+are_low_spec =
     tie.close
-    (tie.spec invariant-loop decreases-loop loop-holds shared-slice-read-bits add-k loop-less loop-again returns)
+    (tie.spec invariant-loop-k decreases-loop-k loop-k-init bounds-base-k overflow_add-k loop-k-smaller loop-k-preserved returns)

@@ -7,42 +7,42 @@ use Rattle.check_applications.proofs.ApplicationLaws.{both_bit}
 use Rattle.check_applications.proofs.holds_both.Statement.{statement}
 use Rattle.check_applications.proofs.holds_both.Tie as tie
 
-mul-result : tie.Need-overflow-mul-result
-mul-result c = search rules
+offset_bounds-held-to : tie.Need-offset_bounds-held-to
+offset_bounds-held-to c = search rules
 
-shared-slice-read-result : tie.Need-shared-slice-read-result
-shared-slice-read-result c = search rules
+bounds-held-to : tie.Need-bounds-held-to
+bounds-held-to c = search rules
 
-mul-result-2 : tie.Need-overflow-mul-result-2
-mul-result-2 c = search rules
+offset_bounds-held-attribute : tie.Need-offset_bounds-held-attribute
+offset_bounds-held-attribute c = search rules
 
-shared-slice-read-result-2 : tie.Need-shared-slice-read-result-2
-shared-slice-read-result-2 c = search rules
+bounds-held-attribute : tie.Need-bounds-held-attribute
+bounds-held-attribute c = search rules
 
-cast-result : tie.Need-overflow-cast-result
-cast-result c =
-    let x = c.before.before.args in
-    let word = (c.before.shared-slice-known.given x.to).fits in
+overflow_cast-result : tie.Need-overflow_cast-result
+overflow_cast-result c =
+    let x = c.args in
+    let word = (c.shared_slice_known-1.given x.to).fits in
     omega (arith, and_le_l (get_or x.held.now x.to 0) (get_or x.held.now x.attribute 0))
 
-cast-result-2 : tie.Need-overflow-cast-result-2
-cast-result-2 c = search rules
+overflow_cast-result-2 : tie.Need-overflow_cast-result-2
+overflow_cast-result-2 c = search rules
 
-shr-result : tie.Need-overflow-shr-result
-shr-result c = search rules
+overflow_shr-result : tie.Need-overflow_shr-result
+overflow_shr-result c = search rules
 
 returns : tie.Need-returns
-returns c = let x = c.before.before in both_bit x.args.held.now x.args.d x.args.to x.args.attribute x.requires.1.0 x.requires.1.1
+returns c = both_bit c.args.held.now c.args.d c.args.to c.args.attribute c.requires.1.0 c.requires.1.1
 
-pub holds-both-spec : {M : Type 1} → statement M
-holds-both-spec =
+pub holds_both_spec : {M : Type 1} → statement M
+holds_both_spec =
     tie.close
     (tie.spec
-    mul-result
-    shared-slice-read-result
-    mul-result-2
-    shared-slice-read-result-2
-    cast-result
-    cast-result-2
-    shr-result
+    offset_bounds-held-to
+    bounds-held-to
+    offset_bounds-held-attribute
+    bounds-held-attribute
+    overflow_cast-result
+    overflow_cast-result-2
+    overflow_shr-result
     returns)

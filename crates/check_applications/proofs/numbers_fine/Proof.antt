@@ -9,53 +9,53 @@ use Rattle.base.specs.Rows.{application_at}
 use Rattle.check_applications.proofs.numbers_fine.Statement.{statement}
 use Rattle.check_applications.proofs.numbers_fine.Tie as tie
 
+returns-then-n-eq0 : tie.Need-returns-then-n-eq0
+returns-then-n-eq0 c = decides_yes (record { last = λ i e. absurd (omega (arith, c.if-n-eq0.true)); low = λ k l m. absurd (omega (arith, c.if-n-eq0.true)) })
+
+overflow_sub-n : tie.Need-overflow_sub-n
+overflow_sub-n c = search rules
+
+application_sds-requires : tie.Need-application_sds-requires
+application_sds-requires c κs = search rules
+
+returns-then-application_sds-ge-SDSS : tie.Need-returns-then-application_sds-ge-SDSS
+returns-then-application_sds-ge-SDSS c =
+    let n = c.args.n in
+    decides_no (λ x. let small = x.last (n - 1) (omega arith) in omega (arith, c.application_sds.ensures.is, c.if-application_sds-ge-SDSS.true))
+
+overflow_mul-n : tie.Need-overflow_mul-n
+overflow_mul-n c = search rules
+
+overflow_add-n : tie.Need-overflow_add-n
+overflow_add-n c = search rules
+
+are_low-requires : tie.Need-are_low-requires
+are_low-requires c κs = search rules
+
 returns : tie.Need-returns
-returns c = decides_yes (record { last = λ i e. absurd (omega (arith, c.if1.true)); low = λ k l m. absurd (omega (arith, c.if1.true)) })
-
-sub-application-sds : tie.Need-overflow-sub-application-sds
-sub-application-sds c = search rules
-
-application-sds-requires : tie.Need-application-sds-requires
-application-sds-requires c κs = search rules
-
-returns-2 : tie.Need-returns-2
-returns-2 c =
-    let n = c.before.before.before.before.args.n in
-    decides_no (λ x. let small = x.last (n - 1) (omega arith) in omega (arith, c.before.application_sds.ensures.is, c.if2.true))
-
-mul-are-low : tie.Need-overflow-mul-are-low
-mul-are-low c = search rules
-
-add-are-low : tie.Need-overflow-add-are-low
-add-are-low c = search rules
-
-are-low-requires : tie.Need-are-low-requires
-are-low-requires c κs = search rules
-
-returns-3 : tie.Need-returns-3
-returns-3 c =
-    let x = c.before.before.before.before.before.args in
+returns c =
+    let x = c.args in
     decides_iff (λ low. record {
       last = λ i e.
           let same : x.n - 1 ≡ i = omega arith in
           omega (
             arith,
             ap (λ (k : ℕ). get_or x.base.now (application_at k) 0) same,
-            c.before.before.application_sds.ensures.is,
-            c.before.if2.false,
+            c.application_sds.ensures.is,
+            c.if-application_sds-ge-SDSS.false,
           );
       low = low;
-    }) (λ y. y.low) c.are-low.ensures
+    }) (λ y. y.low) c.are_low.ensures
 
-pub numbers-fine-spec : {M : Type 1} → statement M
-numbers-fine-spec =
+pub numbers_fine_spec : {M : Type 1} → statement M
+numbers_fine_spec =
     tie.close
     (tie.spec
-    returns
-    sub-application-sds
-    application-sds-requires
-    returns-2
-    mul-are-low
-    add-are-low
-    are-low-requires
-    returns-3)
+    returns-then-n-eq0
+    overflow_sub-n
+    application_sds-requires
+    returns-then-application_sds-ge-SDSS
+    overflow_mul-n
+    overflow_add-n
+    are_low-requires
+    returns)

@@ -4,19 +4,19 @@ use Rattle.check_ends.proofs.GroupLaws.{first_begun}
 use Rattle.check_ends.proofs.begun.Statement.{statement}
 use Rattle.check_ends.proofs.begun.Tie as tie
 
-returns : tie.Need-returns
-returns c =
-    let last = c.before.before.before.before.before.requires.1.0.1 in
-    first_begun (record { near = last.near; group = last.same c.if1.true })
+returns-then-number-last : tie.Need-returns-then-number-last
+returns-then-number-last c =
+    let last = c.requires.1.0.1 in
+    first_begun (record { near = last.near; group = last.same c.if-number-last.true })
 
 first-requires : tie.Need-first-requires
-first-requires c κs = let x = c.before.before.before.before.before.before in (x.requires.0, (x.requires.1.0.0, x.requires.1.1))
+first-requires c κs = (c.requires.0, (c.requires.1.0.0, c.requires.1.1))
 
-same_length : tie.Need-same-length
-same_length c = search rules
+shape_of-starts : tie.Need-shape_of-starts
+shape_of-starts c = search rules
 
-returns-2 : tie.Need-returns-2
-returns-2 c = search rules
+returns : tie.Need-returns
+returns c = search rules
 
-pub begun-spec : {M : Type 1} → statement M
-begun-spec = tie.close (tie.spec returns first-requires same_length returns-2)
+pub begun_spec : {M : Type 1} → statement M
+begun_spec = tie.close (tie.spec returns-then-number-last first-requires shape_of-starts returns)

@@ -18,163 +18,160 @@ use Rattle.check_ends.proofs.PassLaws.{going_not, going_done}
 use Rattle.check_ends.proofs.ends_fine.Statement.{statement}
 use Rattle.check_ends.proofs.ends_fine.Tie as tie
 
-abbrev invariant-loop : tie.invariant-loop
-invariant-loop base n held starts₀ group₀ tally₀ before₀ number₀ i₀ starts group tally before number i =
+abbrev invariant-loop-before : tie.invariant-loop-before
+invariant-loop-before base n held starts₀ group₀ tally₀ before₀ number₀ i₀ starts group tally before number i =
     Going base n i before number tally group × (length starts ≡ 128)
 
-abbrev decreases-loop : tie.decreases-loop
-decreases-loop base n held starts₀ group₀ tally₀ before₀ number₀ i₀ starts group tally before number i = n - i
+abbrev decreases-loop-before : tie.decreases-loop-before
+decreases-loop-before base n held starts₀ group₀ tally₀ before₀ number₀ i₀ starts group tally before number i = n - i
 
 -- at a row
-abbrev start : tie.In-loop invariant-loop decreases-loop → tie.Start invariant-loop decreases-loop
+abbrev start : tie.In-loop-before invariant-loop-before decreases-loop-before → tie.Start invariant-loop-before decreases-loop-before
 start c = c.before.before.before.before.before.before.before.before.before
 
-small : (c : tie.In-loop invariant-loop decreases-loop) (k : ℕ) → get_or (start c).args.base.now k 0 < 256
-small c k = (c.before.before.before.before.before.before.before.before.shared-slice-known.given k).fits
+small : (c : tie.In-loop-before invariant-loop-before decreases-loop-before) (k : ℕ) → get_or (start c).args.base.now k 0 < 256
+small c k = (c.shared_slice_known-1.given k).fits
 
-blank : (c : tie.In-loop invariant-loop decreases-loop) → BlankFrom ends (start c).args.n (start c).args.base.now
-blank c = c.before.before.before.before.before.no-end-from.ensures.holds (not-false _ c.before.before.before.before.if1.false)
+blank : (c : tie.In-loop-before invariant-loop-before decreases-loop-before) → BlankFrom ends (start c).args.n (start c).args.base.now
+blank c = c.no_end_from.ensures.holds (not-false _ c.if-not-no_end_from.false-raw)
 
-below : (c : tie.In-loop invariant-loop decreases-loop) → c.before.loop.i < (start c).args.n
-below c = going_below (start c).requires.0 (small c) (start c).requires.1.0.fits (blank c) c.before.loop.invariant.0 c.loop-test.true
+below : (c : tie.In-loop-before invariant-loop-before decreases-loop-before) → c.loop-before.i < (start c).args.n
+below c = going_below (start c).requires.0 (small c) (start c).requires.1.0.fits (blank c) c.loop-before.invariant.0 c.loop-before-test.true
 
-is_number : (c : tie.In-loop invariant-loop decreases-loop) → c.before.loop.number ≡ row_number (start c).args.base.now c.before.loop.i
-is_number c = going_number (start c).requires.0 (small c) (start c).requires.1.0.fits (blank c) c.before.loop.invariant.0 c.loop-test.true
+is_number : (c : tie.In-loop-before invariant-loop-before decreases-loop-before) → c.loop-before.number ≡ row_number (start c).args.base.now c.loop-before.i
+is_number c = going_number (start c).requires.0 (small c) (start c).requires.1.0.fits (blank c) c.loop-before.invariant.0 c.loop-before-test.true
 
-refuses : (c : tie.In-loop invariant-loop decreases-loop) → let b = (start c).args.base.now in (RowFine b c.before.loop.i → ⊥) → Decides (EndsFine b) false
+refuses : (c : tie.In-loop-before invariant-loop-before decreases-loop-before) → let b = (start c).args.base.now in (RowFine b c.loop-before.i → ⊥) → Decides (EndsFine b) false
 refuses c out =
     let x = start c in
-    decides_no (going_not x.pre.0 (small c) x.pre.1.0.fits (blank c) c.before.loop.invariant.0 x.pre.1.0 (below c) out)
+    decides_no (going_not x.requires.0 (small c) x.requires.1.0.fits (blank c) c.loop-before.invariant.0 x.requires.1.0 (below c) out)
 
-reached : (c : tie.Else2 invariant-loop decreases-loop) → let r = c.before.before in Reached (start r).args.base.now r.before.loop.i
+reached : (c : tie.Else-not-is_small invariant-loop-before decreases-loop-before) → let r = c.before.before in Reached (start r).args.base.now r.loop-before.i
 reached c =
     let r = c.before.before in
     let x = start r in
-    going_reached x.pre.0 (small r) x.pre.1.0.fits (blank r) r.before.loop.invariant.0 r.loop-test.true
-    (c.before.is-small.ensures.holds (not-false _ c.if2.false))
+    going_reached x.requires.0 (small r) x.requires.1.0.fits (blank r) r.loop-before.invariant.0 r.loop-before-test.true
+    (c.is_small.ensures.holds (not-false _ c.if-not-is_small.false-raw))
 
 -- past a row that is fine
-abbrev row : tie.After-struct-known2 invariant-loop decreases-loop → tie.In-loop invariant-loop decreases-loop
+abbrev row : tie.After-struct_known-in-loop-before-1 invariant-loop-before decreases-loop-before → tie.In-loop-before invariant-loop-before decreases-loop-before
 row c = c.before.before.before.before.before.before.before.before.before
 
-abbrev passed : tie.After-struct-known2 invariant-loop decreases-loop → tie.After-group-at invariant-loop decreases-loop
+abbrev passed : tie.After-struct_known-in-loop-before-1 invariant-loop-before decreases-loop-before → tie.After-group_at-group invariant-loop-before decreases-loop-before
 passed c = c.before.before.before.before.before
 
-some : (c : tie.After-struct-known2 invariant-loop decreases-loop) → 0 < (passed c).group_at.result.near
-some c = omega (arith, c.before.if3.false)
+some : (c : tie.After-struct_known-in-loop-before-1 invariant-loop-before decreases-loop-before) → 0 < (passed c).group_at-group.result.near
+some c = omega (arith, c.if-group-eq0.false)
 
-counts : (c : tie.After-struct-known2 invariant-loop decreases-loop)
-    → let at = (row c).before.loop in at.tally + (passed c).group_at.result.weight ≡ tally (start (row c)).args.base.now (at.i + 1)
+counts : (c : tie.After-struct_known-in-loop-before-1 invariant-loop-before decreases-loop-before)
+    → let at = (row c).loop-before in at.tally + (passed c).group_at-group.result.weight ≡ tally (start (row c)).args.base.now (at.i + 1)
 counts c =
     let r = row c in
-    tally_on (start r).args.base.now r.before.loop.i r.before.loop.inv.0.counts ((passed c).group_at.ensures.group (some c)).weight
+    tally_on (start r).args.base.now r.loop-before.i r.loop-before.invariant.0.counts ((passed c).group_at-group.ensures.group (some c)).weight
 
-no-end-from-requires : tie.Need-no-end-from-requires invariant-loop decreases-loop
-no-end-from-requires c κs = let x = c.before.before.before in (x.requires.0.long, x.requires.1.0.fits)
+no_end_from-requires : tie.Need-no_end_from-requires invariant-loop-before decreases-loop-before
+no_end_from-requires c κs = (c.requires.0.long, c.requires.1.0.fits)
 
-returns : tie.Need-returns invariant-loop decreases-loop
-returns c =
-    let x = c.before.before.before.before.before in
-    let bytes = c.before.before.before.before.shared-slice-known.given in
-    decides_no (λ f. c.before.no-end-from.ensures.fails (not-true _ c.if1.true)
-    (fine_found x.requires.0 (λ k. (bytes k).fits) x.args.n x.requires.1.0.fits x.requires.1.0 f).rest)
+returns-then-not-no_end_from : tie.Need-returns-then-not-no_end_from invariant-loop-before decreases-loop-before
+returns-then-not-no_end_from c =
+    let bytes = c.shared_slice_known-1.given in
+    decides_no (λ f. c.no_end_from.ensures.fails (not-true _ c.if-not-no_end_from.true-raw)
+    (fine_found c.requires.0 (λ k. (bytes k).fits) c.args.n c.requires.1.0.fits c.requires.1.0 f).rest)
 
-refused-requires : tie.Need-refused-requires invariant-loop decreases-loop
-refused-requires c κs = search rules
+refused-group-requires : tie.Need-refused-group-requires invariant-loop-before decreases-loop-before
+refused-group-requires c κs = search rules
 
-end-number-requires : tie.Need-end-number-requires invariant-loop decreases-loop
-end-number-requires c κs = (c.before.before.before.before.before.before.requires.0.long, omega arith)
+end_number-number-requires : tie.Need-end_number-number-requires invariant-loop-before decreases-loop-before
+end_number-number-requires c κs = (c.requires.0.long, omega arith)
 
-loop-holds : tie.Need-loop-init invariant-loop decreases-loop
-loop-holds c =
-    let x = c.before.before.before.before.before.before.before in
-    let bytes = c.before.before.before.before.before.before.shared-slice-known.given in
-    (going_start x.requires.0 (λ k. (bytes k).fits) x.requires.1.0.fits c.end-number.ensures c.before.refused.ensures, x.requires.1.1)
+loop-before-init : tie.Need-loop-before-init invariant-loop-before decreases-loop-before
+loop-before-init c =
+    let bytes = c.shared_slice_known-1.given in
+    (going_start c.requires.0 (λ k. (bytes k).fits) c.requires.1.0.fits c.end_number-number.ensures c.refused-group.ensures, c.requires.1.1)
 
-is-small-requires : tie.Need-is-small-requires invariant-loop decreases-loop
-is-small-requires c κs = search rules
+is_small-requires : tie.Need-is_small-requires invariant-loop-before decreases-loop-before
+is_small-requires c κs = search rules
 
-same_length : tie.Need-same-length invariant-loop decreases-loop
-same_length c = search rules
+shape_of-starts-then-not-is_small : tie.Need-shape_of-starts-then-not-is_small invariant-loop-before decreases-loop-before
+shape_of-starts-then-not-is_small c = search rules
 
-returns-2 : tie.Need-returns-2 invariant-loop decreases-loop
-returns-2 c =
+returns-then-not-is_small : tie.Need-returns-then-not-is_small invariant-loop-before decreases-loop-before
+returns-then-not-is_small c =
     let r = c.before.before in
     let x = start r in
-    refuses r (λ y. c.before.is-small.ensures.fails (not-true _ c.if2.true)
-    (subst Small (sym (is_number r)) (fine_small x.pre.0 (small r) x.pre.1.0.fits _ (omega (arith, below r, x.pre.1.0.fits)) y)))
+    refuses r (λ y. c.is_small.ensures.fails (not-true _ c.if-not-is_small.true-raw)
+    (subst Small (sym (is_number r)) (fine_small x.requires.0 (small r) x.requires.1.0.fits _ (omega (arith, below r, x.requires.1.0.fits)) y)))
 
-group-at-requires : tie.Need-group-at-requires invariant-loop decreases-loop
-group-at-requires c κs =
+group_at-group-requires : tie.Need-group_at-group-requires invariant-loop-before decreases-loop-before
+group_at-group-requires c κs =
     let r = c.before.before.before in
     let x = start r in
     let at = reached c.before in
-    let inv = r.before.loop.invariant in
-    let last = going_last x.pre.0 (small r) x.pre.1.0.fits (blank r) inv.0 r.loop-test.true at in
-    ((at, x.pre.0), ((is_number r, last), inv.1))
+    let inv = r.loop-before.invariant in
+    let last = going_last x.requires.0 (small r) x.requires.1.0.fits (blank r) inv.0 r.loop-before-test.true at in
+    ((at, x.requires.0), ((is_number r, last), inv.1))
 
-same-length-2 : tie.Need-same-length-2 invariant-loop decreases-loop
-same-length-2 c = search rules
+shape_of-starts-then-group-eq0 : tie.Need-shape_of-starts-then-group-eq0 invariant-loop-before decreases-loop-before
+shape_of-starts-then-group-eq0 c = search rules
 
-returns-3 : tie.Need-returns-3 invariant-loop decreases-loop
-returns-3 c =
-    let out = c.before.before.before.before.group_at.ensures.fails c.if3.true in
+returns-then-group-eq0 : tie.Need-returns-then-group-eq0 invariant-loop-before decreases-loop-before
+returns-then-group-eq0 c =
+    let out = c.group_at-group.ensures.fails c.if-group-eq0.true in
     refuses c.before.before.before.before.before.before.before.before out
 
-add-tally : tie.Need-overflow-add-tally invariant-loop decreases-loop
-add-tally c =
+overflow_add-tally : tie.Need-overflow_add-tally invariant-loop-before decreases-loop-before
+overflow_add-tally c =
     let r = row c in
-    omega (arith, tally_small (start r).args.base.now (r.before.loop.i + 1) (omega (arith, below r, (start r).pre.1.0.fits)) (counts c))
+    omega (arith, tally_small (start r).args.base.now (r.loop-before.i + 1) (omega (arith, below r, (start r).requires.1.0.fits)) (counts c))
 
-add-i : tie.Need-overflow-add-i invariant-loop decreases-loop
-add-i c = omega (arith, below (row c), (start (row c)).pre.1.0.fits)
+overflow_add-i : tie.Need-overflow_add-i invariant-loop-before decreases-loop-before
+overflow_add-i c = omega (arith, below (row c), (start (row c)).requires.1.0.fits)
 
-end-number-requires-2 : tie.Need-end-number-requires-2 invariant-loop decreases-loop
-end-number-requires-2 c κs = ((start (row c)).pre.0.long, omega arith)
+end_number-number-requires-in-loop-before : tie.Need-end_number-number-requires-in-loop-before invariant-loop-before decreases-loop-before
+end_number-number-requires-in-loop-before c κs = ((start (row c)).requires.0.long, omega arith)
 
-loop-less : tie.Need-loop-smaller invariant-loop decreases-loop
-loop-less c = omega (arith, below (row c.before))
+loop-before-smaller : tie.Need-loop-before-smaller invariant-loop-before decreases-loop-before
+loop-before-smaller c = omega (arith, below (row c.before))
 
-loop-again : tie.Need-loop-preserved invariant-loop decreases-loop
-loop-again c =
+loop-before-preserved : tie.Need-loop-before-preserved invariant-loop-before decreases-loop-before
+loop-before-preserved c =
     let r = row c.before in
     let x = start r in (
-      going_on x.pre.0 (small r) x.pre.1.0.fits (blank r) r.before.loop.inv.0 r.loop-test.taken
-          (passed c.before).group_at.ensures (some c.before) c.end-number2.ensures,
+      going_on x.requires.0 (small r) x.requires.1.0.fits (blank r) r.loop-before.invariant.0 r.loop-before-test.true
+          (passed c.before).group_at-group.ensures (some c.before) c.end_number-number-in-loop-before.ensures,
       search rules,
     )
 
-same-length-3 : tie.Need-same-length-3 invariant-loop decreases-loop
-same-length-3 c = search rules
+shape_of-starts : tie.Need-shape_of-starts invariant-loop-before decreases-loop-before
+shape_of-starts c = search rules
 
-returns-4 : tie.Need-returns-4 invariant-loop decreases-loop
-returns-4 c =
-    let x = c.before.before.before.before.before.before.before.before.before in
-    let bytes = c.before.before.before.before.before.before.before.before.shared-slice-known.given in
-    let rest = c.before.before.before.before.before.no-end-from.ensures.holds (not-false _ c.before.before.before.before.if1.false) in
-    going_done x.requires.0 (λ k. (bytes k).fits) x.requires.1.0.fits rest c.before.loop.invariant.0 x.requires.1.0 c.loop-test.false
+returns : tie.Need-returns invariant-loop-before decreases-loop-before
+returns c =
+    let bytes = c.shared_slice_known-1.given in
+    let rest = c.no_end_from.ensures.holds (not-false _ c.if-not-no_end_from.false-raw) in
+    going_done c.requires.0 (λ k. (bytes k).fits) c.requires.1.0.fits rest c.loop-before.invariant.0 c.requires.1.0 c.loop-before-test.false
 
-pub ends-fine-spec : {M : Type 1} → statement M
-ends-fine-spec =
+pub ends_fine_spec : {M : Type 1} → statement M
+ends_fine_spec =
     tie.close
     (tie.spec
-    invariant-loop
-    decreases-loop
-    no-end-from-requires
-    returns
-    refused-requires
-    end-number-requires
-    loop-holds
-    is-small-requires
-    same_length
-    returns-2
-    group-at-requires
-    same-length-2
-    returns-3
-    add-tally
-    add-i
-    end-number-requires-2
-    loop-less
-    loop-again
-    same-length-3
-    returns-4)
+    invariant-loop-before
+    decreases-loop-before
+    no_end_from-requires
+    returns-then-not-no_end_from
+    refused-group-requires
+    end_number-number-requires
+    loop-before-init
+    is_small-requires
+    shape_of-starts-then-not-is_small
+    returns-then-not-is_small
+    group_at-group-requires
+    shape_of-starts-then-group-eq0
+    returns-then-group-eq0
+    overflow_add-tally
+    overflow_add-i
+    end_number-number-requires-in-loop-before
+    loop-before-smaller
+    loop-before-preserved
+    shape_of-starts
+    returns)

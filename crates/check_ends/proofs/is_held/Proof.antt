@@ -4,27 +4,27 @@ use Rattle.check_held.proofs.HeldLaws.{held_bit}
 use Rattle.check_ends.proofs.is_held.Statement.{statement}
 use Rattle.check_ends.proofs.is_held.Tie as tie
 
-mul-result : tie.Need-overflow-mul-result
-mul-result c = search rules
+offset_bounds-held-t : tie.Need-offset_bounds-held-t
+offset_bounds-held-t c = search rules
 
-shared-slice-read-result : tie.Need-shared-slice-read-result
-shared-slice-read-result c = search rules
+bounds-held-t : tie.Need-bounds-held-t
+bounds-held-t c = search rules
 
-cast-result : tie.Need-overflow-cast-result
-cast-result c = search rules
+overflow_cast-result : tie.Need-overflow_cast-result
+overflow_cast-result c = search rules
 
-shr-result : tie.Need-overflow-shr-result
-shr-result c = search rules
+overflow_shr-result : tie.Need-overflow_shr-result
+overflow_shr-result c = search rules
 
 returns : tie.Need-returns
-returns c = let x = c.before in held_bit x.args.d x.args.t x.requires.0.1 x.requires.1
+returns c = held_bit c.args.d c.args.t c.requires.0.1 c.requires.1
 
-pub is-held-spec : {M : Type 1} → statement M
-is-held-spec =
+pub is_held_spec : {M : Type 1} → statement M
+is_held_spec =
     tie.close
     (tie.spec
-    mul-result
-    shared-slice-read-result
-    cast-result
-    shr-result
+    offset_bounds-held-t
+    bounds-held-t
+    overflow_cast-result
+    overflow_shr-result
     returns)

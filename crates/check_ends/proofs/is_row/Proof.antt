@@ -7,17 +7,17 @@ use Rattle.rows.proofs.Decides.{decides_no}
 use Rattle.check_ends.proofs.is_row.Statement.{statement}
 use Rattle.check_ends.proofs.is_row.Tie as tie
 
+returns-then-n-i : tie.Need-returns-then-n-i
+returns-then-n-i c = decides_no (λ x. omega (arith, x.0, c.if-n-i.true))
+
+end_number-requires : tie.Need-end_number-requires
+end_number-requires c κs = search rules
+
 returns : tie.Need-returns
-returns c = decides_no (λ x. omega (arith, x.0, c.if1.true))
-
-end-number-requires : tie.Need-end-number-requires
-end-number-requires c κs = search rules
-
-returns-2 : tie.Need-returns-2
-returns-2 c = record {
-  holds = λ e. (c.before.if1.false, sym c.end-number.ensures ∙ eqb-true _ _ e);
-  fails = λ e x. eqb-false _ _ e (c.end-number.ensures ∙ x.1);
+returns c = record {
+  holds = λ e. (c.if-n-i.false, sym c.end_number.ensures ∙ eqb-true _ _ e);
+  fails = λ e x. eqb-false _ _ e (c.end_number.ensures ∙ x.1);
 }
 
-pub is-row-spec : {M : Type 1} → statement M
-is-row-spec = tie.close (tie.spec returns end-number-requires returns-2)
+pub is_row_spec : {M : Type 1} → statement M
+is_row_spec = tie.close (tie.spec returns-then-n-i end_number-requires returns)

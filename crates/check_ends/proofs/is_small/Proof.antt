@@ -6,5 +6,5 @@ use Rattle.check_ends.proofs.is_small.Tie as tie
 returns : tie.Need-returns
 returns c = small_decided c.args.number
 
-pub is-small-spec : {M : Type 1} → statement M
-is-small-spec = tie.close (tie.spec returns)
+pub is_small_spec : {M : Type 1} → statement M
+is_small_spec = tie.close (tie.spec returns)

@@ -30,42 +30,42 @@ tested c =
     link_byte b _ _ (below c) c.kind.ensures.is ∙ ap (λ (m : ℕ). is_link (kind_of (schema_of b) m)) (start c).requires.1
 
 kind-requires : tie.Need-kind-requires
-kind-requires c κs = let x = c.before.before in (x.requires.0.0.long, omega (arith, x.requires.1, link_small x.requires.0.0))
+kind-requires c κs = (c.requires.0.0.long, omega (arith, c.requires.1, link_small c.requires.0.0))
+
+returns-then-kind-ne-LINK : tie.Need-returns-then-kind-ne-LINK
+returns-then-kind-ne-LINK c = decides_no (λ f. c.if-kind-ne-LINK.true (eqb-true _ 3 (tested c.before ∙ f.is)))
+
+end_sds-requires : tie.Need-end_sds-requires
+end_sds-requires c κs = search rules
+
+is_held-requires : tie.Need-is_held-requires
+is_held-requires c κs =
+    let x = start c.before.before in
+    ((x.requires.0.1.holds.room, omega (arith, c.end_sds.ensures.is, sds_small x.requires.0.0)), below c.before.before)
 
 returns : tie.Need-returns
-returns c = decides_no (λ f. c.if1.true (eqb-true _ 3 (tested c.before ∙ f.is)))
-
-end-sds-requires : tie.Need-end-sds-requires
-end-sds-requires c κs = search rules
-
-is-held-requires : tie.Need-is-held-requires
-is-held-requires c κs =
-    let x = start c.before.before in
-    ((x.pre.0.1.holds.room, omega (arith, c.end_sds.ensures.is, sds_small x.pre.0.0)), below c.before.before)
-
-returns-2 : tie.Need-returns-2
-returns-2 c =
+returns c =
     let k = c.before.before.before in
     let x = start k in
     let b = x.args.base.now in
-    let d = c.before.end_sds.ensures.is in
-    let l = x.pre.1 in
-    let same : present (schema_of b) c.before.end_sds.result x.args.link
+    let d = c.end_sds.ensures.is in
+    let l = x.requires.1 in
+    let same : present (schema_of b) c.end_sds.result x.args.link
     ≡ present (schema_of b) (specs.sds_byte b x.args.i) (specs.link_byte b x.args.i) = λ j. present (schema_of b) (d j) (l j) in
     record {
       holds = λ e. record {
-        is = sym (tested k) ∙ eq-eqb _ 3 c.before.before.if1.false;
-        held = sym same ∙ is_held x.pre.0.1.holds c.is_held.ensures e;
+        is = sym (tested k) ∙ eq-eqb _ 3 c.if-kind-ne-LINK.false;
+        held = sym same ∙ is_held x.requires.0.1.holds c.is_held.ensures e;
       };
-      fails = λ e f. not_held x.pre.0.1.holds c.is_held.ensures e (same ∙ f.held);
+      fails = λ e f. not_held x.requires.0.1.holds c.is_held.ensures e (same ∙ f.held);
     }
 
-pub link-fine-spec : {M : Type 1} → statement M
-link-fine-spec =
+pub link_fine_spec : {M : Type 1} → statement M
+link_fine_spec =
     tie.close
     (tie.spec
     kind-requires
-    returns
-    end-sds-requires
-    is-held-requires
-    returns-2)
+    returns-then-kind-ne-LINK
+    end_sds-requires
+    is_held-requires
+    returns)

@@ -15,11 +15,11 @@ use Rattle.check_ends.proofs.own.Statement.{statement}
 use Rattle.check_ends.proofs.own.Tie as tie
 
 -- where the SDS has been read
-abbrev start : tie.After-end-sds → tie.Start
+abbrev start : tie.After-end_sds → tie.Start
 start c = c.before.before.before.before
 
-below : (c : tie.After-end-sds) → c.before.end_object.result < 128
-below c = omega (arith, c.before.end_object.ensures.is, object_small (start c).requires.0.0)
+below : (c : tie.After-end_sds) → c.end_object-o.result < 128
+below c = omega (arith, c.end_object-o.ensures.is, object_small (start c).requires.0.0)
 
 tested : (c : tie.After-kind)
     → let x = (start c.before.before.before).args in
@@ -27,64 +27,64 @@ tested : (c : tie.After-kind)
 tested c =
     let s = c.before.before.before in
     let b = (start s).args.base.now in
-    object_byte b _ _ (below s) c.kind.ensures.is ∙ ap (λ (m : ℕ). is_object (kind_of (schema_of b) m)) s.before.end_object.ensures.is
+    object_byte b _ _ (below s) c.kind.ensures.is ∙ ap (λ (m : ℕ). is_object (kind_of (schema_of b) m)) s.end_object-o.ensures.is
 
-end-object-requires : tie.Need-end-object-requires
-end-object-requires c κs = search rules
+end_object-o-requires : tie.Need-end_object-o-requires
+end_object-o-requires c κs = search rules
 
-end-sds-requires : tie.Need-end-sds-requires
-end-sds-requires c κs = search rules
+end_sds-requires : tie.Need-end_sds-requires
+end_sds-requires c κs = search rules
 
-is-held-requires : tie.Need-is-held-requires
-is-held-requires c κs =
+is_held-requires : tie.Need-is_held-requires
+is_held-requires c κs =
     let x = start c in
-    ((x.pre.0.1.holds.room, omega (arith, c.end_sds.ensures.is, sds_small x.pre.0.0)), below c)
+    ((x.requires.0.1.holds.room, omega (arith, c.end_sds.ensures.is, sds_small x.requires.0.0)), below c)
 
 refused-requires : tie.Need-refused-requires
 refused-requires c κs = search rules
 
-returns : tie.Need-returns
-returns c =
+returns-then-not-is_held : tie.Need-returns-then-not-is_held
+returns-then-not-is_held c =
     let s = c.before.before.before in
     let b = (start s).args.base.now in
     let d = s.end_sds.ensures.is in
-    let o = s.before.end_object.ensures.is in
-    let out = not_held (start s).requires.0.1.holds c.before.before.is_held.ensures (not-true _ c.before.if1.true) in
+    let o = s.end_object-o.ensures.is in
+    let out = not_held (start s).requires.0.1.holds c.is_held.ensures (not-true _ c.if-not-is_held.true-raw) in
     passed_no c.refused.ensures.1 (λ y. out ((λ j. present (schema_of b) (d j) (o j)) ∙ object_there y))
 
 kind-requires : tie.Need-kind-requires
 kind-requires c κs = search rules
 
-refused-requires-2 : tie.Need-refused-requires-2
-refused-requires-2 c κs = search rules
+refused-requires-then-kind-ne-OBJECT : tie.Need-refused-requires-then-kind-ne-OBJECT
+refused-requires-then-kind-ne-OBJECT c κs = search rules
 
-returns-2 : tie.Need-returns-2
-returns-2 c = passed_no c.refused2.ensures.1 (λ y. c.before.if2.true (eqb-true _ 1 (tested c.before.before ∙ y.fits.object)))
+returns-then-kind-ne-OBJECT : tie.Need-returns-then-kind-ne-OBJECT
+returns-then-kind-ne-OBJECT c = passed_no c.refused-then-kind-ne-OBJECT.ensures.1 (λ y. c.if-kind-ne-OBJECT.true (eqb-true _ 1 (tested c.before.before ∙ y.fits.object)))
 
-add-t7 : tie.Need-overflow-add-t7
-add-t7 c = search rules
+overflow_add-result : tie.Need-overflow_add-result
+overflow_add-result c = search rules
 
-returns-3 : tie.Need-returns-3
-returns-3 c =
+returns : tie.Need-returns
+returns c =
     let s = c.before.before.before.before in
     let x = start s in
     let d = s.end_sds.ensures.is in
-    let o = s.before.end_object.ensures.is in
-    let there = is_held x.pre.0.1.holds c.before.before.before.is_held.ensures (not-false _ c.before.before.if1.false) in
-    own_passed x.pre.0.0 x.pre.1.0 x.pre.1.1 (sym (tested c.before) ∙ eq-eqb _ 1 c.if2.false)
+    let o = s.end_object-o.ensures.is in
+    let there = is_held x.requires.0.1.holds c.is_held.ensures (not-false _ c.if-not-is_held.false-raw) in
+    own_passed x.requires.0.0 x.requires.1.0 x.requires.1.1 (sym (tested c.before) ∙ eq-eqb _ 1 c.if-kind-ne-OBJECT.false)
     (sym (λ j. present (schema_of x.args.base.now) (d j) (o j)) ∙ there)
 
-pub own-spec : {M : Type 1} → statement M
-own-spec =
+pub own_spec : {M : Type 1} → statement M
+own_spec =
     tie.close
     (tie.spec
-    end-object-requires
-    end-sds-requires
-    is-held-requires
+    end_object-o-requires
+    end_sds-requires
+    is_held-requires
     refused-requires
-    returns
+    returns-then-not-is_held
     kind-requires
-    refused-requires-2
-    returns-2
-    add-t7
-    returns-3)
+    refused-requires-then-kind-ne-OBJECT
+    returns-then-kind-ne-OBJECT
+    overflow_add-result
+    returns)

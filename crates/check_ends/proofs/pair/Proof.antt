@@ -14,125 +14,125 @@ below : (x : tie.Start) → x.args.link < 128
 below x = omega (arith, x.requires.1.0.1.is, link_small x.requires.0.0)
 
 -- where the place for the hint is known
-abbrev start : tie.After-either → tie.Start
+abbrev start : tie.After-either-place → tie.Start
 start c = c.before.before.before.before.before.before
 
-abbrev placed : tie.After-wide → tie.After-either
+abbrev placed : tie.After-wide-hint → tie.After-either-place
 placed c = c.before.before.before
 
-place : (c : tie.After-either) → c.either.result < 128
+place : (c : tie.After-either-place) → c.either-place.result < 128
 place c =
     let x = start c in
-    let reverse : c.before.reverse.result < 128
-    = omega (arith, reverse_below x.pre.0.1.types x.args.link (below x), c.before.reverse.ensures.is) in
-    either_below (eqb c.before.before.end-side.result 0) (below x) reverse c.either.ensures
+    let reverse : c.reverse-reverse.result < 128
+    = omega (arith, reverse_below x.requires.0.1.types x.args.link (below x), c.reverse-reverse.ensures.is) in
+    either_below (eqb c.end_side-side.result 0) (below x) reverse c.either-place.ensures
 
-end-side-requires : tie.Need-end-side-requires
-end-side-requires c κs = search rules
+end_side-side-requires : tie.Need-end_side-side-requires
+end_side-side-requires c κs = search rules
 
-reverse-requires : tie.Need-reverse-requires
-reverse-requires c κs = let x = c.before.before.before.before in (x.requires.0.0.long, below x)
+reverse-reverse-requires : tie.Need-reverse-reverse-requires
+reverse-reverse-requires c κs = let x = c.before.before.before.before in (x.requires.0.0.long, below x)
 
-either-requires : tie.Need-either-requires
-either-requires c κs = search rules
+either-place-requires : tie.Need-either-place-requires
+either-place-requires c κs = search rules
 
-sub-top : tie.Need-overflow-sub-top
-sub-top c = search rules
+overflow_sub-top : tie.Need-overflow_sub-top
+overflow_sub-top c = search rules
 
-add-top : tie.Need-overflow-add-top
-add-top c = search rules
+overflow_add-top : tie.Need-overflow_add-top
+overflow_add-top c = search rules
 
-slice-read-wide : tie.Need-slice-read-wide
-slice-read-wide c = let e = c.before.before in omega (arith, place e, (start e).requires.1.1)
+bounds-starts-place : tie.Need-bounds-starts-place
+bounds-starts-place c = let e = c.before.before in omega (arith, place e, (start e).requires.1.1)
 
-wide-requires : tie.Need-wide-requires
-wide-requires c κs = search rules
+wide-hint-requires : tie.Need-wide-hint-requires
+wide-hint-requires c κs = search rules
 
-sub-t17 : tie.Need-overflow-sub-t17
-sub-t17 c = search rules
+overflow_sub-result : tie.Need-overflow_sub-result
+overflow_sub-result c = search rules
 
-mul-t18 : tie.Need-overflow-mul-t18
-mul-t18 c = omega (arith, below (start (placed c)))
+overflow_mul-result : tie.Need-overflow_mul-result
+overflow_mul-result c = omega (arith, below (start (placed c)))
 
-mul-t19 : tie.Need-overflow-mul-t19
-mul-t19 c = search rules
+overflow_mul-result-then-reverse-link : tie.Need-overflow_mul-result-then-reverse-link
+overflow_mul-result-then-reverse-link c = search rules
 
-add-t20 : tie.Need-overflow-add-t20
-add-t20 c =
+overflow_add-result : tie.Need-overflow_add-result
+overflow_add-result c =
     let e = placed c in
     let x = start e in
-    omega (arith, below x, e.before.before.end-side.ensures.is, side_small x.pre.0.0)
+    omega (arith, below x, e.end_side-side.ensures.is, side_small x.requires.0.0)
 
-sub-t21 : tie.Need-overflow-sub-t21
-sub-t21 c = search rules
+overflow_sub-result-then-reverse-link : tie.Need-overflow_sub-result-then-reverse-link
+overflow_sub-result-then-reverse-link c = search rules
 
-add-row-back : tie.Need-overflow-add-row-back
-add-row-back c = search rules
+overflow_add-i : tie.Need-overflow_add-i
+overflow_add-i c = search rules
 
-sub-row-back : tie.Need-overflow-sub-row-back
-sub-row-back c = search rules
+overflow_sub-i : tie.Need-overflow_sub-i
+overflow_sub-i c = search rules
 
-row-back-requires : tie.Need-row-back-requires
-row-back-requires c κs = search rules
+row_back-requires : tie.Need-row_back-requires
+row_back-requires c κs = search rules
 
-returns : tie.Need-returns
-returns c =
+returns-then-reverse-link : tie.Need-returns-then-reverse-link
+returns-then-reverse-link c =
     let e = placed c.before in
     let x = start e in
-    let p = x.pre.1.0.1 in
-    first_behind x.pre.0.0 x.pre.1.0.0 p.is p.paired e.before.reverse.ensures.is
-    e.before.before.end-side.ensures.is c.before.before.before.if1.true c.row_back.ensures
+    let p = x.requires.1.0.1 in
+    first_behind x.requires.0.0 x.requires.1.0.0 p.is p.paired e.reverse-reverse.ensures.is
+    e.end_side-side.ensures.is c.if-reverse-link.true c.row_back.ensures
 
-link-fine-requires : tie.Need-link-fine-requires
-link-fine-requires c κs = search rules
+link_fine-requires : tie.Need-link_fine-requires
+link_fine-requires c κs = search rules
 
 refused-requires : tie.Need-refused-requires
 refused-requires c = search rules
 
-returns-2 : tie.Need-returns-2
-returns-2 c = first_no c.refused.ensures.0 (c.before.before.link-fine.ensures.fails (not-true _ c.before.if2.true))
+returns-then-not-link_fine : tie.Need-returns-then-not-link_fine
+returns-then-not-link_fine c = first_no c.refused.ensures.0 (c.link_fine.ensures.fails (not-true _ c.if-not-link_fine.true-raw))
 
-cast-starts : tie.Need-overflow-cast-starts
-cast-starts c = search rules
+overflow_cast-starts : tie.Need-overflow_cast-starts
+overflow_cast-starts c = search rules
 
-slice-write-starts : tie.Need-slice-write-starts
-slice-write-starts c = let e = c.before.before.before in omega (arith, place e, (start e).requires.1.1)
+bounds-starts-place-2 : tie.Need-bounds-starts-place-2
+bounds-starts-place-2 c = let e = c.before.before.before in omega (arith, place e, (start e).requires.1.1)
 
-same_length : tie.Need-same-length
-same_length c = search rules
+shape_of-starts : tie.Need-shape_of-starts
+shape_of-starts c = search rules
 
-returns-3 : tie.Need-returns-3
-returns-3 c =
+returns : tie.Need-returns
+returns c =
     let e = c.before.before.before in
     let x = start e in
-    let p = x.pre.1.0.1 in
-    let fine = c.before.link-fine.ensures.holds (not-false _ c.if2.false) in
-    first_ahead x.pre.0.0 x.pre.1.0.0 p.is p.paired e.before.reverse.ensures.is fine c.before.before.if1.false
+    let p = x.requires.1.0.1 in
+    let fine = c.link_fine.ensures.holds (not-false _ c.if-not-link_fine.false-raw) in
+    first_ahead x.requires.0.0 x.requires.1.0.0 p.is p.paired e.reverse-reverse.ensures.is fine c.if-reverse-link.false
 
 pub pair_spec : {M : Type 1} → statement M
 pair_spec =
     tie.close
     (tie.spec
-    end-side-requires
-    reverse-requires
-    either-requires
-    sub-top
-    add-top
-    slice-read-wide
-    wide-requires
-    sub-t17
-    mul-t18
-    mul-t19
-    add-t20
-    sub-t21
-    add-row-back
-    sub-row-back
-    row-back-requires
-    returns
-    link-fine-requires
+    end_side-side-requires
+    reverse-reverse-requires
+    either-place-requires
+    overflow_sub-top
+    overflow_add-top
+    bounds-starts-place
+    wide-hint-requires
+    overflow_sub-result
+    overflow_mul-result
+    overflow_mul-result-then-reverse-link
+    overflow_add-result
+    overflow_sub-result-then-reverse-link
+    overflow_add-i
+    overflow_sub-i
+    row_back-requires
+    returns-then-reverse-link
+    link_fine-requires
     refused-requires
-    returns-2
-    cast-starts
-    slice-write-starts
-    same_length
-    returns-3)
+    returns-then-not-link_fine
+    overflow_cast-starts
+    bounds-starts-place-2
+    shape_of-starts
+    returns)

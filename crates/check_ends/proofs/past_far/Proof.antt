@@ -7,43 +7,41 @@ use Rattle.check_ends.proofs.RowLaws.{Numbered, numbered, row_past_at, row_past,
 use Rattle.check_ends.proofs.past_far.Statement.{statement}
 use Rattle.check_ends.proofs.past_far.Tie as tie
 
-numbers : (c : tie.Else1) → let x = c.before.before.before.args in (i : ℕ) → i < x.n → Numbered x.base.now i
+numbers : (c : tie.Else-is_row) → let x = c.args in (i : ℕ) → i < x.n → Numbered x.base.now i
 numbers c i h =
-    let x = c.before.before.before in
-    let bytes = c.before.before.shared-slice-known.given in
-    numbered x.args.base.now x.requires.0.0 (λ k. (bytes k).fits) i (omega (arith, x.requires.0.1))
+    let bytes = c.shared_slice_known-1.given in
+    numbered c.args.base.now c.requires.0.0 (λ k. (bytes k).fits) i (omega (arith, c.requires.0.1))
 
-is-row-requires : tie.Need-is-row-requires
-is-row-requires c κs = search rules
+is_row-requires : tie.Need-is_row-requires
+is_row-requires c κs = search rules
 
-add-result : tie.Need-overflow-add-result
-add-result c = omega (arith, (c.before.is_row.ensures.holds c.if1.true).0, c.before.before.before.requires.0.1)
+overflow_add-result : tie.Need-overflow_add-result
+overflow_add-result c = omega (arith, (c.is_row.ensures.holds c.if-is_row.true).0, c.requires.0.1)
+
+returns-then-is_row : tie.Need-returns-then-is_row
+returns-then-is_row c = row_past_at (c.is_row.ensures.holds c.if-is_row.true)
+
+end_near-row-requires : tie.Need-end_near-row-requires
+end_near-row-requires c κs =
+    (c.requires.0, ((omega (arith, c.requires.1.0), (omega arith, (omega arith, omega arith))), c.requires.1.1))
+
+returns-then-n-row : tie.Need-returns-then-n-row
+returns-then-n-row c = row_none (numbers c.before.before) c.end_near-row.ensures c.if-n-row.true
+
+overflow_add-result-2 : tie.Need-overflow_add-result-2
+overflow_add-result-2 c = search rules
 
 returns : tie.Need-returns
-returns c = row_past_at (c.before.is_row.ensures.holds c.if1.true)
+returns c = row_past (numbers c.before.before) c.end_near-row.ensures c.if-n-row.false
 
-end-near-requires : tie.Need-end-near-requires
-end-near-requires c κs =
-    let x = c.before.before.before in
-    (x.requires.0, ((omega (arith, x.requires.1.0), (omega arith, (omega arith, omega arith))), x.requires.1.1))
-
-returns-2 : tie.Need-returns-2
-returns-2 c = row_none (numbers c.before.before) c.before.end-near.ensures c.if2.true
-
-add-result-2 : tie.Need-overflow-add-result-2
-add-result-2 c = search rules
-
-returns-3 : tie.Need-returns-3
-returns-3 c = row_past (numbers c.before.before) c.before.end-near.ensures c.if2.false
-
-pub past-far-spec : {M : Type 1} → statement M
-past-far-spec =
+pub past_far_spec : {M : Type 1} → statement M
+past_far_spec =
     tie.close
     (tie.spec
-    is-row-requires
-    add-result
-    returns
-    end-near-requires
-    returns-2
-    add-result-2
-    returns-3)
+    is_row-requires
+    overflow_add-result
+    returns-then-is_row
+    end_near-row-requires
+    returns-then-n-row
+    overflow_add-result-2
+    returns)

@@ -4,35 +4,35 @@ use Rattle.check_held.proofs.HeldLaws.{past_sds, past_type, held_bit}
 use Rattle.check_held.proofs.is_held.Statement.{statement}
 use Rattle.check_held.proofs.is_held.Tie as tie
 
+returns-then-d-ge-SDSS : tie.Need-returns-then-d-ge-SDSS
+returns-then-d-ge-SDSS c = let x = c.args in past_sds x.d x.t c.if-d-ge-SDSS.true
+
+returns-then-t-ge-TYPES : tie.Need-returns-then-t-ge-TYPES
+returns-then-t-ge-TYPES c = let x = c.args in past_type x.d x.t c.if-t-ge-TYPES.true
+
+offset_bounds-held-t : tie.Need-offset_bounds-held-t
+offset_bounds-held-t c = search rules
+
+bounds-held-t : tie.Need-bounds-held-t
+bounds-held-t c = search rules
+
+overflow_cast-result : tie.Need-overflow_cast-result
+overflow_cast-result c = search rules
+
+overflow_shr-result : tie.Need-overflow_shr-result
+overflow_shr-result c = search rules
+
 returns : tie.Need-returns
-returns c = let x = c.before.args in past_sds x.d x.t c.if1.true
+returns c = let x = c.args in held_bit x.d x.t c.if-d-ge-SDSS.false c.if-t-ge-TYPES.false
 
-returns-2 : tie.Need-returns-2
-returns-2 c = let x = c.before.before.args in past_type x.d x.t c.if2.true
-
-mul-result : tie.Need-overflow-mul-result
-mul-result c = search rules
-
-shared-slice-read-result : tie.Need-shared-slice-read-result
-shared-slice-read-result c = search rules
-
-cast-result : tie.Need-overflow-cast-result
-cast-result c = search rules
-
-shr-result : tie.Need-overflow-shr-result
-shr-result c = search rules
-
-returns-3 : tie.Need-returns-3
-returns-3 c = let x = c.before.before.before.args in held_bit x.d x.t c.before.before.if1.false c.before.if2.false
-
-pub is-held-spec : {M : Type 1} → statement M
-is-held-spec =
+pub is_held_spec : {M : Type 1} → statement M
+is_held_spec =
     tie.close
     (tie.spec
-    returns
-    returns-2
-    mul-result
-    shared-slice-read-result
-    cast-result
-    shr-result
-    returns-3)
+    returns-then-d-ge-SDSS
+    returns-then-t-ge-TYPES
+    offset_bounds-held-t
+    bounds-held-t
+    overflow_cast-result
+    overflow_shr-result
+    returns)

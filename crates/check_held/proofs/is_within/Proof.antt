@@ -12,5 +12,5 @@ returns c =
       fails = λ e f. eqb-false _ x.sdss e (of_within x.sdss x.others (omega arith) f);
     }
 
-pub is-within-spec : {M : Type 1} → statement M
-is-within-spec = tie.close (tie.spec returns)
+pub is_within_spec : {M : Type 1} → statement M
+is_within_spec = tie.close (tie.spec returns)

@@ -6,17 +6,17 @@ use lib.ListN.{get_or-eq_default}
 use Rattle.check_held.proofs.sdss_of.Statement.{statement}
 use Rattle.check_held.proofs.sdss_of.Tie as tie
 
+returns-then-held-t : tie.Need-returns-then-held-t
+returns-then-held-t c = let x = c.args in sym (get_or-eq_default x.held.now 0 {n = x.t} (omega arith))
+
+offset_bounds-held-t : tie.Need-offset_bounds-held-t
+offset_bounds-held-t c = search rules
+
+bounds-held-t : tie.Need-bounds-held-t
+bounds-held-t c = search rules
+
 returns : tie.Need-returns
-returns c = let x = c.before.args in sym (get_or-eq_default x.held.now 0 {n = x.t} (omega arith))
+returns c = search rules
 
-mul-result : tie.Need-overflow-mul-result
-mul-result c = search rules
-
-shared-slice-read-result : tie.Need-shared-slice-read-result
-shared-slice-read-result c = search rules
-
-returns-2 : tie.Need-returns-2
-returns-2 c = search rules
-
-pub sdss-of-spec : {M : Type 1} → statement M
-sdss-of-spec = tie.close (tie.spec returns mul-result shared-slice-read-result returns-2)
+pub sdss_of_spec : {M : Type 1} → statement M
+sdss_of_spec = tie.close (tie.spec returns-then-held-t offset_bounds-held-t bounds-held-t returns)

@@ -12,70 +12,69 @@ use Rattle.check_modes.proofs.PairLaws.{alike_agrees, agree_alike, keeps_none, k
 use Rattle.check_modes.proofs.pairs_fine.Statement.{statement}
 use Rattle.check_modes.proofs.pairs_fine.Tie as tie
 
-abbrev invariant-loop : tie.invariant-loop
-invariant-loop base n words₀ i₀ words i = Keeps base i words × ((k : ℕ) → k < i → Agrees base k)
+abbrev invariant-loop-i : tie.invariant-loop-i
+invariant-loop-i base n words₀ i₀ words i = Keeps base i words × ((k : ℕ) → k < i → Agrees base k)
 
-abbrev decreases-loop : tie.decreases-loop
-decreases-loop base n words₀ i₀ words i = n - i
+abbrev decreases-loop-i : tie.decreases-loop-i
+decreases-loop-i base n words₀ i₀ words i = n - i
 
-abbrev start : tie.At-loop invariant-loop decreases-loop → tie.Start invariant-loop decreases-loop
+abbrev start : tie.At-loop-i invariant-loop-i decreases-loop-i → tie.Start invariant-loop-i decreases-loop-i
 start c = c.before.before.before
 
 -- the row that the loop has come to is a presence
-below : (c : tie.In-loop invariant-loop decreases-loop) → let x = (start c.before).args in c.before.loop.i < presence_count x.base.now
-below c = omega (arith, (start c.before).pre.1.0, c.loop-test.true)
+below : (c : tie.In-loop-i invariant-loop-i decreases-loop-i) → let x = (start c.before).args in c.loop-i.i < presence_count x.base.now
+below c = omega (arith, (start c.before).requires.1.0, c.loop-i-test.true)
 
-loop-holds : tie.Need-loop-init invariant-loop decreases-loop
-loop-holds c = (keeps_none _ _ c.before.before.requires.1.1, below_none _)
+loop-i-init : tie.Need-loop-i-init invariant-loop-i decreases-loop-i
+loop-i-init c = (keeps_none _ _ c.requires.1.1, below_none _)
 
-row-agrees-requires : tie.Need-row-agrees-requires invariant-loop decreases-loop
-row-agrees-requires c κs =
+row_agrees-requires : tie.Need-row_agrees-requires invariant-loop-i decreases-loop-i
+row_agrees-requires c κs =
     let at = c.before.before in
-    ((start at).requires.0, (below c.before, at.loop.invariant.0))
+    ((start at).requires.0, (below c.before, at.loop-i.invariant.0))
 
-same_length : tie.Need-same-length invariant-loop decreases-loop
-same_length c =
+shape_of-words-then-not-row_agrees : tie.Need-shape_of-words-then-not-row_agrees invariant-loop-i decreases-loop-i
+shape_of-words-then-not-row_agrees c =
     let row = c.before.before.before in
-    keeps_room row.row-agrees.ensures.keeps _ (start row.before.before.before).pre.1.1
+    keeps_room row.row_agrees.ensures.keeps _ (start row.before.before.before).requires.1.1
 
-returns : tie.Need-returns invariant-loop decreases-loop
-returns c =
+returns-then-not-row_agrees : tie.Need-returns-then-not-row_agrees invariant-loop-i decreases-loop-i
+returns-then-not-row_agrees c =
     let row = c.before.before.before in
     let here = row.before.before in
-    decides_no (λ a. row.row-agrees.ensures.agrees.fails (not-true _ c.if1.true) (alike_agrees (start here.before).pre.0 a _ (below here)))
+    decides_no (λ a. row.row_agrees.ensures.agrees.fails (not-true _ c.if-not-row_agrees.true-raw) (alike_agrees (start here.before).requires.0 a _ (below here)))
 
-add-i : tie.Need-overflow-add-i invariant-loop decreases-loop
-add-i c = search rules
+overflow_add-i : tie.Need-overflow_add-i invariant-loop-i decreases-loop-i
+overflow_add-i c = search rules
 
-loop-less : tie.Need-loop-smaller invariant-loop decreases-loop
-loop-less c = search rules
+loop-i-smaller : tie.Need-loop-i-smaller invariant-loop-i decreases-loop-i
+loop-i-smaller c = search rules
 
-loop-again : tie.Need-loop-preserved invariant-loop decreases-loop
-loop-again c =
-    let agreed = c.before.before.before.row-agrees.ensures in
-    let at = c.before.before.before.before.before.before in
-    (agreed.keeps, below_more _ _ at.loop.invariant.1 (agreed.agrees.holds (not-false _ c.if1.false)))
+loop-i-preserved : tie.Need-loop-i-preserved invariant-loop-i decreases-loop-i
+loop-i-preserved c =
+    let agreed = c.row_agrees.ensures in
+    (agreed.keeps, below_more _ _ c.loop-i.invariant.1 (agreed.agrees.holds (not-false _ c.if-not-row_agrees.false-raw)))
 
-same-length-2 : tie.Need-same-length-2 invariant-loop decreases-loop
-same-length-2 c = keeps_room c.before.loop.invariant.0 _ (start c.before).pre.1.1
+shape_of-words : tie.Need-shape_of-words invariant-loop-i decreases-loop-i
+shape_of-words c = keeps_room c.loop-i.invariant.0 _ (start c.before).requires.1.1
 
-returns-2 : tie.Need-returns-2 invariant-loop decreases-loop
-returns-2 c =
+returns : tie.Need-returns invariant-loop-i decreases-loop-i
+returns c =
     let x = start c.before in
-    decides_yes (agree_alike x.pre.0 (λ i h. c.before.loop.invariant.1 i (omega (arith, x.pre.1.0, c.loop-test.false))))
+    decides_yes (agree_alike x.requires.0 (λ i h. c.loop-i.invariant.1 i (omega (arith, x.requires.1.0, c.loop-i-test.false))))
 
-pub pairs-fine-spec : {M : Type 1} → statement M
-pairs-fine-spec =
+pub pairs_fine_spec : {M : Type 1} → statement M
+pairs_fine_spec =
     tie.close
     (tie.spec
-    invariant-loop
-    decreases-loop
-    loop-holds
-    row-agrees-requires
-    same_length
-    returns
-    add-i
-    loop-less
-    loop-again
-    same-length-2
-    returns-2)
+    invariant-loop-i
+    decreases-loop-i
+    loop-i-init
+    row_agrees-requires
+    shape_of-words-then-not-row_agrees
+    returns-then-not-row_agrees
+    overflow_add-i
+    loop-i-smaller
+    loop-i-preserved
+    shape_of-words
+    returns)

@@ -12,87 +12,87 @@ use Rattle.check_presences.proofs.FloorLaws.{begun_same, begun_back, begun_unuse
 use Rattle.check_presences.proofs.begun.Statement.{statement}
 use Rattle.check_presences.proofs.begun.Tie as tie
 
-presence-sds-requires : tie.Need-presence-sds-requires
-presence-sds-requires c κs = search rules
+presence_sds-before-requires : tie.Need-presence_sds-before-requires
+presence_sds-before-requires c κs = search rules
 
-presence-sds-requires-2 : tie.Need-presence-sds-requires-2
-presence-sds-requires-2 c κs = search rules
+presence_sds-d-requires : tie.Need-presence_sds-d-requires
+presence_sds-d-requires c κs = search rules
 
 -- from where the SDS of the row was read to the start
-abbrev start : tie.After-presence-sds2 → tie.Start
+abbrev start : tie.After-presence_sds-d → tie.Start
 start c = c.before.before.before
 
 -- from the last test to there
-abbrev read : tie.Else3 → tie.After-presence-sds2
+abbrev read : tie.Else-not-is_sds → tie.After-presence_sds-d
 read c = c.before.before.before.before
 
-is_used : (c : tie.Else3) → let x = (start (read c)).args in used_sds (schema_of x.base.now) (read c).presence-sds2.result ≡ true
-is_used c = sym c.before.is-sds.ensures ∙ not-false _ c.if3.false
+is_used : (c : tie.Else-not-is_sds) → let x = (start (read c)).args in used_sds (schema_of x.base.now) (read c).presence_sds-d.result ≡ true
+is_used c = sym c.is_sds.ensures ∙ not-false _ c.if-not-is_sds.false-raw
 
-below : (c : tie.Else3) → (read c).presence-sds2.result < 16
-below c = let x = start (read c) in used_below x.args.base.now x.pre.0.0 (read c).presence-sds2.result (is_used c)
+below : (c : tie.Else-not-is_sds) → (read c).presence_sds-d.result < 16
+below c = let x = start (read c) in used_below x.args.base.now x.requires.0.0 (read c).presence_sds-d.result (is_used c)
 
-returns : tie.Need-returns
-returns c =
+returns-then-d-before : tie.Need-returns-then-d-before
+returns-then-d-before c =
     let sds = c.before in
     let x = start sds in
-    begun_same x.args.base.now x.pre.0.0 x.pre.1 (sym sds.before.presence_sds.ensures.is ∙ sym c.if1.true ∙ sds.presence-sds2.ensures.is)
+    begun_same x.args.base.now x.requires.0.0 x.requires.1 (sym sds.presence_sds-before.ensures.is ∙ sym c.if-d-before.true ∙ sds.presence_sds-d.ensures.is)
 
 refused-requires : tie.Need-refused-requires
 refused-requires c κs = search rules
 
-returns-2 : tie.Need-returns-2
-returns-2 c =
+returns-then-d-before-2 : tie.Need-returns-then-d-before-2
+returns-then-d-before-2 c =
     let two = c.before in
     let sds = two.before.before in
     let x = start sds in
-    begun_back x.args.base.now x.pre.0.0 x.pre.1 c.refused.ensures
-    (omega (arith, sds.before.presence_sds.ensures.is, sds.presence-sds2.ensures.is, two.if2.true))
+    begun_back x.args.base.now x.requires.0.0 x.requires.1 c.refused.ensures
+    (omega (arith, sds.presence_sds-before.ensures.is, sds.presence_sds-d.ensures.is, two.if-d-before-2.true))
 
-is-sds-requires : tie.Need-is-sds-requires
-is-sds-requires c κs = search rules
+is_sds-requires : tie.Need-is_sds-requires
+is_sds-requires c κs = search rules
 
-refused-requires-2 : tie.Need-refused-requires-2
-refused-requires-2 c κs = search rules
+refused-requires-then-not-is_sds : tie.Need-refused-requires-then-not-is_sds
+refused-requires-then-not-is_sds c κs = search rules
 
-returns-3 : tie.Need-returns-3
-returns-3 c =
+returns-then-not-is_sds : tie.Need-returns-then-not-is_sds
+returns-then-not-is_sds c =
     let asked = c.before.before in
     let sds = asked.before.before.before in
     let x = start sds in
-    begun_unused x.args.base.now x.pre.0.0 x.pre.1 c.refused2.ensures
-    (ap (used_sds (schema_of x.args.base.now)) (sym sds.presence-sds2.ensures.is) ∙ sym asked.is-sds.ensures ∙ not-true _ c.before.if3.true)
+    begun_unused x.args.base.now x.requires.0.0 x.requires.1 c.refused-then-not-is_sds.ensures
+    (ap (used_sds (schema_of x.args.base.now)) (sym sds.presence_sds-d.ensures.is) ∙ sym asked.is_sds.ensures ∙ not-true _ c.if-not-is_sds.true-raw)
 
-cast-bottom : tie.Need-overflow-cast-bottom
-cast-bottom c = search rules
+overflow_cast-d : tie.Need-overflow_cast-d
+overflow_cast-d c = search rules
 
-shl-bottom : tie.Need-overflow-shl-bottom
-shl-bottom c = omega (arith, below c)
+overflow_shl-d : tie.Need-overflow_shl-d
+overflow_shl-d c = omega (arith, below c)
 
 bottom-requires : tie.Need-bottom-requires
 bottom-requires c κs = search rules
 
-returns-4 : tie.Need-returns-4
-returns-4 c =
+returns : tie.Need-returns
+returns c =
     let three = c.before in
     let sds = read three in
     let x = start sds in
-    begun_new x.args.base.now x.pre.0.0 x.pre.1 sds.presence-sds2.ensures.is
-    (omega (arith, sds.before.presence_sds.ensures.is, three.before.before.if2.false, three.before.before.before.if1.false)) (is_used three) c.bottom.ensures
+    begun_new x.args.base.now x.requires.0.0 x.requires.1 sds.presence_sds-d.ensures.is
+    (omega (arith, sds.presence_sds-before.ensures.is, three.if-d-before-2.false, three.if-d-before.false)) (is_used three) c.bottom.ensures
 
-pub begun-spec : {M : Type 1} → statement M
-begun-spec =
+pub begun_spec : {M : Type 1} → statement M
+begun_spec =
     tie.close
     (tie.spec
-    presence-sds-requires
-    presence-sds-requires-2
-    returns
+    presence_sds-before-requires
+    presence_sds-d-requires
+    returns-then-d-before
     refused-requires
-    returns-2
-    is-sds-requires
-    refused-requires-2
-    returns-3
-    cast-bottom
-    shl-bottom
+    returns-then-d-before-2
+    is_sds-requires
+    refused-requires-then-not-is_sds
+    returns-then-not-is_sds
+    overflow_cast-d
+    overflow_shl-d
     bottom-requires
-    returns-4)
+    returns)

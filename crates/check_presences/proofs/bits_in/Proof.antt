@@ -12,57 +12,54 @@ use Rattle.check_presences.proofs.CountLaws.{bits_more}
 use Rattle.check_presences.proofs.bits_in.Statement.{statement}
 use Rattle.check_presences.proofs.bits_in.Tie as tie
 
-abbrev invariant-loop : tie.invariant-loop
-invariant-loop held bits₀ t₀ bits t = (t ≤ 128) × (t % 4 ≡ 0) × (bits ≤ t * 16) × (bits ≡ bits_in (take t held))
+abbrev invariant-loop-t : tie.invariant-loop-t
+invariant-loop-t held bits₀ t₀ bits t = (t ≤ 128) × (t % 4 ≡ 0) × (bits ≤ t * 16) × (bits ≡ bits_in (take t held))
 
-abbrev decreases-loop : tie.decreases-loop
-decreases-loop held bits₀ t₀ bits t = 128 - t
+abbrev decreases-loop-t : tie.decreases-loop-t
+decreases-loop-t held bits₀ t₀ bits t = 128 - t
 
-loop-holds : tie.Need-loop-init invariant-loop decreases-loop
+loop-t-init : tie.Need-loop-t-init invariant-loop-t decreases-loop-t
 unfolding bits_in
-loop-holds c = (omega arith, omega arith, omega arith, refl)
+loop-t-init c = (omega arith, omega arith, omega arith, refl)
 
-four-requires : tie.Need-four-requires invariant-loop decreases-loop
+four-requires : tie.Need-four-requires invariant-loop-t decreases-loop-t
 four-requires c κs = omega arith
 
-cast-bits : tie.Need-overflow-cast-bits invariant-loop decreases-loop
-cast-bits c = omega (arith, ones-le 64 c.four.result (omega arith))
+overflow_cast-bits : tie.Need-overflow_cast-bits invariant-loop-t decreases-loop-t
+overflow_cast-bits c = omega (arith, ones-le 64 c.four.result (omega arith))
 
-add-bits : tie.Need-overflow-add-bits invariant-loop decreases-loop
-add-bits c = omega (arith, ones-le 64 c.four.result (omega arith))
+overflow_add-bits : tie.Need-overflow_add-bits invariant-loop-t decreases-loop-t
+overflow_add-bits c = omega (arith, ones-le 64 c.four.result (omega arith))
 
-add-t : tie.Need-overflow-add-t invariant-loop decreases-loop
-add-t c = search rules
+overflow_add-t : tie.Need-overflow_add-t invariant-loop-t decreases-loop-t
+overflow_add-t c = search rules
 
-loop-less : tie.Need-loop-smaller invariant-loop decreases-loop
-loop-less c = omega arith
+loop-t-smaller : tie.Need-loop-t-smaller invariant-loop-t decreases-loop-t
+loop-t-smaller c = omega arith
 
-loop-again : tie.Need-loop-preserved invariant-loop decreases-loop
-loop-again c =
-    let at = c.before.before in (
-      omega arith,
-      omega arith,
-      omega (arith, ones-le 64 c.four.result (omega arith)),
-      omega (arith, bits_more at.before.before.args.held.now at.loop.t, c.four.ensures),
-    )
+loop-t-preserved : tie.Need-loop-t-preserved invariant-loop-t decreases-loop-t
+loop-t-preserved c = (
+  omega arith,
+  omega arith,
+  omega (arith, ones-le 64 c.four.result (omega arith)),
+  omega (arith, bits_more c.args.held.now c.loop-t.t, c.four.ensures),
+)
 
-returns : tie.Need-returns invariant-loop decreases-loop
+returns : tie.Need-returns invariant-loop-t decreases-loop-t
 returns c =
-    let at = c.before in
-    let start = at.before.before in
-    at.loop.invariant.3 ∙ ap bits_in (take_all at.loop.t start.args.held.now (omega (arith, start.requires)))
+    c.loop-t.invariant.3 ∙ ap bits_in (take_all c.loop-t.t c.args.held.now (omega (arith, c.requires)))
 
-pub bits-in-spec : {M : Type 1} → statement M
-bits-in-spec =
+pub bits_in_spec : {M : Type 1} → statement M
+bits_in_spec =
     tie.close
     (tie.spec
-    invariant-loop
-    decreases-loop
-    loop-holds
+    invariant-loop-t
+    decreases-loop-t
+    loop-t-init
     four-requires
-    cast-bits
-    add-bits
-    add-t
-    loop-less
-    loop-again
+    overflow_cast-bits
+    overflow_add-bits
+    overflow_add-t
+    loop-t-smaller
+    loop-t-preserved
     returns)

@@ -7,79 +7,77 @@ use Rattle.check_presences.proofs.FloorLaws.{Meets, row_refused, row_above, row_
 use Rattle.check_presences.proofs.compared.Statement.{statement}
 use Rattle.check_presences.proofs.compared.Tie as tie
 
-abbrev start : tie.Else1 → tie.Start
+abbrev start : tie.Else-under-eq0 → tie.Start
 start c = c.before.before.before.before
 
-meets : (c : tie.After-presence-key) → let x = (start c.before).args in
-    Meets x.base.now x.last x.i c.before.before.before.begun.result c.presence-key.result
+meets : (c : tie.After-presence_key-key) → let x = (start c.before).args in
+    Meets x.base.now x.last x.i c.begun-under.result c.presence_key-key.result
 meets c =
-    let begun = c.before.before.before in
-    let known = begun.before in
-    let x = known.before in record {
-      long = x.requires.0.0;
-      bytes = λ j. (known.shared-slice-known.given j).fits;
-      last_few = x.requires.0.1.0;
-      few = x.requires.0.1.1;
-      last_fine = x.requires.1.0.0;
-      fine = x.requires.1.0.1;
-      key = c.presence-key.ensures;
-      under = begun.begun.ensures.some c.before.if1.false;
+    record {
+      long = c.requires.0.0;
+      bytes = λ j. (c.shared_slice_known-1.given j).fits;
+      last_few = c.requires.0.1.0;
+      few = c.requires.0.1.1;
+      last_fine = c.requires.1.0.0;
+      fine = c.requires.1.0.1;
+      key = c.presence_key-key.ensures;
+      under = c.begun-under.ensures.some c.if-under-eq0.false;
     }
 
-begun-requires : tie.Need-begun-requires
-begun-requires c κs = search rules
+begun-under-requires : tie.Need-begun-under-requires
+begun-under-requires c κs = search rules
 
 refused-requires : tie.Need-refused-requires
 refused-requires c κs = search rules
 
-returns : tie.Need-returns
-returns c = row_refused c.refused.ensures (c.before.before.before.begun.ensures.none c.before.if1.true)
+returns-then-under-eq0 : tie.Need-returns-then-under-eq0
+returns-then-under-eq0 c = row_refused c.refused.ensures (c.begun-under.ensures.none c.if-under-eq0.true)
 
-presence-key-requires : tie.Need-presence-key-requires
-presence-key-requires c κs =
+presence_key-key-requires : tie.Need-presence_key-key-requires
+presence_key-key-requires c κs =
     let x = start c in
-    ((x.pre.0.0, x.pre.0.1.1), field_low x.args.base.now x.args.i x.pre.0.0 x.pre.0.1.1 x.pre.1.0.1)
+    ((x.requires.0.0, x.requires.0.1.1), field_low x.args.base.now x.args.i x.requires.0.0 x.requires.0.1.1 x.requires.1.0.1)
 
-is-above-requires : tie.Need-is-above-requires
-is-above-requires c κs = search rules
+is_above-requires : tie.Need-is_above-requires
+is_above-requires c κs = search rules
 
-returns-2 : tie.Need-returns-2
-returns-2 c = row_above (meets c.before.before) (sym c.before.is-above.ensures ∙ c.if2.true)
+returns-then-is_above : tie.Need-returns-then-is_above
+returns-then-is_above c = row_above (meets c.before.before) (sym c.is_above.ensures ∙ c.if-is_above.true)
 
-nameless-follows-requires : tie.Need-nameless-follows-requires
-nameless-follows-requires c κs =
+nameless_follows-requires : tie.Need-nameless_follows-requires
+nameless_follows-requires c κs =
     let k = c.before.before in
     let m = meets k in
-    ((m.long, (m.last_few, m.few)), ((m.last_fine, m.fine), (m.under, (m.key, sym c.before.is-above.ensures ∙ c.if2.false))))
+    ((m.long, (m.last_few, m.few)), ((m.last_fine, m.fine), (m.under, (m.key, sym c.is_above.ensures ∙ c.if-is_above.false))))
 
-refused-requires-2 : tie.Need-refused-requires-2
-refused-requires-2 c κs = search rules
+refused-requires-then-not-nameless_follows : tie.Need-refused-requires-then-not-nameless_follows
+refused-requires-then-not-nameless_follows c κs = search rules
 
-returns-3 : tie.Need-returns-3
-returns-3 c = row_refused c.refused2.ensures (c.before.before.nameless-follows.ensures.fails (not-true _ c.before.if3.true))
+returns-then-not-nameless_follows : tie.Need-returns-then-not-nameless_follows
+returns-then-not-nameless_follows c = row_refused c.refused-then-not-nameless_follows.ensures (c.nameless_follows.ensures.fails (not-true _ c.if-not-nameless_follows.true-raw))
 
 bottom-requires : tie.Need-bottom-requires
 bottom-requires c κs = search rules
 
-returns-4 : tie.Need-returns-4
-returns-4 c =
+returns : tie.Need-returns
+returns c =
     let asked = c.before.before in
     let two = asked.before in
-    row_nameless (meets two.before.before) (sym two.before.is-above.ensures ∙ two.if2.false)
-    (asked.nameless-follows.ensures.holds (not-false _ c.before.if3.false)) c.bottom.ensures
+    row_nameless (meets two.before.before) (sym two.is_above.ensures ∙ two.if-is_above.false)
+    (asked.nameless_follows.ensures.holds (not-false _ c.if-not-nameless_follows.false-raw)) c.bottom.ensures
 
-pub compared-spec : {M : Type 1} → statement M
-compared-spec =
+pub compared_spec : {M : Type 1} → statement M
+compared_spec =
     tie.close
     (tie.spec
-    begun-requires
+    begun-under-requires
     refused-requires
-    returns
-    presence-key-requires
-    is-above-requires
-    returns-2
-    nameless-follows-requires
-    refused-requires-2
-    returns-3
+    returns-then-under-eq0
+    presence_key-key-requires
+    is_above-requires
+    returns-then-is_above
+    nameless_follows-requires
+    refused-requires-then-not-nameless_follows
+    returns-then-not-nameless_follows
     bottom-requires
-    returns-4)
+    returns)

@@ -10,107 +10,100 @@ use Rattle.check_presences.proofs.TellLaws.{Kept, kept_first, kept_more, strange
 use Rattle.check_presences.proofs.fields_told.Statement.{statement}
 use Rattle.check_presences.proofs.fields_told.Tie as tie
 
-abbrev invariant-loop : tie.invariant-loop
-invariant-loop base n faults₀ all₀ any₀ i₀ faults all any i = ((0 < i) × (i ≤ n)) × Kept base n i faults all any
+abbrev invariant-loop-i : tie.invariant-loop-i
+invariant-loop-i base n faults₀ all₀ any₀ i₀ faults all any i = ((0 < i) × (i ≤ n)) × Kept base n i faults all any
 
-abbrev decreases-loop : tie.decreases-loop
-decreases-loop base n faults₀ all₀ any₀ i₀ faults all any i = n - i
+abbrev decreases-loop-i : tie.decreases-loop-i
+decreases-loop-i base n faults₀ all₀ any₀ i₀ faults all any i = n - i
 
-loop-holds : tie.Need-loop-init invariant-loop decreases-loop
-loop-holds c = let x = c.before in ((omega arith, omega (arith, x.requires.1.some)), kept_first x.args.base.now x.requires.0.0 x.requires.1)
+loop-i-init : tie.Need-loop-i-init invariant-loop-i decreases-loop-i
+loop-i-init c = ((omega arith, omega (arith, c.requires.1.some)), kept_first c.args.base.now c.requires.0.0 c.requires.1)
 
 -- all are passed
-kept : (c : tie.After-loop invariant-loop decreases-loop) → let at = c.before in
-    let x = at.before.before.args in Kept x.base.now x.n x.n at.loop.faults at.loop.all at.loop.any
+kept : (c : tie.After-loop-i invariant-loop-i decreases-loop-i) → let x = c.args in Kept x.base.now x.n x.n c.loop-i.faults c.loop-i.all c.loop-i.any
 kept c =
-    let at = c.before in
-    let x = at.before.before.args in
-    let all : at.loop.i ≡ x.n = omega (arith, at.loop.invariant.0, c.loop-test.false) in
-    subst (λ (k : ℕ). Kept x.base.now x.n k at.loop.faults at.loop.all at.loop.any) all at.loop.invariant.1
+    let x = c.args in
+    let all : c.loop-i.i ≡ x.n = omega (arith, c.loop-i.invariant.0, c.loop-i-test.false) in
+    subst (λ (k : ℕ). Kept x.base.now x.n k c.loop-i.faults c.loop-i.all c.loop-i.any) all c.loop-i.invariant.1
 
-mul-gather : tie.Need-overflow-mul-gather invariant-loop decreases-loop
-mul-gather c = search rules
+overflow_mul-i : tie.Need-overflow_mul-i invariant-loop-i decreases-loop-i
+overflow_mul-i c = search rules
 
-add-gather : tie.Need-overflow-add-gather invariant-loop decreases-loop
-add-gather c = search rules
+overflow_add-i : tie.Need-overflow_add-i invariant-loop-i decreases-loop-i
+overflow_add-i c = search rules
 
-slice-aggregate-gather : tie.Need-slice-aggregate-gather invariant-loop decreases-loop
-slice-aggregate-gather c = search rules
+slice_bounds-gather-end : tie.Need-slice_bounds-gather-end invariant-loop-i decreases-loop-i
+slice_bounds-gather-end c = search rules
 
-gather-requires : tie.Need-gather-requires invariant-loop decreases-loop
+gather-requires : tie.Need-gather-requires invariant-loop-i decreases-loop-i
 gather-requires c κs = search rules
 
-tail-requires : tie.Need-tail-requires invariant-loop decreases-loop
-tail-requires c κs = search rules
+tail-row-requires : tie.Need-tail-row-requires invariant-loop-i decreases-loop-i
+tail-row-requires c κs = search rules
 
-add-i : tie.Need-overflow-add-i invariant-loop decreases-loop
-add-i c = search rules
+overflow_add-i-in-loop-i : tie.Need-overflow_add-i-in-loop-i invariant-loop-i decreases-loop-i
+overflow_add-i-in-loop-i c = search rules
 
-loop-less : tie.Need-loop-smaller invariant-loop decreases-loop
-loop-less c = search rules
+loop-i-smaller : tie.Need-loop-i-smaller invariant-loop-i decreases-loop-i
+loop-i-smaller c = search rules
 
-loop-again : tie.Need-loop-preserved invariant-loop decreases-loop
-loop-again c =
-    let gathered = c.before.before in
-    let at = gathered.before.before.before in
-    let known = at.before in
-    let x = known.before in (
-      (omega arith, omega arith),
-      kept_more x.requires.0.0 x.requires.0.1 x.requires.1 (λ j. (known.shared-slice-known.given j).fits) at.loop.invariant.0.0 (omega arith)
-          at.loop.invariant.1 gathered.gather.ensures c.tail.ensures,
-    )
+loop-i-preserved : tie.Need-loop-i-preserved invariant-loop-i decreases-loop-i
+loop-i-preserved c = (
+  (omega arith, omega arith),
+  kept_more c.requires.0.0 c.requires.0.1 c.requires.1 (λ j. (c.shared_slice_known-1.given j).fits) c.loop-i.invariant.0.0 (omega arith)
+      c.loop-i.invariant.1 c.gather.ensures c.tail-row.ensures,
+)
 
-slice-aggregate-is-blank-field : tie.Need-slice-aggregate-is-blank-field invariant-loop decreases-loop
-slice-aggregate-is-blank-field c = search rules
+slice_bounds-is_blank_field-end : tie.Need-slice_bounds-is_blank_field-end invariant-loop-i decreases-loop-i
+slice_bounds-is_blank_field-end c = search rules
 
-is-blank-field-requires : tie.Need-is-blank-field-requires invariant-loop decreases-loop
-is-blank-field-requires c κs = search rules
+is_blank_field-requires : tie.Need-is_blank_field-requires invariant-loop-i decreases-loop-i
+is_blank_field-requires c κs = search rules
 
-returns : tie.Need-returns invariant-loop decreases-loop
-returns c =
+returns-then-not-is_blank_field : tie.Need-returns-then-not-is_blank_field invariant-loop-i decreases-loop-i
+returns-then-not-is_blank_field c =
     let asked = c.before in
-    strange_fields (kept asked.before.before) (sym asked.is-blank-field.ensures ∙ not-true _ c.if1.true)
+    strange_fields (kept asked.before.before) (sym asked.is_blank_field.ensures ∙ not-true _ c.if-not-is_blank_field.true-raw)
 
 -- no fault was met
-blank : (c : tie.Else1 invariant-loop decreases-loop) → blank_field c.before.before.before.before.loop.faults ≡ true
-blank c = sym c.before.is-blank-field.ensures ∙ not-false _ c.if1.false
+blank : (c : tie.Else-not-is_blank_field invariant-loop-i decreases-loop-i) → blank_field c.loop-i.faults ≡ true
+blank c = sym c.is_blank_field.ensures ∙ not-false _ c.if-not-is_blank_field.false-raw
 
-returns-2 : tie.Need-returns-2 invariant-loop decreases-loop
-returns-2 c =
+returns-then-any-ne-ALL : tie.Need-returns-then-any-ne-ALL invariant-loop-i decreases-loop-i
+returns-then-any-ne-ALL c =
     let after = c.before.before.before.before in
-    let x = after.before.before.before in
-    strange_tails (kept after) x.requires.0.0 x.requires.0.1 x.requires.1 c.if2.true
+    strange_tails (kept after) after.requires.0.0 after.requires.0.1 after.requires.1 c.if-any-ne-ALL.true
 
-returns-3 : tie.Need-returns-3 invariant-loop decreases-loop
-returns-3 c =
+returns-then-all-eq-ALL : tie.Need-returns-then-all-eq-ALL invariant-loop-i decreases-loop-i
+returns-then-all-eq-ALL c =
     let two = c.before in
     let one = two.before in
-    told (kept one.before.before.before) (blank one) two.if2.false (λ z. omega arith) (λ _. c.if3.true)
+    told (kept one.before.before.before) (blank one) two.if-any-ne-ALL.false (λ z. omega arith) (λ _. c.if-all-eq-ALL.true)
 
-returns-4 : tie.Need-returns-4 invariant-loop decreases-loop
-returns-4 c =
+returns : tie.Need-returns invariant-loop-i decreases-loop-i
+returns c =
     let two = c.before in
     let one = two.before in
-    told (kept one.before.before.before) (blank one) two.if2.false (λ z. omega arith) (λ e. omega arith)
+    told (kept one.before.before.before) (blank one) two.if-any-ne-ALL.false (λ z. omega arith) (λ e. omega arith)
 
-pub fields-told-spec : {M : Type 1} → statement M
-fields-told-spec =
+pub fields_told_spec : {M : Type 1} → statement M
+fields_told_spec =
     tie.close
     (tie.spec
-    invariant-loop
-    decreases-loop
-    loop-holds
-    mul-gather
-    add-gather
-    slice-aggregate-gather
+    invariant-loop-i
+    decreases-loop-i
+    loop-i-init
+    overflow_mul-i
+    overflow_add-i
+    slice_bounds-gather-end
     gather-requires
-    tail-requires
-    add-i
-    loop-less
-    loop-again
-    slice-aggregate-is-blank-field
-    is-blank-field-requires
-    returns
-    returns-2
-    returns-3
-    returns-4)
+    tail-row-requires
+    overflow_add-i-in-loop-i
+    loop-i-smaller
+    loop-i-preserved
+    slice_bounds-is_blank_field-end
+    is_blank_field-requires
+    returns-then-not-is_blank_field
+    returns-then-any-ne-ALL
+    returns-then-all-eq-ALL
+    returns)

@@ -6,73 +6,72 @@ use Rattle.check_presences.proofs.CountLaws.{ones_four}
 use Rattle.check_presences.proofs.four.Statement.{statement}
 use Rattle.check_presences.proofs.four.Tie as tie
 
-mul-result : tie.Need-overflow-mul-result
-mul-result c = search rules
+offset_bounds-held-t : tie.Need-offset_bounds-held-t
+offset_bounds-held-t c = search rules
 
-shared-slice-read-result : tie.Need-shared-slice-read-result
-shared-slice-read-result c = search rules
+bounds-held-t : tie.Need-bounds-held-t
+bounds-held-t c = search rules
 
-cast-result : tie.Need-overflow-cast-result
-cast-result c = omega (arith, c.shared-slice-known.given c.before.args.t)
+overflow_cast-result : tie.Need-overflow_cast-result
+overflow_cast-result c = omega (arith, c.shared_slice_known-1.given c.args.t)
 
-add-result : tie.Need-overflow-add-result
-add-result c = search rules
+overflow_add-result : tie.Need-overflow_add-result
+overflow_add-result c = search rules
 
-mul-result-2 : tie.Need-overflow-mul-result-2
-mul-result-2 c = search rules
+offset_bounds-held-t-2 : tie.Need-offset_bounds-held-t-2
+offset_bounds-held-t-2 c = search rules
 
-shared-slice-read-result-2 : tie.Need-shared-slice-read-result-2
-shared-slice-read-result-2 c = search rules
+bounds-held-t-2 : tie.Need-bounds-held-t-2
+bounds-held-t-2 c = search rules
 
-cast-result-2 : tie.Need-overflow-cast-result-2
-cast-result-2 c = omega (arith, c.shared-slice-known2.given (c.before.before.args.t + 1))
+overflow_cast-result-2 : tie.Need-overflow_cast-result-2
+overflow_cast-result-2 c = omega (arith, c.shared_slice_known-2-1.given (c.args.t + 1))
 
-add-result-2 : tie.Need-overflow-add-result-2
-add-result-2 c = search rules
+overflow_add-result-2 : tie.Need-overflow_add-result-2
+overflow_add-result-2 c = search rules
 
-mul-result-3 : tie.Need-overflow-mul-result-3
-mul-result-3 c = search rules
+offset_bounds-held-t-3 : tie.Need-offset_bounds-held-t-3
+offset_bounds-held-t-3 c = search rules
 
-shared-slice-read-result-3 : tie.Need-shared-slice-read-result-3
-shared-slice-read-result-3 c = search rules
+bounds-held-t-3 : tie.Need-bounds-held-t-3
+bounds-held-t-3 c = search rules
 
-cast-result-3 : tie.Need-overflow-cast-result-3
-cast-result-3 c = omega (arith, c.shared-slice-known3.given (c.before.before.before.args.t + 2))
+overflow_cast-result-3 : tie.Need-overflow_cast-result-3
+overflow_cast-result-3 c = omega (arith, c.shared_slice_known-3-1.given (c.args.t + 2))
 
-add-result-3 : tie.Need-overflow-add-result-3
-add-result-3 c = search rules
+overflow_add-result-3 : tie.Need-overflow_add-result-3
+overflow_add-result-3 c = search rules
 
-mul-result-4 : tie.Need-overflow-mul-result-4
-mul-result-4 c = search rules
+offset_bounds-held-t-4 : tie.Need-offset_bounds-held-t-4
+offset_bounds-held-t-4 c = search rules
 
-shared-slice-read-result-4 : tie.Need-shared-slice-read-result-4
-shared-slice-read-result-4 c = search rules
+bounds-held-t-4 : tie.Need-bounds-held-t-4
+bounds-held-t-4 c = search rules
 
-cast-result-4 : tie.Need-overflow-cast-result-4
-cast-result-4 c = omega (arith, c.shared-slice-known4.given (c.before.before.before.before.args.t + 3))
+overflow_cast-result-4 : tie.Need-overflow_cast-result-4
+overflow_cast-result-4 c = omega (arith, c.shared_slice_known-4-1.given (c.args.t + 3))
 
 returns : tie.Need-returns
 returns c =
-    let start = c.before.before.before.before in
-    ones_four start.args.held.now start.args.t (λ j. (c.shared-slice-known4.given j).fits) start.requires
+    ones_four c.args.held.now c.args.t (λ j. (c.shared_slice_known-4-1.given j).fits) c.requires
 
-pub four-spec : {M : Type 1} → statement M
-four-spec =
+pub four_spec : {M : Type 1} → statement M
+four_spec =
     tie.close
     (tie.spec
-    mul-result
-    shared-slice-read-result
-    cast-result
-    add-result
-    mul-result-2
-    shared-slice-read-result-2
-    cast-result-2
-    add-result-2
-    mul-result-3
-    shared-slice-read-result-3
-    cast-result-3
-    add-result-3
-    mul-result-4
-    shared-slice-read-result-4
-    cast-result-4
+    offset_bounds-held-t
+    bounds-held-t
+    overflow_cast-result
+    overflow_add-result
+    offset_bounds-held-t-2
+    bounds-held-t-2
+    overflow_cast-result-2
+    overflow_add-result-2
+    offset_bounds-held-t-3
+    bounds-held-t-3
+    overflow_cast-result-3
+    overflow_add-result-3
+    offset_bounds-held-t-4
+    bounds-held-t-4
+    overflow_cast-result-4
     returns)

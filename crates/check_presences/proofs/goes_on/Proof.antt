@@ -12,41 +12,38 @@ byte-requires c κs = search rules
 byte-requires-2 : tie.Need-byte-requires-2
 byte-requires-2 c κs = search rules
 
+returns-then-byte : tie.Need-returns-then-byte
+returns-then-byte c = λ e. absurd (false≢true e)
+
+overflow_add-was : tie.Need-overflow_add-was
+overflow_add-was c = search rules
+
+overflow_add-at : tie.Need-overflow_add-at
+overflow_add-at c = search rules
+
+are_eight_same-requires : tie.Need-are_eight_same-requires
+are_eight_same-requires c κs = search rules
+
+returns-then-not-are_eight_same : tie.Need-returns-then-not-are_eight_same
+returns-then-not-are_eight_same c = λ e. absurd (false≢true e)
+
 returns : tie.Need-returns
-returns c = λ e. absurd (false≢true e)
-
-add-are-eight-same : tie.Need-overflow-add-are-eight-same
-add-are-eight-same c = search rules
-
-add-are-eight-same-2 : tie.Need-overflow-add-are-eight-same-2
-add-are-eight-same-2 c = search rules
-
-are-eight-same-requires : tie.Need-are-eight-same-requires
-are-eight-same-requires c κs = search rules
-
-returns-2 : tie.Need-returns-2
-returns-2 c = λ e. absurd (false≢true e)
-
-returns-3 : tie.Need-returns-3
-returns-3 c = λ e.
-    let two = c.before in
-    let same = two.before in
-    let one = same.before in
-    let x = one.before.before.before.before.args in record {
-      sds = sym one.before.before.byte.ensures.is ∙ one.if1.false ∙ one.before.byte2.ensures.is;
-      first = same.are-eight-same.ensures (not-false _ two.if2.false);
+returns c = λ e.
+    let x = c.args in record {
+      sds = sym c.byte.ensures.is ∙ c.if-byte.false ∙ c.byte-2.ensures.is;
+      first = c.are_eight_same.ensures (not-false _ c.if-not-are_eight_same.false-raw);
       above = ltb-true x.floor.second x.second e;
     }
 
-pub goes-on-spec : {M : Type 1} → statement M
-goes-on-spec =
+pub goes_on_spec : {M : Type 1} → statement M
+goes_on_spec =
     tie.close
     (tie.spec
     byte-requires
     byte-requires-2
-    returns
-    add-are-eight-same
-    add-are-eight-same-2
-    are-eight-same-requires
-    returns-2
-    returns-3)
+    returns-then-byte
+    overflow_add-was
+    overflow_add-at
+    are_eight_same-requires
+    returns-then-not-are_eight_same
+    returns)

@@ -21,184 +21,181 @@ use Rattle.check_presences.proofs.PassedLaws.{Passed, rows_refused, passed_first
 use Rattle.check_presences.proofs.rows_fine.Statement.{statement}
 use Rattle.check_presences.proofs.rows_fine.Tie as tie
 
-abbrev invariant-loop : tie.invariant-loop
-invariant-loop base n held₀ floor₀ at₀ last₀ held floor at last = (last + 1 ≤ n) × ((at ≡ presence_at last + 20) × Passed base last floor held)
+abbrev invariant-loop-last : tie.invariant-loop-last
+invariant-loop-last base n held₀ floor₀ at₀ last₀ held floor at last = (last + 1 ≤ n) × ((at ≡ presence_at last + 20) × Passed base last floor held)
 
-abbrev decreases-loop : tie.decreases-loop
-decreases-loop base n held₀ floor₀ at₀ last₀ held floor at last = n - last
+abbrev decreases-loop-last : tie.decreases-loop-last
+decreases-loop-last base n held₀ floor₀ at₀ last₀ held floor at last = n - last
 
-abbrev start : tie.At-loop invariant-loop decreases-loop → tie.Start invariant-loop decreases-loop
+abbrev start : tie.At-loop-last invariant-loop-last decreases-loop-last → tie.Start invariant-loop-last decreases-loop-last
 start c = c.before.before.before.before.before
 
 -- from where the type was read to where the row was passed
-abbrev passed : tie.After-presence-type invariant-loop decreases-loop → tie.After-passed invariant-loop decreases-loop
+abbrev passed : tie.After-presence_type-t invariant-loop-last decreases-loop-last → tie.After-passed-floor invariant-loop-last decreases-loop-last
 passed c = c.before.before.before
 
-abbrev at : tie.After-passed invariant-loop decreases-loop → tie.At-loop invariant-loop decreases-loop
+abbrev at : tie.After-passed-floor invariant-loop-last decreases-loop-last → tie.At-loop-last invariant-loop-last decreases-loop-last
 at c = c.before.before
 
 -- the next row has made what it has passed
-made : (c : tie.After-presence-type invariant-loop decreases-loop) → let row = passed c in
-    Last (start (at row)).args.base.now ((at row).loop.last + 1) row.passed.result
-made c = (passed c).passed.ensures.made c.before.if2.false
+made : (c : tie.After-presence_type-t invariant-loop-last decreases-loop-last) → let row = passed c in
+    Last (start (at row)).args.base.now ((at row).loop-last.last + 1) row.passed-floor.result
+made c = (passed c).passed-floor.ensures.made c.if-floor-eq0.false
 
 -- its type and its SDS have their places
-places : (c : tie.After-presence-type invariant-loop decreases-loop) → let here = at (passed c) in
-    (c.presence_type.result < 128) × (get_or (start here).args.base.now (presence_at (here.loop.last + 1)) 0 < 16)
+places : (c : tie.After-presence_type-t invariant-loop-last decreases-loop-last) → let here = at (passed c) in
+    (c.presence_type-t.result < 128) × (get_or (start here).args.base.now (presence_at (here.loop-last.last + 1)) 0 < 16)
 places c =
     let row = passed c in
     let x = start (at row) in
-    let fine = x.pre.1.1.0 ((at row).loop.last + 1) row.before.loop-test.taken in
-    (omega (arith, c.presence_type.ensures.is, fine.small), used_below x.args.base.now x.pre.0.0 _ (made c).bit.used)
+    let fine = x.requires.1.1.0 ((at row).loop-last.last + 1) row.loop-last-test.true in
+    (omega (arith, c.presence_type-t.ensures.is, fine.small), used_below x.args.base.now x.requires.0.0 _ (made c).bit.used)
 
 -- there are as many words as before
-room : (c : tie.At-loop invariant-loop decreases-loop) → length c.loop.held ≡ length (start c).args.held.now
-room c = gathers_room c.loop.invariant.1.1.gathers _ (start c).requires.1.1.1
+room : (c : tie.At-loop-last invariant-loop-last decreases-loop-last) → length c.loop-last.held ≡ length (start c).args.held.now
+room c = gathers_room c.loop-last.invariant.1.1.gathers _ (start c).requires.1.1.1
 
-slice-write-held : tie.Need-slice-write-held invariant-loop decreases-loop
-slice-write-held c = let x = c.before.before in omega (arith, zeros_room limits.types x.requires.1.1.1)
+bounds-held-0 : tie.Need-bounds-held-0 invariant-loop-last decreases-loop-last
+bounds-held-0 c = omega (arith, zeros_room limits.types c.requires.1.1.1)
 
-same_length : tie.Need-same-length invariant-loop decreases-loop
-same_length c = search rules
+shape_of-held-then-n-eq1 : tie.Need-shape_of-held-then-n-eq1 invariant-loop-last decreases-loop-last
+shape_of-held-then-n-eq1 c = search rules
 
-returns : tie.Need-returns invariant-loop decreases-loop
-returns c =
-    let x = c.before.before.before in
-    first_all x.args.held.now x.requires.1.0.0 x.requires.1.0.1 x.requires.1.1.1 c.if1.true
+returns-then-n-eq1 : tie.Need-returns-then-n-eq1 invariant-loop-last decreases-loop-last
+returns-then-n-eq1 c =
+    first_all c.args.held.now c.requires.1.0.0 c.requires.1.0.1 c.requires.1.1.1 c.if-n-eq1.true
 
-presence-key-requires : tie.Need-presence-key-requires invariant-loop decreases-loop
-presence-key-requires c κs =
-    let x = c.before.before.before in
-    let b = x.args.base.now in
-    let below = x.requires.1.0.0.some in
-    ((x.requires.0.0, omega arith), field_low b 0 x.requires.0.0 (omega arith) (x.requires.1.1.0 0 below).field)
+presence_key-key-requires : tie.Need-presence_key-key-requires invariant-loop-last decreases-loop-last
+presence_key-key-requires c κs =
+    let b = c.args.base.now in
+    let below = c.requires.1.0.0.some in
+    ((c.requires.0.0, omega arith), field_low b 0 c.requires.0.0 (omega arith) (c.requires.1.1.0 0 below).field)
 
-add_at : tie.Need-overflow-add-at invariant-loop decreases-loop
-add_at c = search rules
+overflow_add-at : tie.Need-overflow_add-at invariant-loop-last decreases-loop-last
+overflow_add-at c = search rules
 
-loop-holds : tie.Need-loop-init invariant-loop decreases-loop
-loop-holds c =
-    let x = c.before.before.before.before in
-    let first = x.requires.1.0.0 in (
+loop-last-init : tie.Need-loop-last-init invariant-loop-last decreases-loop-last
+loop-last-init c =
+    let first = c.requires.1.0.0 in (
       omega (arith, first.some),
       (
         refl,
-        passed_first _ first x.requires.1.0.1 x.requires.1.1.1
-            (first_made first x.requires.1.0.1 refl c.presence-key.ensures.first c.presence-key.ensures.second),
+        passed_first _ first c.requires.1.0.1 c.requires.1.1.1
+            (first_made first c.requires.1.0.1 refl c.presence_key-key.ensures.first c.presence_key-key.ensures.second),
       ),
     )
 
-add-loop : tie.Need-overflow-add-loop invariant-loop decreases-loop
-add-loop c = search rules
+overflow_add-last : tie.Need-overflow_add-last invariant-loop-last decreases-loop-last
+overflow_add-last c = search rules
 
-add-i : tie.Need-overflow-add-i invariant-loop decreases-loop
-add-i c = search rules
+overflow_add-i : tie.Need-overflow_add-i invariant-loop-last decreases-loop-last
+overflow_add-i c = search rules
 
-passed-requires : tie.Need-passed-requires invariant-loop decreases-loop
-passed-requires c κs =
+passed-floor-requires : tie.Need-passed-floor-requires invariant-loop-last decreases-loop-last
+passed-floor-requires c κs =
     let here = c.before in
     let x = start here in
-    let fine = x.pre.1.1.0 in (
-      (x.pre.0.0, (omega (arith, x.pre.0.1), omega (arith, x.pre.0.1, c.loop-test.true))),
+    let fine = x.requires.1.1.0 in (
+      (x.requires.0.0, (omega (arith, x.requires.0.1), omega (arith, x.requires.0.1, c.loop-last-test.true))),
       (
-        (omega (arith, here.loop.invariant.1.0), here.loop.invariant.1.0),
-        (((fine here.loop.last (omega arith)).field, (fine (here.loop.last + 1) c.loop-test.true).field), here.loop.invariant.1.1.last),
+        (omega (arith, here.loop-last.invariant.1.0), here.loop-last.invariant.1.0),
+        (((fine here.loop-last.last (omega arith)).field, (fine (here.loop-last.last + 1) c.loop-last-test.true).field), here.loop-last.invariant.1.1.last),
       ),
     )
 
-same-length-2 : tie.Need-same-length-2 invariant-loop decreases-loop
-same-length-2 c = room (at c.before.before)
+shape_of-held-then-floor-eq0 : tie.Need-shape_of-held-then-floor-eq0 invariant-loop-last decreases-loop-last
+shape_of-held-then-floor-eq0 c = room (at c.before.before)
 
-returns-2 : tie.Need-returns-2 invariant-loop decreases-loop
-returns-2 c =
+returns-then-floor-eq0 : tie.Need-returns-then-floor-eq0 invariant-loop-last decreases-loop-last
+returns-then-floor-eq0 c =
     let row = c.before.before in
-    rows_refused (λ f. row.passed.ensures.none c.if2.true (fine_follows (at row).loop.last row.before.loop-test.true f))
+    rows_refused (λ f. row.passed-floor.ensures.none c.if-floor-eq0.true (fine_follows (at row).loop-last.last row.loop-last-test.true f))
 
-presence-type-requires : tie.Need-presence-type-requires invariant-loop decreases-loop
-presence-type-requires c κs = search rules
+presence_type-t-requires : tie.Need-presence_type-t-requires invariant-loop-last decreases-loop-last
+presence_type-t-requires c κs = search rules
 
-mul-sdss : tie.Need-overflow-mul-sdss invariant-loop decreases-loop
-mul-sdss c = omega (arith, places c)
+offset_bounds-held-t : tie.Need-offset_bounds-held-t invariant-loop-last decreases-loop-last
+offset_bounds-held-t c = omega (arith, places c)
 
-slice-read-sdss : tie.Need-slice-read-sdss invariant-loop decreases-loop
-slice-read-sdss c = omega (arith, places c.before, (at (passed c.before)).loop.inv.1.1.gathers.room)
+bounds-held-t : tie.Need-bounds-held-t invariant-loop-last decreases-loop-last
+bounds-held-t c = omega (arith, places c.before, (at (passed c.before)).loop-last.invariant.1.1.gathers.room)
 
-mul-held : tie.Need-overflow-mul-held invariant-loop decreases-loop
-mul-held c = omega (arith, places c.before.before)
+offset_bounds-held-t-in-loop-last : tie.Need-offset_bounds-held-t-in-loop-last invariant-loop-last decreases-loop-last
+offset_bounds-held-t-in-loop-last c = omega (arith, places c.before.before)
 
-slice-write-held-2 : tie.Need-slice-write-held-2 invariant-loop decreases-loop
-slice-write-held-2 c = omega (arith, places c.before.before, (at (passed c.before.before)).loop.inv.1.1.gathers.room)
+bounds-held-t-in-loop-last : tie.Need-bounds-held-t-in-loop-last invariant-loop-last decreases-loop-last
+bounds-held-t-in-loop-last c = omega (arith, places c.before.before, (at (passed c.before.before)).loop-last.invariant.1.1.gathers.room)
 
-add-at-2 : tie.Need-overflow-add-at-2 invariant-loop decreases-loop
-add-at-2 c = omega (arith, (at (passed c.before.before)).loop.inv)
+overflow_add-at-in-loop-last : tie.Need-overflow_add-at-in-loop-last invariant-loop-last decreases-loop-last
+overflow_add-at-in-loop-last c = omega (arith, (at (passed c.before.before)).loop-last.invariant)
 
-loop-less : tie.Need-loop-smaller invariant-loop decreases-loop
-loop-less c = search rules
+loop-last-smaller : tie.Need-loop-last-smaller invariant-loop-last decreases-loop-last
+loop-last-smaller c = search rules
 
-loop-again : tie.Need-loop-preserved invariant-loop decreases-loop
-loop-again c =
+loop-last-preserved : tie.Need-loop-last-preserved invariant-loop-last decreases-loop-last
+loop-last-preserved c =
     let type = c.before.before in
     let row = passed type in
     let here = at row in
     let x = start here in
     let b = x.args.base.now in
-    let k = here.loop.last in
-    let held = here.loop.held in
-    let t = type.presence_type.result in
-    let floor = row.passed.result in
+    let k = here.loop-last.last in
+    let held = here.loop-last.held in
+    let t = type.presence_type-t.result in
+    let floor = row.passed-floor.result in
     let made = made type in (
-      omega (arith, row.before.loop-test.taken),
+      omega (arith, row.loop-last-test.true),
       (
-        omega (arith, here.loop.inv.1.0),
+        omega (arith, here.loop-last.invariant.1.0),
         subst (λ (w : ℕ). Passed b (k + 1) floor (set held t (bit_or (get_or held t 0) w))) (sym made.bit.is)
-            (passed_more here.loop.inv.1.1 (row.passed.ensures.follows type.before.if2.false) made
-            (x.pre.1.1.0 (k + 1) row.before.loop-test.taken) t (get_or b (presence_at (k + 1)) 0) type.presence_type.ensures.is refl (places type).1),
+            (passed_more here.loop-last.invariant.1.1 (row.passed-floor.ensures.follows type.if-floor-eq0.false) made
+            (x.requires.1.1.0 (k + 1) row.loop-last-test.true) t (get_or b (presence_at (k + 1)) 0) type.presence_type-t.ensures.is refl (places type).1),
       ),
     )
 
-bits-in-requires : tie.Need-bits-in-requires invariant-loop decreases-loop
-bits-in-requires c κs = c.before.before.loop.invariant.1.1.gathers.room
+bits_in-requires : tie.Need-bits_in-requires invariant-loop-last decreases-loop-last
+bits_in-requires c κs = c.loop-last.invariant.1.1.gathers.room
 
-same-length-3 : tie.Need-same-length-3 invariant-loop decreases-loop
-same-length-3 c = room c.before.before.before
+shape_of-held : tie.Need-shape_of-held invariant-loop-last decreases-loop-last
+shape_of-held c = room c.before.before
 
-returns-3 : tie.Need-returns-3 invariant-loop decreases-loop
-returns-3 c =
-    let here = c.before.before.before in
+returns : tie.Need-returns invariant-loop-last decreases-loop-last
+returns c =
+    let here = c.before.before in
     let x = (start here).args in
-    let all : x.n ≡ here.loop.last + 1 = omega (arith, c.before.before.loop-test.false) in
+    let all : x.n ≡ here.loop-last.last + 1 = omega (arith, c.loop-last-test.false) in
     told all (eqb c.bits_in.result x.n) refl
   where
-    told : let here = c.before.before.before in let x = (start here).args in
-        x.n ≡ here.loop.last + 1 → (r : Bool) → eqb c.bits_in.result x.n ≡ r → RowsGathered x.base.now x.n here.loop.held r
-    told all true e = passed_all c.before.before.before.loop.invariant.1.1 all (sym c.bits_in.ensures ∙ eqb-true c.bits_in.result _ e)
-    told all false e = passed_twice c.before.before.before.loop.invariant.1.1 all (λ z. eqb-false c.bits_in.result _ e (c.bits_in.ensures ∙ z))
+    told : let here = c.before.before in let x = (start here).args in
+        x.n ≡ here.loop-last.last + 1 → (r : Bool) → eqb c.bits_in.result x.n ≡ r → RowsGathered x.base.now x.n here.loop-last.held r
+    told all true e = passed_all c.loop-last.invariant.1.1 all (sym c.bits_in.ensures ∙ eqb-true c.bits_in.result _ e)
+    told all false e = passed_twice c.loop-last.invariant.1.1 all (λ z. eqb-false c.bits_in.result _ e (c.bits_in.ensures ∙ z))
 
-pub rows-fine-spec : {M : Type 1} → statement M
-rows-fine-spec =
+pub rows_fine_spec : {M : Type 1} → statement M
+rows_fine_spec =
     tie.close
     (tie.spec
-    invariant-loop
-    decreases-loop
-    slice-write-held
-    same_length
-    returns
-    presence-key-requires
-    add_at
-    loop-holds
-    add-loop
-    add-i
-    passed-requires
-    same-length-2
-    returns-2
-    presence-type-requires
-    mul-sdss
-    slice-read-sdss
-    mul-held
-    slice-write-held-2
-    add-at-2
-    loop-less
-    loop-again
-    bits-in-requires
-    same-length-3
-    returns-3)
+    invariant-loop-last
+    decreases-loop-last
+    bounds-held-0
+    shape_of-held-then-n-eq1
+    returns-then-n-eq1
+    presence_key-key-requires
+    overflow_add-at
+    loop-last-init
+    overflow_add-last
+    overflow_add-i
+    passed-floor-requires
+    shape_of-held-then-floor-eq0
+    returns-then-floor-eq0
+    presence_type-t-requires
+    offset_bounds-held-t
+    bounds-held-t
+    offset_bounds-held-t-in-loop-last
+    bounds-held-t-in-loop-last
+    overflow_add-at-in-loop-last
+    loop-last-smaller
+    loop-last-preserved
+    bits_in-requires
+    shape_of-held
+    returns)

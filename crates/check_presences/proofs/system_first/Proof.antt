@@ -14,100 +14,96 @@ use Rattle.check_presences.proofs.RowLaws.{object_field, field_object}
 use Rattle.check_presences.proofs.system_first.Statement.{statement}
 use Rattle.check_presences.proofs.system_first.Tie as tie
 
-returns : tie.Need-returns
-returns c = decides_no (λ q. omega (arith, q.some, c.if1.true))
+returns-then-n-eq0 : tie.Need-returns-then-n-eq0
+returns-then-n-eq0 c = decides_no (λ q. omega (arith, q.some, c.if-n-eq0.true))
 
-presence-sds-requires : tie.Need-presence-sds-requires
-presence-sds-requires c κs = search rules
+presence_sds-requires : tie.Need-presence_sds-requires
+presence_sds-requires c κs = search rules
 
-returns-2 : tie.Need-returns-2
-returns-2 c = decides_no (λ q. c.if2.true (c.before.presence_sds.ensures.is ∙ q.sds))
+returns-then-presence_sds-ne0 : tie.Need-returns-then-presence_sds-ne0
+returns-then-presence_sds-ne0 c = decides_no (λ q. c.if-presence_sds-ne0.true (c.presence_sds.ensures.is ∙ q.sds))
 
-presence-type-requires : tie.Need-presence-type-requires
-presence-type-requires c κs = search rules
+presence_type-requires : tie.Need-presence_type-requires
+presence_type-requires c κs = search rules
 
-returns-3 : tie.Need-returns-3
-returns-3 c = decides_no (λ q. c.if3.true (c.before.presence_type.ensures.is ∙ q.type))
+returns-then-presence_type-ne0 : tie.Need-returns-then-presence_type-ne0
+returns-then-presence_type-ne0 c = decides_no (λ q. c.if-presence_type-ne0.true (c.presence_type.ensures.is ∙ q.type))
 
-presence-field-requires : tie.Need-presence-field-requires
-presence-field-requires c κs = search rules
+presence_field-requires : tie.Need-presence_field-requires
+presence_field-requires c κs = search rules
 
-slice-aggregate-is-equal : tie.Need-slice-aggregate-is-equal
-slice-aggregate-is-equal c = search rules
+is_equal-requires : tie.Need-is_equal-requires
+is_equal-requires c κs = search rules
 
-is-equal-requires : tie.Need-is-equal-requires
-is-equal-requires c κs = search rules
+returns-then-not-is_equal : tie.Need-returns-then-not-is_equal
+returns-then-not-is_equal c =
+    decides_no (λ q. true≢false (sym (object_field c.presence_field.result.now
+    (c.presence_field.ensures ∙ q.name)) ∙ sym c.is_equal.ensures ∙ not-true _ c.if-not-is_equal.true-raw))
 
-returns-4 : tie.Need-returns-4
-returns-4 c =
-    decides_no (λ q. true≢false (sym (object_field c.before.before.before.presence-field.result.now
-    (c.before.before.before.presence-field.ensures ∙ q.name)) ∙ sym c.before.is-equal.ensures ∙ not-true _ c.if4.true))
+presence_usage-requires : tie.Need-presence_usage-requires
+presence_usage-requires c κs = search rules
 
-presence-usage-requires : tie.Need-presence-usage-requires
-presence-usage-requires c κs = search rules
+returns-then-presence_usage-ne-ALL_MODES : tie.Need-returns-then-presence_usage-ne-ALL_MODES
+returns-then-presence_usage-ne-ALL_MODES c = decides_no (λ q. c.if-presence_usage-ne-ALL_MODES.true (c.presence_usage.ensures.is ∙ q.usage))
 
-returns-5 : tie.Need-returns-5
-returns-5 c = decides_no (λ q. c.if5.true (c.before.presence-usage.ensures.is ∙ q.usage))
+presence_definition-requires : tie.Need-presence_definition-requires
+presence_definition-requires c κs = search rules
 
-presence-definition-requires : tie.Need-presence-definition-requires
-presence-definition-requires c κs = search rules
-
-returns-6 : tie.Need-returns-6
-returns-6 c = decides_no (λ q. c.if6.true (c.before.presence-definition.ensures.is ∙ q.definition))
+returns-then-presence_definition-ne-ALL_MODES : tie.Need-returns-then-presence_definition-ne-ALL_MODES
+returns-then-presence_definition-ne-ALL_MODES c = decides_no (λ q. c.if-presence_definition-ne-ALL_MODES.true (c.presence_definition.ensures.is ∙ q.definition))
 
 -- from where the modes are all five to where the name is found, and from there to the start
-abbrev to_name : tie.Else6 → tie.Else4
+abbrev to_name : tie.Else-presence_definition-ne-ALL_MODES → tie.Else-not-is_equal
 to_name c = c.before.before.before.before
 
-abbrev to_start : tie.Else4 → tie.Start
-to_start c = c.before.before.before.before.before.before.before.before.before.before
+abbrev to_start : tie.Else-not-is_equal → tie.Start
+to_start c = c.before.before.before.before.before.before.before.before.before.before.before
 
 -- row 0 is that of a fresh base, whatever row 1 is
-row_0 : (c : tie.Else6) → let x = to_start (to_name c) in (1 < x.args.n → get_or x.args.base.now (presence_at 1) 0 ≡ 0 → ⊥)
+row_0 : (c : tie.Else-presence_definition-ne-ALL_MODES) → let x = to_start (to_name c) in (1 < x.args.n → get_or x.args.base.now (presence_at 1) 0 ≡ 0 → ⊥)
     → SystemFirst x.args.base.now x.args.n
 row_0 c next =
     let n = to_name c in
-    let t = n.before.before.before.before in record {
-      some = omega (arith, t.before.before.before.before.if1.left);
-      sds = sym t.before.before.before.presence_sds.ensures.is ∙ t.before.before.if2.left;
-      type = sym t.before.presence_type.ensures.is ∙ t.if3.left;
-      name = sym n.before.before.before.presence-field.ensures
-          ∙ field_object n.before.before.before.presence-field.result.now (sym n.before.is-equal.ensures ∙ not-false _ n.if4.left);
-      usage = sym c.before.before.before.presence-usage.ensures.is ∙ c.before.before.if5.false;
-      definition = sym c.before.presence-definition.ensures.is ∙ c.if6.false;
+    record {
+      some = omega (arith, n.if-n-eq0.false);
+      sds = sym n.presence_sds.ensures.is ∙ n.if-presence_sds-ne0.false;
+      type = sym n.presence_type.ensures.is ∙ n.if-presence_type-ne0.false;
+      name = sym n.presence_field.ensures
+          ∙ field_object n.presence_field.result.now (sym n.is_equal.ensures ∙ not-false _ n.if-not-is_equal.false-raw);
+      usage = sym c.presence_usage.ensures.is ∙ c.if-presence_usage-ne-ALL_MODES.false;
+      definition = sym c.presence_definition.ensures.is ∙ c.if-presence_definition-ne-ALL_MODES.false;
       next = next;
     }
 
-returns-7 : tie.Need-returns-7
-returns-7 c = decides_yes (row_0 c.before (λ h. absurd (omega (arith, c.if7.true))))
+returns-then-n-eq1 : tie.Need-returns-then-n-eq1
+returns-then-n-eq1 c = decides_yes (row_0 c.before (λ h. absurd (omega (arith, c.if-n-eq1.true))))
 
-presence-sds-requires-2 : tie.Need-presence-sds-requires-2
-presence-sds-requires-2 c κs = search rules
+presence_sds-requires-2 : tie.Need-presence_sds-requires-2
+presence_sds-requires-2 c κs = search rules
 
-returns-8 : tie.Need-returns-8
-returns-8 c =
-    let is = c.presence-sds2.ensures.is in record {
-      holds = λ e. row_0 c.before.before (λ h z. eqb-false c.presence-sds2.result 0 (not-true _ e) (is ∙ z));
-      fails = λ e q. q.next (omega (arith, c.before.if7.false, q.some)) (sym is ∙ eqb-true c.presence-sds2.result 0 (not-false _ e));
+returns : tie.Need-returns
+returns c =
+    let is = c.presence_sds-2.ensures.is in record {
+      holds = λ e. row_0 c.before.before (λ h z. eqb-false c.presence_sds-2.result 0 (not-true _ e) (is ∙ z));
+      fails = λ e q. q.next (omega (arith, c.if-n-eq1.false, q.some)) (sym is ∙ eqb-true c.presence_sds-2.result 0 (not-false _ e));
     }
 
-pub system-first-spec : {M : Type 1} → statement M
-system-first-spec =
+pub system_first_spec : {M : Type 1} → statement M
+system_first_spec =
     tie.close
     (tie.spec
-    returns
-    presence-sds-requires
-    returns-2
-    presence-type-requires
-    returns-3
-    presence-field-requires
-    slice-aggregate-is-equal
-    is-equal-requires
-    returns-4
-    presence-usage-requires
-    returns-5
-    presence-definition-requires
-    returns-6
-    returns-7
-    presence-sds-requires-2
-    returns-8)
+    returns-then-n-eq0
+    presence_sds-requires
+    returns-then-presence_sds-ne0
+    presence_type-requires
+    returns-then-presence_type-ne0
+    presence_field-requires
+    is_equal-requires
+    returns-then-not-is_equal
+    presence_usage-requires
+    returns-then-presence_usage-ne-ALL_MODES
+    presence_definition-requires
+    returns-then-presence_definition-ne-ALL_MODES
+    returns-then-n-eq1
+    presence_sds-requires-2
+    returns)

@@ -8,40 +8,38 @@ use Rattle.check_sdss.proofs.are_same.Tie as tie
 
 folded-requires : tie.Need-folded-requires
 folded-requires c κs =
-    let a = c.before.before.requires.0 in
+    let a = c.requires.0 in
     (omega (arith, a.long), low_part _ 0 8 a.each (omega (arith, a.long)))
 
 folded-requires-2 : tie.Need-folded-requires-2
 folded-requires-2 c κs =
-    let b = c.before.before.before.requires.1 in
+    let b = c.requires.1 in
     (omega (arith, b.long), low_part _ 0 8 b.each (omega (arith, b.long)))
 
-returns : tie.Need-returns
-returns c =
-    let x = c.before.before.before.before.before in
-    let a_small = c.before.before.before.before.shared-slice-known.given in
-    let b-small = c.before.before.before.shared-slice-known2.given in
-    sym (first_half_other x.requires.0 x.requires.1 (λ j. (a_small j).fits) (λ j. (b-small j).fits)
-    (λ e. c.if1.true (c.before.before.folded.ensures ∙ e ∙ sym c.before.folded2.ensures)))
+returns-then-folded : tie.Need-returns-then-folded
+returns-then-folded c =
+    let a_small = c.shared_slice_known-1.given in
+    let b-small = c.shared_slice_known-2-1.given in
+    sym (first_half_other c.requires.0 c.requires.1 (λ j. (a_small j).fits) (λ j. (b-small j).fits)
+    (λ e. c.if-folded.true (c.folded.ensures ∙ e ∙ sym c.folded-2.ensures)))
 
 folded-requires-3 : tie.Need-folded-requires-3
 folded-requires-3 c κs =
-    let a = c.before.before.before.before.before.requires.0 in
+    let a = c.requires.0 in
     (omega (arith, a.long), low_part _ 8 8 a.each (omega (arith, a.long)))
 
 folded-requires-4 : tie.Need-folded-requires-4
 folded-requires-4 c κs =
-    let b = c.before.before.before.before.before.before.requires.1 in
+    let b = c.requires.1 in
     (omega (arith, b.long), low_part _ 8 8 b.each (omega (arith, b.long)))
 
-returns-2 : tie.Need-returns-2
-returns-2 c =
-    let x = c.before.before.before.before.before.before.before in
-    let a_small = c.before.before.before.before.before.before.shared-slice-known.given in
-    let b-small = c.before.before.before.before.before.shared-slice-known2.given in
-    ap₂ eqb c.before.folded3.ensures c.folded4.ensures
-    ∙ sym (first_half_same x.requires.0 x.requires.1 (λ j. (a_small j).fits) (λ j. (b-small j).fits)
-    (sym c.before.before.before.before.folded.ensures ∙ c.before.before.if1.false ∙ c.before.before.before.folded2.ensures))
+returns : tie.Need-returns
+returns c =
+    let a_small = c.shared_slice_known-1.given in
+    let b-small = c.shared_slice_known-2-1.given in
+    ap₂ eqb c.folded-3.ensures c.folded-4.ensures
+    ∙ sym (first_half_same c.requires.0 c.requires.1 (λ j. (a_small j).fits) (λ j. (b-small j).fits)
+    (sym c.folded.ensures ∙ c.if-folded.false ∙ c.folded-2.ensures))
 
-pub are-same-spec : {M : Type 1} → statement M
-are-same-spec = tie.close (tie.spec folded-requires folded-requires-2 returns folded-requires-3 folded-requires-4 returns-2)
+pub are_same_spec : {M : Type 1} → statement M
+are_same_spec = tie.close (tie.spec folded-requires folded-requires-2 returns-then-folded folded-requires-3 folded-requires-4 returns)

@@ -5,21 +5,20 @@ use Rattle.check_sdss.proofs.SdsLaws.{unseen_new}
 use Rattle.check_sdss.proofs.is_new.Statement.{statement}
 use Rattle.check_sdss.proofs.is_new.Tie as tie
 
-shr-if1 : tie.Need-overflow-shr-if1
-shr-if1 c = search rules
+overflow_shr-seen : tie.Need-overflow_shr-seen
+overflow_shr-seen c = search rules
+
+returns-then-seen-first-ne1 : tie.Need-returns-then-seen-first-ne1
+returns-then-seen-first-ne1 c =
+    let asked = c.requires.1.1 in
+    decides_yes (unseen_new c.args.base.now c.requires.0.0 (λ j. (c.shared_slice_known-1.given j).fits) c.requires.1.0 c.requires.0.1
+    asked.1.1 asked.0 c.args.first asked.1.0 c.if-seen-first-ne1.true)
+
+unlike_earlier-requires : tie.Need-unlike_earlier-requires
+unlike_earlier-requires c κs = search rules
 
 returns : tie.Need-returns
-returns c =
-    let x = c.before.before in
-    let asked = x.requires.1.1 in
-    decides_yes (unseen_new x.args.base.now x.requires.0.0 (λ j. (c.before.shared-slice-known.given j).fits) x.requires.1.0 x.requires.0.1
-    asked.1.1 asked.0 x.args.first asked.1.0 c.if1.true)
+returns c = search rules
 
-unlike-earlier-requires : tie.Need-unlike-earlier-requires
-unlike-earlier-requires c κs = search rules
-
-returns-2 : tie.Need-returns-2
-returns-2 c = search rules
-
-pub is-new-spec : {M : Type 1} → statement M
-is-new-spec = tie.close (tie.spec shr-if1 returns unlike-earlier-requires returns-2)
+pub is_new_spec : {M : Type 1} → statement M
+is_new_spec = tie.close (tie.spec overflow_shr-seen returns-then-seen-first-ne1 unlike_earlier-requires returns)

@@ -12,41 +12,38 @@ use Rattle.check_sdss.proofs.SdsLaws.{fine_blank, fine_name}
 use Rattle.check_sdss.proofs.sds_field_fine.Statement.{statement}
 use Rattle.check_sdss.proofs.sds_field_fine.Tie as tie
 
-sds-field-requires : tie.Need-sds-field-requires
-sds-field-requires c κs = search rules
+sds_field-requires : tie.Need-sds_field-requires
+sds_field-requires c κs = search rules
 
-is-blank-field-requires : tie.Need-is-blank-field-requires
-is-blank-field-requires c κs = search rules
+is_blank_field-requires : tie.Need-is_blank_field-requires
+is_blank_field-requires c κs = search rules
+
+returns-then-is_blank_field : tie.Need-returns-then-is_blank_field
+returns-then-is_blank_field c =
+    fine_blank (part c.args.base.now (sds_at c.args.d) limits.name) (ap blank_field (sym c.sds_field.ensures) ∙ sym
+    c.is_blank_field.ensures ∙ c.if-is_blank_field.true)
+
+sds_field-requires-2 : tie.Need-sds_field-requires-2
+sds_field-requires-2 c κs = search rules
+
+is_name_field-requires : tie.Need-is_name_field-requires
+is_name_field-requires c κs =
+    ap length c.sds_field-2.ensures ∙ length_part c.args.base.now (sds_at c.args.d) limits.name (omega (arith, c.requires.0))
 
 returns : tie.Need-returns
 returns c =
-    let x = c.before.before.before.before in
-    fine_blank (part x.args.base.now (sds_at x.args.d) limits.name) (ap blank_field (sym c.before.before.sds-field.ensures) ∙ sym
-    c.before.is-blank-field.ensures ∙ c.if1.true)
+    fine_name (part c.args.base.now (sds_at c.args.d) limits.name) c.is_name_field.result
+    (ap blank_field (sym c.sds_field.ensures) ∙ sym c.is_blank_field.ensures
+    ∙ c.if-is_blank_field.false)
+    (c.is_name_field.ensures ∙ ap name_field c.sds_field-2.ensures)
 
-sds-field-requires-2 : tie.Need-sds-field-requires-2
-sds-field-requires-2 c κs = search rules
-
-is-name-field-requires : tie.Need-is-name-field-requires
-is-name-field-requires c κs =
-    let x = c.before.before.before.before.before in
-    ap length c.sds-field2.ensures ∙ length_part x.args.base.now (sds_at x.args.d) limits.name (omega (arith, x.requires.0))
-
-returns-2 : tie.Need-returns-2
-returns-2 c =
-    let x = c.before.before.before.before.before.before in
-    fine_name (part x.args.base.now (sds_at x.args.d) limits.name) c.is-name-field.result
-    (ap blank_field (sym c.before.before.before.before.sds-field.ensures) ∙ sym c.before.before.before.is-blank-field.ensures
-    ∙ c.before.before.if1.false)
-    (c.is-name-field.ensures ∙ ap name_field c.before.sds-field2.ensures)
-
-pub sds-field-fine-spec : {M : Type 1} → statement M
-sds-field-fine-spec =
+pub sds_field_fine_spec : {M : Type 1} → statement M
+sds_field_fine_spec =
     tie.close
     (tie.spec
-    sds-field-requires
-    is-blank-field-requires
-    returns
-    sds-field-requires-2
-    is-name-field-requires
-    returns-2)
+    sds_field-requires
+    is_blank_field-requires
+    returns-then-is_blank_field
+    sds_field-requires-2
+    is_name_field-requires
+    returns)

@@ -11,48 +11,46 @@ use Rattle.check_sdss.specs.Fields.{fine_field}
 use Rattle.check_sdss.proofs.sds_fields_fine.Statement.{statement}
 use Rattle.check_sdss.proofs.sds_fields_fine.Tie as tie
 
-abbrev invariant-loop : tie.invariant-loop
-invariant-loop base d₀ d = (d ≤ 16) × ((k : ℕ) → k < d → fine_field base k ≡ true)
+abbrev invariant-loop-d : tie.invariant-loop-d
+invariant-loop-d base d₀ d = (d ≤ 16) × ((k : ℕ) → k < d → fine_field base k ≡ true)
 
-abbrev decreases-loop : tie.decreases-loop
-decreases-loop base d₀ d = 16 - d
+abbrev decreases-loop-d : tie.decreases-loop-d
+decreases-loop-d base d₀ d = 16 - d
 
-loop-holds : tie.Need-loop-init invariant-loop decreases-loop
-loop-holds c = (omega arith, below_none _)
+loop-d-init : tie.Need-loop-d-init invariant-loop-d decreases-loop-d
+loop-d-init c = (omega arith, below_none _)
 
-sds-field-fine-requires : tie.Need-sds-field-fine-requires invariant-loop decreases-loop
-sds-field-fine-requires c κs = search rules
+sds_field_fine-requires : tie.Need-sds_field_fine-requires invariant-loop-d decreases-loop-d
+sds_field_fine-requires c κs = search rules
 
-returns : tie.Need-returns invariant-loop decreases-loop
-returns c =
-    let at = c.before.before.before in
-    decides_no (λ f. true≢false (sym (f at.loop.d c.before.before.loop-test.true) ∙ sym c.before.sds-field-fine.ensures
-    ∙ not-true _ c.if1.true))
+returns-then-not-sds_field_fine : tie.Need-returns-then-not-sds_field_fine invariant-loop-d decreases-loop-d
+returns-then-not-sds_field_fine c =
+    decides_no (λ f. true≢false (sym (f c.loop-d.d c.loop-d-test.true) ∙ sym c.sds_field_fine.ensures
+    ∙ not-true _ c.if-not-sds_field_fine.true-raw))
 
-add-d : tie.Need-overflow-add-d invariant-loop decreases-loop
-add-d c = search rules
+overflow_add-d : tie.Need-overflow_add-d invariant-loop-d decreases-loop-d
+overflow_add-d c = search rules
 
-loop-less : tie.Need-loop-smaller invariant-loop decreases-loop
-loop-less c = search rules
+loop-d-smaller : tie.Need-loop-d-smaller invariant-loop-d decreases-loop-d
+loop-d-smaller c = search rules
 
-loop-again : tie.Need-loop-preserved invariant-loop decreases-loop
-loop-again c =
-    let at = c.before.before.before in
-    (omega arith, below_more _ _ at.loop.invariant.1 (sym c.before.sds-field-fine.ensures ∙ not-false _ c.if1.false))
+loop-d-preserved : tie.Need-loop-d-preserved invariant-loop-d decreases-loop-d
+loop-d-preserved c =
+    (omega arith, below_more _ _ c.loop-d.invariant.1 (sym c.sds_field_fine.ensures ∙ not-false _ c.if-not-sds_field_fine.false-raw))
 
-returns-2 : tie.Need-returns-2 invariant-loop decreases-loop
-returns-2 c = decides_yes (λ k h. c.before.loop.invariant.1 k (omega arith))
+returns : tie.Need-returns invariant-loop-d decreases-loop-d
+returns c = decides_yes (λ k h. c.loop-d.invariant.1 k (omega arith))
 
-pub sds-fields-fine-spec : {M : Type 1} → statement M
-sds-fields-fine-spec =
+pub sds_fields_fine_spec : {M : Type 1} → statement M
+sds_fields_fine_spec =
     tie.close
     (tie.spec
-    invariant-loop
-    decreases-loop
-    loop-holds
-    sds-field-fine-requires
-    returns
-    add-d
-    loop-less
-    loop-again
-    returns-2)
+    invariant-loop-d
+    decreases-loop-d
+    loop-d-init
+    sds_field_fine-requires
+    returns-then-not-sds_field_fine
+    overflow_add-d
+    loop-d-smaller
+    loop-d-preserved
+    returns)

@@ -15,66 +15,63 @@ use Rattle.check_sdss.proofs.SdsLaws.{fine_bytes}
 use Rattle.check_sdss.proofs.unlike_earlier.Statement.{statement}
 use Rattle.check_sdss.proofs.unlike_earlier.Tie as tie
 
-abbrev invariant-loop : tie.invariant-loop
-invariant-loop base d e₀ e = (e ≤ d) ×
+abbrev invariant-loop-e : tie.invariant-loop-e
+invariant-loop-e base d e₀ e = (e ≤ d) ×
     ((k : ℕ) → k < e → same_name (part base (sds_at d) limits.name) (part base (sds_at k) limits.name) ≡ true → ⊥)
 
-abbrev decreases-loop : tie.decreases-loop
-decreases-loop base d e₀ e = d - e
+abbrev decreases-loop-e : tie.decreases-loop-e
+decreases-loop-e base d e₀ e = d - e
 
-loop-holds : tie.Need-loop-init invariant-loop decreases-loop
-loop-holds c = (omega arith, below_none _)
+loop-e-init : tie.Need-loop-e-init invariant-loop-e decreases-loop-e
+loop-e-init c = (omega arith, below_none _)
 
-sds-field-requires : tie.Need-sds-field-requires invariant-loop decreases-loop
-sds-field-requires c κs = search rules
+sds_field-requires : tie.Need-sds_field-requires invariant-loop-e decreases-loop-e
+sds_field-requires c κs = search rules
 
-sds-field-requires-2 : tie.Need-sds-field-requires-2 invariant-loop decreases-loop
-sds-field-requires-2 c κs = search rules
+sds_field-requires-in-loop-e : tie.Need-sds_field-requires-in-loop-e invariant-loop-e decreases-loop-e
+sds_field-requires-in-loop-e c κs = search rules
 
-are-same-requires : tie.Need-are-same-requires invariant-loop decreases-loop
-are-same-requires c κs =
-    let x = c.before.before.before.before.before in
-    let e = c.before.before.before.loop.e in
-    let below : e < 16 = omega (arith, c.before.before.loop-test.true, x.requires.0.1) in
-    let fine = fine_bytes x.args.base.now x.requires.0.0 in (
-      subst NameBytes (sym c.before.sds-field.ensures) (fine x.args.d x.requires.0.1 (x.requires.1 x.args.d x.requires.0.1)),
-      subst NameBytes (sym c.sds-field2.ensures) (fine e below (x.requires.1 e below)),
+are_same-requires : tie.Need-are_same-requires invariant-loop-e decreases-loop-e
+are_same-requires c κs =
+    let e = c.loop-e.e in
+    let below : e < 16 = omega (arith, c.loop-e-test.true, c.requires.0.1) in
+    let fine = fine_bytes c.args.base.now c.requires.0.0 in (
+      subst NameBytes (sym c.sds_field.ensures) (fine c.args.d c.requires.0.1 (c.requires.1 c.args.d c.requires.0.1)),
+      subst NameBytes (sym c.sds_field-in-loop-e.ensures) (fine e below (c.requires.1 e below)),
     )
 
-returns : tie.Need-returns invariant-loop decreases-loop
-returns c =
-    let at = c.before.before.before.before.before in
-    let same = ap₂ same_name (sym c.before.before.before.sds-field.ensures) (sym c.before.before.sds-field2.ensures) in
-    decides_no (λ f. f at.loop.e c.before.before.before.before.loop-test.true
-    (same ∙ sym c.before.are-same.ensures ∙ c.if1.true))
+returns-then-are_same : tie.Need-returns-then-are_same invariant-loop-e decreases-loop-e
+returns-then-are_same c =
+    let same = ap₂ same_name (sym c.sds_field.ensures) (sym c.sds_field-in-loop-e.ensures) in
+    decides_no (λ f. f c.loop-e.e c.loop-e-test.true
+    (same ∙ sym c.are_same.ensures ∙ c.if-are_same.true))
 
-add-e : tie.Need-overflow-add-e invariant-loop decreases-loop
-add-e c = search rules
+overflow_add-e : tie.Need-overflow_add-e invariant-loop-e decreases-loop-e
+overflow_add-e c = search rules
 
-loop-less : tie.Need-loop-smaller invariant-loop decreases-loop
-loop-less c = search rules
+loop-e-smaller : tie.Need-loop-e-smaller invariant-loop-e decreases-loop-e
+loop-e-smaller c = search rules
 
-loop-again : tie.Need-loop-preserved invariant-loop decreases-loop
-loop-again c =
-    let at = c.before.before.before.before.before in
-    let same = ap₂ same_name (sym c.before.before.before.sds-field.ensures) (sym c.before.before.sds-field2.ensures) in
-    (omega arith, below_more _ _ at.loop.invariant.1 (λ q. true≢false (sym q ∙ same ∙ sym c.before.are-same.ensures ∙ c.if1.false)))
+loop-e-preserved : tie.Need-loop-e-preserved invariant-loop-e decreases-loop-e
+loop-e-preserved c =
+    let same = ap₂ same_name (sym c.sds_field.ensures) (sym c.sds_field-in-loop-e.ensures) in
+    (omega arith, below_more _ _ c.loop-e.invariant.1 (λ q. true≢false (sym q ∙ same ∙ sym c.are_same.ensures ∙ c.if-are_same.false)))
 
-returns-2 : tie.Need-returns-2 invariant-loop decreases-loop
-returns-2 c = decides_yes (λ k h. c.before.loop.invariant.1 k (omega arith))
+returns : tie.Need-returns invariant-loop-e decreases-loop-e
+returns c = decides_yes (λ k h. c.loop-e.invariant.1 k (omega arith))
 
-pub unlike-earlier-spec : {M : Type 1} → statement M
-unlike-earlier-spec =
+pub unlike_earlier_spec : {M : Type 1} → statement M
+unlike_earlier_spec =
     tie.close
     (tie.spec
-    invariant-loop
-    decreases-loop
-    loop-holds
-    sds-field-requires
-    sds-field-requires-2
-    are-same-requires
-    returns
-    add-e
-    loop-less
-    loop-again
-    returns-2)
+    invariant-loop-e
+    decreases-loop-e
+    loop-e-init
+    sds_field-requires
+    sds_field-requires-in-loop-e
+    are_same-requires
+    returns-then-are_same
+    overflow_add-e
+    loop-e-smaller
+    loop-e-preserved
+    returns)

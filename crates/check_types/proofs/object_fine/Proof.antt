@@ -10,78 +10,73 @@ use Rattle.check_types.proofs.NumberLaws.{last_small, small_last, object_last, u
 use Rattle.check_types.proofs.object_fine.Statement.{statement}
 use Rattle.check_types.proofs.object_fine.Tie as tie
 
-fine : (c : tie.Else3) → let x = c.before.before.before.before.before.before.before.before.args in
+fine : (c : tie.Else-not-parents_fine) → let x = c.args in
     ObjectFine x.base.now x.held.now x.t x.sdss
 fine c =
-    let start = c.before.before.before.before.before.before.before.before in
-    let x = start.args in
-    let (e, none) = last_small c.before.before.before.before.before.places.ensures x.n start.requires.1.0 (omega arith) in
-    let last = c.before.before.before.parent-fine.ensures.holds (not-false _ c.before.before.if2.false) in
-    object_all start.requires.1.0 start.requires.1.1 none (omega arith)
+    let x = c.args in
+    let (e, none) = last_small c.places.ensures x.n c.requires.1.0 (omega arith) in
+    let last = c.parent_fine.ensures.holds (not-false _ c.if-not-parent_fine.false-raw) in
+    object_all c.requires.1.0 c.requires.1.1 none (omega arith)
     (subst (ParentFine x.base.now x.held.now x.sdss) e last)
-    (c.before.parents-fine.ensures.holds (not-false _ c.if3.false))
+    (c.parents_fine.ensures.holds (not-false _ c.if-not-parents_fine.false-raw))
 
 places-requires : tie.Need-places-requires
 places-requires c κs = search rules
 
-mul-last : tie.Need-overflow-mul-last
-mul-last c = search rules
+overflow_mul-last : tie.Need-overflow_mul-last
+overflow_mul-last c = search rules
 
-shr-last : tie.Need-overflow-shr-last
-shr-last c = search rules
+overflow_shr-last : tie.Need-overflow_shr-last
+overflow_shr-last c = search rules
+
+returns-then-last-ge-TYPES : tie.Need-returns-then-last-ge-TYPES
+returns-then-last-ge-TYPES c =
+    told_no (λ x.
+    let (small, none) = object_last c.requires.1.1 x in
+    omega (arith, small_last c.places.ensures c.args.n c.requires.1.0 small none))
+
+parent_fine-requires : tie.Need-parent_fine-requires
+parent_fine-requires c κs = search rules
+
+returns-then-not-parent_fine : tie.Need-returns-then-not-parent_fine
+returns-then-not-parent_fine c =
+    let a = c.args in
+    let (e, _) = last_small c.places.ensures a.n c.requires.1.0 (omega arith) in
+    told_no (λ x. c.parent_fine.ensures.fails (not-true _ c.if-not-parent_fine.true-raw)
+    (subst (ParentFine a.base.now a.held.now a.sdss) (sym e) (x.each a.n (omega (arith, c.requires.1.1.count)))))
+
+parents_fine-requires : tie.Need-parents_fine-requires
+parents_fine-requires c κs =
+    let (e, _) = last_small c.places.ensures c.args.n c.requires.1.0 (omega arith) in
+    omega (arith, e)
+
+returns-then-not-parents_fine : tie.Need-returns-then-not-parents_fine
+returns-then-not-parents_fine c =
+    let count = c.requires.1.1.count in
+    told_no (λ x. c.parents_fine.ensures.fails (not-true _ c.if-not-parents_fine.true-raw) (λ i u. (x.rising i (omega arith), x.each i (omega arith))))
+
+returns-then-t-last : tie.Need-returns-then-t-last
+returns-then-t-last c = told_rises (fine c.before)
 
 returns : tie.Need-returns
 returns c =
-    let start = c.before.before.before.before in
-    told_no (λ x.
-    let (small, none) = object_last start.requires.1.1 x in
-    omega (arith, small_last c.before.places.ensures start.args.n start.requires.1.0 small none))
-
-parent-fine-requires : tie.Need-parent-fine-requires
-parent-fine-requires c κs = search rules
-
-returns-2 : tie.Need-returns-2
-returns-2 c =
-    let start = c.before.before.before.before.before.before in
-    let a = start.args in
-    let (e, _) = last_small c.before.before.before.places.ensures a.n start.requires.1.0 (omega arith) in
-    told_no (λ x. c.before.parent-fine.ensures.fails (not-true _ c.if2.true)
-    (subst (ParentFine a.base.now a.held.now a.sdss) (sym e) (x.each a.n (omega (arith, start.requires.1.1.count)))))
-
-parents-fine-requires : tie.Need-parents-fine-requires
-parents-fine-requires c κs =
-    let start = c.before.before.before.before.before.before in
-    let (e, _) = last_small c.before.before.before.places.ensures start.args.n start.requires.1.0 (omega arith) in
-    omega (arith, e)
-
-returns-3 : tie.Need-returns-3
-returns-3 c =
-    let count = c.before.before.before.before.before.before.before.before.requires.1.1.count in
-    told_no (λ x. c.before.parents-fine.ensures.fails (not-true _ c.if3.true) (λ i u. (x.rising i (omega arith), x.each i (omega arith))))
-
-returns-4 : tie.Need-returns-4
-returns-4 c = told_rises (fine c.before)
-
-returns-5 : tie.Need-returns-5
-returns-5 c =
-    let start = c.before.before.before.before.before.before.before.before.before in
-    let x = start.args in
-    let (e, _) = last_small c.before.before.before.before.before.before.places.ensures x.n start.requires.1.0 (omega arith) in
-    let before = c.before.before.parents-fine.ensures.holds (not-false _ c.before.if3.false) in
+    let x = c.args in
+    let (e, _) = last_small c.places.ensures x.n c.requires.1.0 (omega arith) in
+    let before = c.parents_fine.ensures.holds (not-false _ c.if-not-parents_fine.false-raw) in
     told_falls (fine c.before) (λ i u.
-    under x.base.now x.held.now x.t x.sdss x.n x.t before (omega arith) i (omega (arith, start.requires.1.1.count)))
+    under x.base.now x.held.now x.t x.sdss x.n x.t before (omega arith) i (omega (arith, c.requires.1.1.count)))
 
-pub object-fine-spec : {M : Type 1} → statement M
-object-fine-spec =
+pub object_fine_spec : {M : Type 1} → statement M
+object_fine_spec =
     tie.close
     (tie.spec
     places-requires
-    mul-last
-    shr-last
-    returns
-    parent-fine-requires
-    returns-2
-    parents-fine-requires
-    returns-3
-    returns-4
-    returns-5)
+    overflow_mul-last
+    overflow_shr-last
+    returns-then-last-ge-TYPES
+    parent_fine-requires
+    returns-then-not-parent_fine
+    parents_fine-requires
+    returns-then-not-parents_fine
+    returns-then-t-last
+    returns)

@@ -8,28 +8,28 @@ use Rattle.check_types.proofs.parent_fine.Tie as tie
 kind-requires : tie.Need-kind-requires
 kind-requires c κs = search rules
 
+returns-then-kind-ne-OBJECT : tie.Need-returns-then-kind-ne-OBJECT
+returns-then-kind-ne-OBJECT c = decides_no (λ x. omega arith)
+
+offset_bounds-held-parent : tie.Need-offset_bounds-held-parent
+offset_bounds-held-parent c = search rules
+
+bounds-held-parent : tie.Need-bounds-held-parent
+bounds-held-parent c = search rules
+
+is_within-requires : tie.Need-is_within-requires
+is_within-requires c κs = search rules
+
 returns : tie.Need-returns
-returns c = decides_no (λ x. omega arith)
+returns c = decides_iff (λ w. record { object = omega arith; with_child = w }) (λ x. x.with_child) c.is_within.ensures
 
-mul-is-within : tie.Need-overflow-mul-is-within
-mul-is-within c = search rules
-
-shared-slice-read-is-within : tie.Need-shared-slice-read-is-within
-shared-slice-read-is-within c = search rules
-
-is-within-requires : tie.Need-is-within-requires
-is-within-requires c κs = search rules
-
-returns-2 : tie.Need-returns-2
-returns-2 c = decides_iff (λ w. record { object = omega arith; with_child = w }) (λ x. x.with_child) c.is_Within.ensures
-
-pub parent-fine-spec : {M : Type 1} → statement M
-parent-fine-spec =
+pub parent_fine_spec : {M : Type 1} → statement M
+parent_fine_spec =
     tie.close
     (tie.spec
     kind-requires
-    returns
-    mul-is-within
-    shared-slice-read-is-within
-    is-within-requires
-    returns-2)
+    returns-then-kind-ne-OBJECT
+    offset_bounds-held-parent
+    bounds-held-parent
+    is_within-requires
+    returns)

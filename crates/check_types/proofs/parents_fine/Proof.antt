@@ -12,55 +12,55 @@ use Rattle.check_types.proofs.NumberLaws.{place_after, from_more}
 use Rattle.check_types.proofs.parents_fine.Statement.{statement}
 use Rattle.check_types.proofs.parents_fine.Tie as tie
 
-abbrev invariant-loop : tie.invariant-loop
-invariant-loop base t n last sdss held most₀ i₀ most i =
+abbrev invariant-loop-i : tie.invariant-loop-i
+invariant-loop-i base t n last sdss held most₀ i₀ most i =
     (i ≤ n) × (most < 128) × (most ≡ parent_byte base t i) × ((k : ℕ) → k < n → i ≤ k → ParentBefore base held t sdss k)
 
-abbrev decreases-loop : tie.decreases-loop
-decreases-loop base t n last sdss held most₀ i₀ most i = i
+abbrev decreases-loop-i : tie.decreases-loop-i
+decreases-loop-i base t n last sdss held most₀ i₀ most i = i
 
-loop-holds : tie.Need-loop-init invariant-loop decreases-loop
-loop-holds c = (omega arith, omega arith, omega arith, λ k u l. absurd (omega arith))
+loop-i-init : tie.Need-loop-i-init invariant-loop-i decreases-loop-i
+loop-i-init c = (omega arith, omega arith, omega arith, λ k u l. absurd (omega arith))
 
-sub-i : tie.Need-overflow-sub-i invariant-loop decreases-loop
-sub-i c = search rules
+overflow_sub-i : tie.Need-overflow_sub-i invariant-loop-i decreases-loop-i
+overflow_sub-i c = search rules
 
-parent-requires : tie.Need-parent-requires invariant-loop decreases-loop
-parent-requires c κs = search rules
+parent-parent-requires : tie.Need-parent-parent-requires invariant-loop-i decreases-loop-i
+parent-parent-requires c κs = search rules
 
-returns : tie.Need-returns invariant-loop decreases-loop
-returns c =
-    let at = c.before.before.before.loop in
-    let x = c.before.before.before.before.before.before.args in
+returns-then-most-parent : tie.Need-returns-then-most-parent invariant-loop-i decreases-loop-i
+returns-then-most-parent c =
+    let at = c.loop-i in
+    let x = c.args in
     decides_no (λ f. omega (
       arith,
-      c.before.parent.ensures.is,
+      c.parent-parent.ensures.is,
       at.invariant.2,
       place_after x.base.now x.t at.i (omega arith),
       (f (at.i - 1) (omega arith)).0,
     ))
 
-parent-fine-requires : tie.Need-parent-fine-requires invariant-loop decreases-loop
-parent-fine-requires c κs = search rules
+parent_fine-requires : tie.Need-parent_fine-requires invariant-loop-i decreases-loop-i
+parent_fine-requires c κs = search rules
 
-returns-2 : tie.Need-returns-2 invariant-loop decreases-loop
-returns-2 c =
-    let x = c.before.before.before.before.before.before.before.before.args in
-    let is = c.before.before.before.parent.ensures.is in
-    let i = c.before.before.before.before.before.loop.i in
+returns-then-not-parent_fine : tie.Need-returns-then-not-parent_fine invariant-loop-i decreases-loop-i
+returns-then-not-parent_fine c =
+    let x = c.args in
+    let is = c.parent-parent.ensures.is in
+    let i = c.loop-i.i in
     decides_no (λ f.
-    c.before.parent-fine.ensures.fails (not-true _ c.if2.true)
+    c.parent_fine.ensures.fails (not-true _ c.if-not-parent_fine.true-raw)
     (subst (ParentFine x.base.now x.held.now x.sdss) (sym is) (f (i - 1) (omega arith)).1))
 
-loop-less : tie.Need-loop-smaller invariant-loop decreases-loop
-loop-less c = search rules
+loop-i-smaller : tie.Need-loop-i-smaller invariant-loop-i decreases-loop-i
+loop-i-smaller c = search rules
 
-loop-again : tie.Need-loop-preserved invariant-loop decreases-loop
-loop-again c =
-    let at = c.before.before.before.before.before.loop in
-    let x = c.before.before.before.before.before.before.before.before.args in
-    let is = c.before.before.before.parent.ensures.is in
-    let fine = c.before.parent-fine.ensures.holds (not-false _ c.if2.false) in (
+loop-i-preserved : tie.Need-loop-i-preserved invariant-loop-i decreases-loop-i
+loop-i-preserved c =
+    let at = c.loop-i in
+    let x = c.args in
+    let is = c.parent-parent.ensures.is in
+    let fine = c.parent_fine.ensures.holds (not-false _ c.if-not-parent_fine.false-raw) in (
       omega arith,
       omega arith,
       is,
@@ -70,21 +70,21 @@ loop-again c =
       ),
     )
 
-returns-3 : tie.Need-returns-3 invariant-loop decreases-loop
-returns-3 c = decides_yes (λ k u. c.before.loop.invariant.3 k u (omega arith))
+returns : tie.Need-returns invariant-loop-i decreases-loop-i
+returns c = decides_yes (λ k u. c.loop-i.invariant.3 k u (omega arith))
 
-pub parents-fine-spec : {M : Type 1} → statement M
-parents-fine-spec =
+pub parents_fine_spec : {M : Type 1} → statement M
+parents_fine_spec =
     tie.close
     (tie.spec
-    invariant-loop
-    decreases-loop
-    loop-holds
-    sub-i
-    parent-requires
-    returns
-    parent-fine-requires
-    returns-2
-    loop-less
-    loop-again
-    returns-3)
+    invariant-loop-i
+    decreases-loop-i
+    loop-i-init
+    overflow_sub-i
+    parent-parent-requires
+    returns-then-most-parent
+    parent_fine-requires
+    returns-then-not-parent_fine
+    loop-i-smaller
+    loop-i-preserved
+    returns)

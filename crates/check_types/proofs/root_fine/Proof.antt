@@ -7,24 +7,24 @@ use Rattle.check_types.proofs.NumberLaws.{no_places, none_placed}
 use Rattle.check_types.proofs.root_fine.Statement.{statement}
 use Rattle.check_types.proofs.root_fine.Tie as tie
 
-shared-slice-read-if1 : tie.Need-shared-slice-read-if1
-shared-slice-read-if1 c = search rules
+bounds-held-0 : tie.Need-bounds-held-0
+bounds-held-0 c = search rules
 
-returns : tie.Need-returns
-returns c = decides_no (λ x. x.somewhere (omega arith))
+returns-then-held-eq0 : tie.Need-returns-then-held-eq0
+returns-then-held-eq0 c = decides_no (λ x. x.somewhere (omega arith))
 
 front-requires : tie.Need-front-requires
 front-requires c κs = search rules
 
-returns-2 : tie.Need-returns-2
-returns-2 c = decides_no (λ x. omega (arith, c.before.front.ensures.is, x.object, x.row.value, x.row.reverse, x.row.parents.count))
+returns-then-front-ne1 : tie.Need-returns-then-front-ne1
+returns-then-front-ne1 c = decides_no (λ x. omega (arith, c.front.ensures.is, x.object, x.row.value, x.row.reverse, x.row.parents.count))
 
 places-requires : tie.Need-places-requires
 places-requires c κs = search rules
 
-returns-3 : tie.Need-returns-3
-returns-3 c =
-    let front = c.before.before.front.ensures in
+returns : tie.Need-returns
+returns c =
+    let front = c.front.ensures in
     decides_iff
     (λ e. record {
       somewhere = λ z. omega arith;
@@ -38,7 +38,7 @@ returns-3 c =
     (λ x. none_placed c.places.ensures (λ i u l. x.row.parents.places i u (omega (arith, x.row.parents.count))))
     (decides_same c.places.result 0)
 
-pub root-fine-spec : {M : Type 1} → statement M
-root-fine-spec =
+pub root_fine_spec : {M : Type 1} → statement M
+root_fine_spec =
     tie.close
-    (tie.spec shared-slice-read-if1 returns front-requires returns-2 places-requires returns-3)
+    (tie.spec bounds-held-0 returns-then-held-eq0 front-requires returns-then-front-ne1 places-requires returns)

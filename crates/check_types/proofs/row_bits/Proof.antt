@@ -11,7 +11,7 @@ places-requires : tie.Need-places-requires
 places-requires c κs = search rules
 
 returns : tie.Need-returns
-returns c = let start = c.before.before.before in bits_zero start.requires.0 start.requires.1 c.before.front.ensures c.places.ensures
+returns c = bits_zero c.requires.0 c.requires.1 c.front.ensures c.places.ensures
 
-pub row-bits-spec : {M : Type 1} → statement M
-row-bits-spec = tie.close (tie.spec front-requires places-requires returns)
+pub row_bits_spec : {M : Type 1} → statement M
+row_bits_spec = tie.close (tie.spec front-requires places-requires returns)

@@ -5,35 +5,35 @@ use Rattle.check_types.proofs.OneTypeLaws.{unheld_type}
 use Rattle.check_types.proofs.type_fine.Statement.{statement}
 use Rattle.check_types.proofs.type_fine.Tie as tie
 
-mul-sdss : tie.Need-overflow-mul-sdss
-mul-sdss c = search rules
+offset_bounds-held-t : tie.Need-offset_bounds-held-t
+offset_bounds-held-t c = search rules
 
-shared-slice-read-sdss : tie.Need-shared-slice-read-sdss
-shared-slice-read-sdss c = search rules
+bounds-held-t : tie.Need-bounds-held-t
+bounds-held-t c = search rules
 
-is-type-unused-requires : tie.Need-is-type-unused-requires
-is-type-unused-requires c κs = search rules
+is_type_unused-requires : tie.Need-is_type_unused-requires
+is_type_unused-requires c κs = search rules
 
-cast-result : tie.Need-overflow-cast-result
-cast-result c = search rules
+overflow_cast-result : tie.Need-overflow_cast-result
+overflow_cast-result c = search rules
+
+returns-then-sdss-eq0 : tie.Need-returns-then-sdss-eq0
+returns-then-sdss-eq0 c = unheld_type (omega arith) (omega arith) c.if-sdss-eq0.true c.is_type_unused.ensures
+
+used_fine-requires : tie.Need-used_fine-requires
+used_fine-requires c κs = search rules
 
 returns : tie.Need-returns
-returns c = unheld_type (omega arith) (omega arith) c.before.if1.true c.is-type-unused.ensures
+returns c = search rules
 
-used-fine-requires : tie.Need-used-fine-requires
-used-fine-requires c κs = search rules
-
-returns-2 : tie.Need-returns-2
-returns-2 c = search rules
-
-pub type-fine-spec : {M : Type 1} → statement M
-type-fine-spec =
+pub type_fine_spec : {M : Type 1} → statement M
+type_fine_spec =
     tie.close
     (tie.spec
-    mul-sdss
-    shared-slice-read-sdss
-    is-type-unused-requires
-    cast-result
-    returns
-    used-fine-requires
-    returns-2)
+    offset_bounds-held-t
+    bounds-held-t
+    is_type_unused-requires
+    overflow_cast-result
+    returns-then-sdss-eq0
+    used_fine-requires
+    returns)

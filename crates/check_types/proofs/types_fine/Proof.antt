@@ -20,107 +20,105 @@ use Rattle.check_types.proofs.types_fine.Tie as tie
 abbrev Falls : List ℕ → ℕ → Type 0
 Falls b t = ParentsBelow b t (count_byte b t) t
 
-abbrev invariant-loop : tie.invariant-loop
-invariant-loop base held falls₀ t₀ falls t =
+abbrev invariant-loop-t : tie.invariant-loop-t
+invariant-loop-t base held falls₀ t₀ falls t =
     (t < 128) × ((k : ℕ) → k < 128 → t < k → TypeFine base held k)
     × (falls ≡ true → (k : ℕ) → k < 128 → t < k → Falls base k)
 
-abbrev decreases-loop : tie.decreases-loop
-decreases-loop base held falls₀ t₀ falls t = t
+abbrev decreases-loop-t : tie.decreases-loop-t
+decreases-loop-t base held falls₀ t₀ falls t = t
 
-fine : (c : tie.After-loop invariant-loop decreases-loop) → TypesFine c.before.before.before.before.before.before.before.args.base.now
+fine : (c : tie.After-loop-t invariant-loop-t decreases-loop-t) → TypesFine c.args.base.now
 fine c =
-    let x = c.before.before.before.before.before.before.before in
-    let root = c.before.before.before.before.root-fine.ensures.holds (not-false _ c.before.before.before.if1.false) in
-    types_all x.requires.1 x.requires.0 root (λ k u.
-    from_more (TypeFine x.args.base.now x.args.held.now) 128 0 (λ j v m. c.before.loop.invariant.1 j v (omega arith)) (root_type root) k u
+    let root = c.root_fine.ensures.holds (not-false _ c.if-not-root_fine.false-raw) in
+    types_all c.requires.1 c.requires.0 root (λ k u.
+    from_more (TypeFine c.args.base.now c.args.held.now) 128 0 (λ j v m. c.loop-t.invariant.1 j v (omega arith)) (root_type root) k u
     (omega arith))
 
-root-fine-requires : tie.Need-root-fine-requires invariant-loop decreases-loop
-root-fine-requires c κs = let pre = c.before.before.requires in (pre.0, pre.1.room)
+root_fine-requires : tie.Need-root_fine-requires invariant-loop-t decreases-loop-t
+root_fine-requires c κs = let pre = c.requires in (pre.0, pre.1.room)
 
-returns : tie.Need-returns invariant-loop decreases-loop
-returns c =
-    let x = c.before.before.before.before.requires in
-    not_fine (λ f. c.before.root-fine.ensures.fails (not-true _ c.if1.true) (types_root x.1 x.0 f))
+returns-then-not-root_fine : tie.Need-returns-then-not-root_fine invariant-loop-t decreases-loop-t
+returns-then-not-root_fine c =
+    let x = c.requires in
+    not_fine (λ f. c.root_fine.ensures.fails (not-true _ c.if-not-root_fine.true-raw) (types_root x.1 x.0 f))
 
-used-end-requires : tie.Need-used-end-requires invariant-loop decreases-loop
-used-end-requires c κs = let pre = c.before.before.before.before.requires in (pre.0, pre.1.room)
+used_end-t-requires : tie.Need-used_end-t-requires invariant-loop-t decreases-loop-t
+used_end-t-requires c κs = let pre = c.requires in (pre.0, pre.1.room)
 
-sub-t : tie.Need-overflow-sub-t invariant-loop decreases-loop
-sub-t c = omega arith
+overflow_sub-t : tie.Need-overflow_sub-t invariant-loop-t decreases-loop-t
+overflow_sub-t c = omega arith
 
-loop-holds : tie.Need-loop-init invariant-loop decreases-loop
-loop-holds c =
-    let long = c.before.before.before.before.before.requires.0 in
-    let unused = c.used-end.ensures.1.1 in (
+loop-t-init : tie.Need-loop-t-init invariant-loop-t decreases-loop-t
+loop-t-init c =
+    let long = c.requires.0 in
+    let unused = c.used_end-t.ensures.1.1 in (
       omega arith,
       λ k u l. (unheld_told long u (unused k u (omega arith))).fine (λ z. omega arith),
       λ e k u l. (unheld_told long u (unused k u (omega arith))).falling refl,
     )
 
-type-fine-requires : tie.Need-type-fine-requires invariant-loop decreases-loop
-type-fine-requires c κs = let x = c.before.before.before.before.before.before.before.requires in (x.0, (x.1.room, (omega arith, omega arith)))
+type_fine-told-requires : tie.Need-type_fine-told-requires invariant-loop-t decreases-loop-t
+type_fine-told-requires c κs = let x = c.requires in (x.0, (x.1.room, (omega arith, omega arith)))
 
-returns-2 : tie.Need-returns-2 invariant-loop decreases-loop
-returns-2 c =
-    let x = c.before.before.before.before.before.before.before.before.before.requires in
-    not_fine (λ f. c.before.type-fine.ensures.not c.if2.true (types_each x.1 x.0 f c.before.before.before.loop.t (omega arith)))
+returns-then-told-eq0 : tie.Need-returns-then-told-eq0 invariant-loop-t decreases-loop-t
+returns-then-told-eq0 c =
+    let x = c.requires in
+    not_fine (λ f. c.type_fine-told.ensures.not c.if-told-eq0.true (types_each x.1 x.0 f c.loop-t.t (omega arith)))
 
-sub-t-2 : tie.Need-overflow-sub-t-2 invariant-loop decreases-loop
-sub-t-2 c = omega arith
+overflow_sub-t-in-loop-t : tie.Need-overflow_sub-t-in-loop-t invariant-loop-t decreases-loop-t
+overflow_sub-t-in-loop-t c = omega arith
 
-loop-less : tie.Need-loop-smaller invariant-loop decreases-loop
-loop-less c = omega arith
+loop-t-smaller : tie.Need-loop-t-smaller invariant-loop-t decreases-loop-t
+loop-t-smaller c = omega arith
 
-loop-again : tie.Need-loop-preserved invariant-loop decreases-loop
-loop-again c =
-    let at = c.before.before.before.before.loop in
-    let x = c.before.before.before.before.before.before.before.before.before.before.args in
-    let told = c.before.before.type-fine.ensures in (
+loop-t-preserved : tie.Need-loop-t-preserved invariant-loop-t decreases-loop-t
+loop-t-preserved c =
+    let at = c.loop-t in
+    let x = c.args in
+    let told = c.type_fine-told.ensures in (
       omega arith,
       λ k u l. from_more (TypeFine x.base.now x.held.now) 128 at.t (λ j v m. at.invariant.1 j v (omega arith))
-          (told.fine c.before.if2.false) k u (omega arith),
+          (told.fine c.if-told-eq0.false) k u (omega arith),
       ⊎_elim
-          (λ w e. absurd (false≢true (sym w.1 ∙ e)))
+          (λ w e. absurd (false≢true (sym w.falls-is ∙ e)))
           (λ w e k u l.
-          from_more (Falls x.base.now) 128 at.t (λ j v m. at.invariant.2 (sym w.1 ∙ e) j v (omega arith)) (told.falling w.0.left) k u
+          from_more (Falls x.base.now) 128 at.t (λ j v m. at.invariant.2 (sym w.falls-is ∙ e) j v (omega arith)) (told.falling w.if-told-ne1.false) k u
           (omega arith))
-          c.if3.branch,
+          c.if-told-ne1.branch-raw,
     )
 
-returns-3 : tie.Need-returns-3 invariant-loop decreases-loop
-returns-3 c =
-    let x = c.before.before.before.before.before.before.before.before in
-    let root = c.before.before.before.before.before.root-fine.ensures.holds (not-false _ c.before.before.before.before.if1.false) in
-    let inv = c.before.before.loop.invariant in
+returns-then-falls : tie.Need-returns-then-falls invariant-loop-t decreases-loop-t
+returns-then-falls c =
+    let root = c.root_fine.ensures.holds (not-false _ c.if-not-root_fine.false-raw) in
+    let inv = c.loop-t.invariant in
     let all = fine c.before in
     record {
       fine = λ _. all;
       not = λ z. absurd (omega arith);
-      falling = λ _. rows_fall _ x.requires.0 all.type_rows (λ k u.
-          from_more (Falls x.args.base.now) 128 0 (λ j v m. inv.2 c.if4.true j v (omega arith))
+      falling = λ _. rows_fall _ c.requires.0 all.type_rows (λ k u.
+          from_more (Falls c.args.base.now) 128 0 (λ j v m. inv.2 c.if-falls.true j v (omega arith))
           (λ i v. absurd (omega (arith, root.row.parents.count))) k u (omega arith));
     }
 
-returns-4 : tie.Need-returns-4 invariant-loop decreases-loop
-returns-4 c = record { fine = λ _. fine c.before; not = λ z. absurd (omega arith); falling = λ e. absurd (omega arith) }
+returns : tie.Need-returns invariant-loop-t decreases-loop-t
+returns c = record { fine = λ _. fine c.before; not = λ z. absurd (omega arith); falling = λ e. absurd (omega arith) }
 
-pub types-fine-spec : {M : Type 1} → statement M
-types-fine-spec =
+pub types_fine_spec : {M : Type 1} → statement M
+types_fine_spec =
     tie.close
     (tie.spec
-    invariant-loop
-    decreases-loop
-    root-fine-requires
-    returns
-    used-end-requires
-    sub-t
-    loop-holds
-    type-fine-requires
-    returns-2
-    sub-t-2
-    loop-less
-    loop-again
-    returns-3
-    returns-4)
+    invariant-loop-t
+    decreases-loop-t
+    root_fine-requires
+    returns-then-not-root_fine
+    used_end-t-requires
+    overflow_sub-t
+    loop-t-init
+    type_fine-told-requires
+    returns-then-told-eq0
+    overflow_sub-t-in-loop-t
+    loop-t-smaller
+    loop-t-preserved
+    returns-then-falls
+    returns)

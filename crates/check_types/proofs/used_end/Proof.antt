@@ -8,45 +8,45 @@ use Rattle.check_types.proofs.NumberLaws.{unheld_more}
 use Rattle.check_types.proofs.used_end.Statement.{statement}
 use Rattle.check_types.proofs.used_end.Tie as tie
 
-abbrev invariant-loop : tie.invariant-loop
-invariant-loop base held t₀ t = (0 < t) × (t ≤ 128) × UnheldFrom base held t
+abbrev invariant-loop-t : tie.invariant-loop-t
+invariant-loop-t base held t₀ t = (0 < t) × (t ≤ 128) × UnheldFrom base held t
 
-abbrev decreases-loop : tie.decreases-loop
-decreases-loop base held t₀ t = t
+abbrev decreases-loop-t : tie.decreases-loop-t
+decreases-loop-t base held t₀ t = t
 
-loop-holds : tie.Need-loop-init invariant-loop decreases-loop
-loop-holds c = (omega arith, omega arith, λ k u l. absurd (omega arith))
+loop-t-init : tie.Need-loop-t-init invariant-loop-t decreases-loop-t
+loop-t-init c = (omega arith, omega arith, λ k u l. absurd (omega arith))
 
-four-unused-requires : tie.Need-four-unused-requires invariant-loop decreases-loop
-four-unused-requires c κs = search rules
+four_unused-requires : tie.Need-four_unused-requires invariant-loop-t decreases-loop-t
+four_unused-requires c κs = search rules
 
-returns : tie.Need-returns invariant-loop decreases-loop
-returns c = let inv = c.before.before.before.loop.invariant in (inv.0, (inv.1, inv.2))
+returns-then-not-four_unused : tie.Need-returns-then-not-four_unused invariant-loop-t decreases-loop-t
+returns-then-not-four_unused c = let inv = c.loop-t.invariant in (inv.0, (inv.1, inv.2))
 
-sub-t : tie.Need-overflow-sub-t invariant-loop decreases-loop
-sub-t c = search rules
+overflow_sub-t : tie.Need-overflow_sub-t invariant-loop-t decreases-loop-t
+overflow_sub-t c = search rules
 
-loop-less : tie.Need-loop-smaller invariant-loop decreases-loop
-loop-less c = search rules
+loop-t-smaller : tie.Need-loop-t-smaller invariant-loop-t decreases-loop-t
+loop-t-smaller c = search rules
 
-loop-again : tie.Need-loop-preserved invariant-loop decreases-loop
-loop-again c =
-    let four = c.before.four-unused.ensures (not-false _ c.if1.false) in
-    (omega arith, omega arith, unheld_more four c.before.before.before.loop.invariant.2)
+loop-t-preserved : tie.Need-loop-t-preserved invariant-loop-t decreases-loop-t
+loop-t-preserved c =
+    let four = c.four_unused.ensures (not-false _ c.if-not-four_unused.false-raw) in
+    (omega arith, omega arith, unheld_more four c.loop-t.invariant.2)
 
-returns-2 : tie.Need-returns-2 invariant-loop decreases-loop
-returns-2 c = let inv = c.before.loop.invariant in (inv.0, (inv.1, inv.2))
+returns : tie.Need-returns invariant-loop-t decreases-loop-t
+returns c = let inv = c.loop-t.invariant in (inv.0, (inv.1, inv.2))
 
-pub used-end-spec : {M : Type 1} → statement M
-used-end-spec =
+pub used_end_spec : {M : Type 1} → statement M
+used_end_spec =
     tie.close
     (tie.spec
-    invariant-loop
-    decreases-loop
-    loop-holds
-    four-unused-requires
-    returns
-    sub-t
-    loop-less
-    loop-again
-    returns-2)
+    invariant-loop-t
+    decreases-loop-t
+    loop-t-init
+    four_unused-requires
+    returns-then-not-four_unused
+    overflow_sub-t
+    loop-t-smaller
+    loop-t-preserved
+    returns)

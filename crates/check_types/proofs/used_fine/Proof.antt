@@ -6,102 +6,102 @@ use Rattle.check_types.proofs.NumberLaws.{turned_object, kind_is, no_object, att
 use Rattle.check_types.proofs.used_fine.Statement.{statement}
 use Rattle.check_types.proofs.used_fine.Tie as tie
 
-front-requires : tie.Need-front-requires
-front-requires c κs = search rules
+front-front-requires : tie.Need-front-front-requires
+front-front-requires c κs = search rules
 
-cast-turned : tie.Need-overflow-cast-turned
-cast-turned c = search rules
+overflow_cast-turned : tie.Need-overflow_cast-turned
+overflow_cast-turned c = search rules
 
-cast-turned-2 : tie.Need-overflow-cast-turned-2
-cast-turned-2 c = search rules
+overflow_cast-turned-2 : tie.Need-overflow_cast-turned-2
+overflow_cast-turned-2 c = search rules
 
-add_turned : tie.Need-overflow-add-turned
-add_turned c = search rules
+overflow_add-turned : tie.Need-overflow_add-turned
+overflow_add-turned c = search rules
 
-sub-object-fine : tie.Need-overflow-sub-object-fine
-sub-object-fine c = (turned_object c.before.front.ensures c.if1.true).0
+overflow_sub-turned : tie.Need-overflow_sub-turned
+overflow_sub-turned c = (turned_object c.front-front.ensures c.if-turned.true).0
 
-cast-object-fine : tie.Need-overflow-cast-object-fine
-cast-object-fine c = search rules
+overflow_cast-turned-then-turned : tie.Need-overflow_cast-turned-then-turned
+overflow_cast-turned-then-turned c = search rules
 
-object-fine-requires : tie.Need-object-fine-requires
-object-fine-requires c κs =
-    let (_, few, object) = turned_object c.before.front.ensures c.if1.true in
-    (c.before.before.before.before.requires.0, (few, object))
+object_fine-requires : tie.Need-object_fine-requires
+object_fine-requires c κs =
+    let (_, few, object) = turned_object c.front-front.ensures c.if-turned.true in
+    (c.requires.0, (few, object))
 
-returns : tie.Need-returns
-returns c =
-    let held = c.before.before.before.before.before.requires.1 in
-    let (_, _, object) = turned_object c.before.before.front.ensures c.before.if1.true in
-    object_type held.0 (λ z. omega arith) object.kind c.object-fine.ensures
+returns-then-turned : tie.Need-returns-then-turned
+returns-then-turned c =
+    let held = c.requires.1 in
+    let (_, _, object) = turned_object c.front-front.ensures c.if-turned.true in
+    object_type held.0 (λ z. omega arith) object.kind c.object_fine.ensures
 
 places-requires : tie.Need-places-requires
 places-requires c κs = search rules
 
-returns-2 : tie.Need-returns-2
-returns-2 c =
-    let pre = c.before.before.before.before.before.before.requires in
-    let front = c.before.before.before.front.ensures in
+returns-then-places-ne0 : tie.Need-returns-then-places-ne0
+returns-then-places-ne0 c =
+    let pre = c.requires in
+    let front = c.front-front.ensures in
     told_no (λ x.
-    let object = no_object front c.before.before.if1.false pre.0.1.1.0 x in
-    c.if2.true (none_placed c.before.places.ensures (none_else x (λ z. omega (arith, pre.1.0, pre.1.1)) object)))
+    let object = no_object front c.if-turned.false pre.0.1.1.0 x in
+    c.if-places-ne0.true (none_placed c.places.ensures (none_else x (λ z. omega (arith, pre.1.0, pre.1.1)) object)))
 
-cast-result : tie.Need-overflow-cast-result
-cast-result c = search rules
+overflow_cast-result : tie.Need-overflow_cast-result
+overflow_cast-result c = search rules
 
-returns-3 : tie.Need-returns-3
-returns-3 c =
-    let held = c.before.before.before.before.before.before.before.requires.1 in
-    let front = c.before.before.before.before.front.ensures in
-    let none = no_places c.before.before.places.ensures c.before.if2.false in
+returns-then-kind-eq-ATTRIBUTE : tie.Need-returns-then-kind-eq-ATTRIBUTE
+returns-then-kind-eq-ATTRIBUTE c =
+    let held = c.requires.1 in
+    let front = c.front-front.ensures in
+    let none = no_places c.places.ensures c.if-places-ne0.false in
     attribute_type held.0 (λ z. omega arith) (omega (arith, kind_is front)) (attribute_fine front (omega (arith, kind_is front)) none)
 
-returns-4 : tie.Need-returns-4
-returns-4 c =
-    let pre = c.before.before.before.before.before.before.before.before.requires in
-    let front = c.before.before.before.before.before.front.ensures in
+returns-then-kind-ne-LINK : tie.Need-returns-then-kind-ne-LINK
+returns-then-kind-ne-LINK c =
+    let pre = c.requires in
+    let front = c.front-front.ensures in
     told_no (λ x.
-    let object = no_object front c.before.before.before.before.if1.false pre.0.1.1.0 x in
+    let object = no_object front c.if-turned.false pre.0.1.1.0 x in
     x.used (λ z. omega (arith, pre.1.0, pre.1.1)) (omega (arith, kind_is front, x.known, object)))
 
-link-fine-requires : tie.Need-link-fine-requires
-link-fine-requires c κs =
-    let pre = c.before.before.before.before.before.before.before.before.requires.0 in
-    let front = c.before.before.before.before.before.front.ensures in (
+link_fine-requires : tie.Need-link_fine-requires
+link_fine-requires c κs =
+    let pre = c.requires.0 in
+    let front = c.front-front.ensures in (
       (pre.0, (pre.1.0, pre.1.1.1)),
       record {
         kind = omega (arith, kind_is front);
         front = front;
-        none = no_places c.before.before.before.places.ensures c.before.before.if2.false;
+        none = no_places c.places.ensures c.if-places-ne0.false;
       },
     )
 
-cast-result-2 : tie.Need-overflow-cast-result-2
-cast-result-2 c = search rules
+overflow_cast-result-2 : tie.Need-overflow_cast-result-2
+overflow_cast-result-2 c = search rules
 
-returns-5 : tie.Need-returns-5
-returns-5 c =
-    let held = c.before.before.before.before.before.before.before.before.before.requires.1 in
-    let front = c.before.before.before.before.before.before.front.ensures in
-    link_type held.0 (λ z. omega arith) (omega (arith, kind_is front)) c.link-fine.ensures
+returns : tie.Need-returns
+returns c =
+    let held = c.requires.1 in
+    let front = c.front-front.ensures in
+    link_type held.0 (λ z. omega arith) (omega (arith, kind_is front)) c.link_fine.ensures
 
-pub used-fine-spec : {M : Type 1} → statement M
-used-fine-spec =
+pub used_fine_spec : {M : Type 1} → statement M
+used_fine_spec =
     tie.close
     (tie.spec
-    front-requires
-    cast-turned
-    cast-turned-2
-    add_turned
-    sub-object-fine
-    cast-object-fine
-    object-fine-requires
-    returns
+    front-front-requires
+    overflow_cast-turned
+    overflow_cast-turned-2
+    overflow_add-turned
+    overflow_sub-turned
+    overflow_cast-turned-then-turned
+    object_fine-requires
+    returns-then-turned
     places-requires
-    returns-2
-    cast-result
-    returns-3
-    returns-4
-    link-fine-requires
-    cast-result-2
-    returns-5)
+    returns-then-places-ne0
+    overflow_cast-result
+    returns-then-kind-eq-ATTRIBUTE
+    returns-then-kind-ne-LINK
+    link_fine-requires
+    overflow_cast-result-2
+    returns)

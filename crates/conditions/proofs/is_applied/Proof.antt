@@ -4,16 +4,16 @@ use Rattle.conditions.proofs.ConditionLaws.{applied_row}
 use Rattle.conditions.proofs.is_applied.Statement.{statement}
 use Rattle.conditions.proofs.is_applied.Tie as tie
 
-application-row-requires : tie.Need-application-row-requires
-application-row-requires c κs = search rules
+application_row-requires : tie.Need-application_row-requires
+application_row-requires c κs = search rules
 
-application-count-requires : tie.Need-application-count-requires
-application-count-requires c κs = search rules
+application_count-requires : tie.Need-application_count-requires
+application_count-requires c κs = search rules
 
 returns : tie.Need-returns
 returns c =
-    let x = c.before.before.before.args in
-    applied_row x.base.now x.d x.t x.a c.application_count.ensures.is c.before.application_row.ensures
+    let x = c.args in
+    applied_row x.base.now x.d x.t x.a c.application_count.ensures.is c.application_row.ensures
 
-pub is-applied-spec : {M : Type 1} → statement M
-is-applied-spec = tie.close (tie.spec application-row-requires application-count-requires returns)
+pub is_applied_spec : {M : Type 1} → statement M
+is_applied_spec = tie.close (tie.spec application_row-requires application_count-requires returns)

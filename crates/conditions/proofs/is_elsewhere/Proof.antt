@@ -12,58 +12,58 @@ use Rattle.lookup.proofs.Walked.{some_presence, no_presence}
 use Rattle.conditions.proofs.is_elsewhere.Statement.{statement}
 use Rattle.conditions.proofs.is_elsewhere.Tie as tie
 
-abbrev invariant-loop : tie.invariant-loop
-invariant-loop base t n i₀ i = (i ≤ n) × ((k : ℕ) → k < i → eqb (presence_shown base k).type t ≡ false)
+abbrev invariant-loop-i : tie.invariant-loop-i
+invariant-loop-i base t n i₀ i = (i ≤ n) × ((k : ℕ) → k < i → eqb (presence_shown base k).type t ≡ false)
 
-abbrev decreases-loop : tie.decreases-loop
-decreases-loop base t n i₀ i = n - i
+abbrev decreases-loop-i : tie.decreases-loop-i
+decreases-loop-i base t n i₀ i = n - i
 
-presence-count-requires : tie.Need-presence-count-requires invariant-loop decreases-loop
-presence-count-requires c κs = search rules
+presence_count-n-requires : tie.Need-presence_count-n-requires invariant-loop-i decreases-loop-i
+presence_count-n-requires c κs = search rules
 
-loop-holds : tie.Need-loop-init invariant-loop decreases-loop
-loop-holds c = (omega arith, below_none _)
+loop-i-init : tie.Need-loop-i-init invariant-loop-i decreases-loop-i
+loop-i-init c = (omega arith, below_none _)
 
-presence-type-requires : tie.Need-presence-type-requires invariant-loop decreases-loop
-presence-type-requires c κs = (c.before.before.before.before.requires, omega (arith, c.before.before.presence_count.ensures.fits, c.loop-test.true))
+presence_type-requires : tie.Need-presence_type-requires invariant-loop-i decreases-loop-i
+presence_type-requires c κs = (c.requires, omega (arith, c.presence_count-n.ensures.fits, c.loop-i-test.true))
 
-returns : tie.Need-returns invariant-loop decreases-loop
-returns c =
-    let x = c.before.before.before.before.before.before.args in
-    some_presence x.base.now (λ p. eqb p.type x.t) c.before.before.before.loop.i
-    (omega (arith, c.before.before.loop-test.true, c.before.before.before.before.presence_count.ensures.is))
-    (eq-eqb _ x.t (sym c.before.presence_type.ensures.is ∙ c.if1.true))
+returns-then-presence_type-t : tie.Need-returns-then-presence_type-t invariant-loop-i decreases-loop-i
+returns-then-presence_type-t c =
+    let x = c.args in
+    some_presence x.base.now (λ p. eqb p.type x.t) c.loop-i.i
+    (omega (arith, c.loop-i-test.true, c.presence_count-n.ensures.is))
+    (eq-eqb _ x.t (sym c.presence_type.ensures.is ∙ c.if-presence_type-t.true))
 
-add-i : tie.Need-overflow-add-i invariant-loop decreases-loop
-add-i c = search rules
+overflow_add-i : tie.Need-overflow_add-i invariant-loop-i decreases-loop-i
+overflow_add-i c = search rules
 
-loop-less : tie.Need-loop-smaller invariant-loop decreases-loop
-loop-less c = search rules
+loop-i-smaller : tie.Need-loop-i-smaller invariant-loop-i decreases-loop-i
+loop-i-smaller c = search rules
 
-loop-again : tie.Need-loop-preserved invariant-loop decreases-loop
-loop-again c = (
+loop-i-preserved : tie.Need-loop-i-preserved invariant-loop-i decreases-loop-i
+loop-i-preserved c = (
   omega arith,
-  below_more _ _ c.before.before.before.loop.invariant.1
-      (ne_eqb _ c.before.before.before.before.before.before.args.t (λ e. c.if1.false (c.before.presence_type.ensures.is ∙ e))),
+  below_more _ _ c.loop-i.invariant.1
+      (ne_eqb _ c.args.t (λ e. c.if-presence_type-t.false (c.presence_type.ensures.is ∙ e))),
 )
 
-returns-2 : tie.Need-returns-2 invariant-loop decreases-loop
-returns-2 c =
-    let x = c.before.before.before.before.args in
+returns : tie.Need-returns invariant-loop-i decreases-loop-i
+returns c =
+    let x = c.args in
     no_presence x.base.now (λ p. eqb p.type x.t)
-    (λ i h. c.before.loop.invariant.1 i (omega (arith, c.loop-test.false, c.before.before.presence_count.ensures.is)))
+    (λ i h. c.loop-i.invariant.1 i (omega (arith, c.loop-i-test.false, c.presence_count-n.ensures.is)))
 
-pub is-elsewhere-spec : {M : Type 1} → statement M
-is-elsewhere-spec =
+pub is_elsewhere_spec : {M : Type 1} → statement M
+is_elsewhere_spec =
     tie.close
     (tie.spec
-    invariant-loop
-    decreases-loop
-    presence-count-requires
-    loop-holds
-    presence-type-requires
-    returns
-    add-i
-    loop-less
-    loop-again
-    returns-2)
+    invariant-loop-i
+    decreases-loop-i
+    presence_count-n-requires
+    loop-i-init
+    presence_type-requires
+    returns-then-presence_type-t
+    overflow_add-i
+    loop-i-smaller
+    loop-i-preserved
+    returns)

@@ -12,58 +12,55 @@ use Rattle.conditions.proofs.ConditionLaws.{parent_here, parent_nowhere}
 use Rattle.conditions.proofs.is_parent.Statement.{statement}
 use Rattle.conditions.proofs.is_parent.Tie as tie
 
-abbrev invariant-loop : tie.invariant-loop
-invariant-loop base t a n i₀ i = (i ≤ n) × (n ≤ 4) × ((k : ℕ) → k < i → get_or base (type_at t + parents_offset + k) 0 ≡ a → ⊥)
+abbrev invariant-loop-i : tie.invariant-loop-i
+invariant-loop-i base t a n i₀ i = (i ≤ n) × (n ≤ 4) × ((k : ℕ) → k < i → get_or base (type_at t + parents_offset + k) 0 ≡ a → ⊥)
 
-abbrev decreases-loop : tie.decreases-loop
-decreases-loop base t a n i₀ i = n - i
+abbrev decreases-loop-i : tie.decreases-loop-i
+decreases-loop-i base t a n i₀ i = n - i
 
-parent-count-requires : tie.Need-parent-count-requires invariant-loop decreases-loop
-parent-count-requires c κs = (sound_long c.before.requires.0, c.before.requires.1)
+parent_count-n-requires : tie.Need-parent_count-n-requires invariant-loop-i decreases-loop-i
+parent_count-n-requires c κs = (sound_long c.requires.0, c.requires.1)
 
-loop-holds : tie.Need-loop-init invariant-loop decreases-loop
-loop-holds c =
-    let x = c.before.before in
-    (omega arith, omega (arith, c.parent_count.ensures.is, count_few (good_parental x.requires.0) x.args.t x.requires.1), below_none _)
+loop-i-init : tie.Need-loop-i-init invariant-loop-i decreases-loop-i
+loop-i-init c =
+    (omega arith, omega (arith, c.parent_count-n.ensures.is, count_few (good_parental c.requires.0) c.args.t c.requires.1), below_none _)
 
-parent-requires : tie.Need-parent-requires invariant-loop decreases-loop
-parent-requires c κs = (sound_long c.before.before.before.before.requires.0, (c.before.before.before.before.requires.1, omega arith))
+parent-requires : tie.Need-parent-requires invariant-loop-i decreases-loop-i
+parent-requires c κs = (sound_long c.requires.0, (c.requires.1, omega arith))
 
-returns : tie.Need-returns invariant-loop decreases-loop
+returns-then-parent-a : tie.Need-returns-then-parent-a invariant-loop-i decreases-loop-i
+returns-then-parent-a c =
+    parent_here c.requires.0 c.requires.1 c.parent_count-n.ensures.is c.args.a
+    c.loop-i.i _ c.loop-i-test.true
+    c.parent.ensures.is c.if-parent-a.true
+
+overflow_add-i : tie.Need-overflow_add-i invariant-loop-i decreases-loop-i
+overflow_add-i c = omega arith
+
+loop-i-smaller : tie.Need-loop-i-smaller invariant-loop-i decreases-loop-i
+loop-i-smaller c = omega arith
+
+loop-i-preserved : tie.Need-loop-i-preserved invariant-loop-i decreases-loop-i
+loop-i-preserved c =
+    let l = c.loop-i in
+    (omega arith, l.invariant.1, below_more _ _ l.invariant.2 (λ e. c.if-parent-a.false (c.parent.ensures.is ∙ e)))
+
+returns : tie.Need-returns invariant-loop-i decreases-loop-i
 returns c =
-    let x = c.before.before.before.before.before.before in
-    parent_here x.requires.0 x.requires.1 c.before.before.before.before.parent_count.ensures.is x.args.a
-    c.before.before.before.loop.i _ c.before.before.loop-test.true
-    c.before.parent.ensures.is c.if1.true
+    parent_nowhere c.requires.0 c.requires.1 c.parent_count-n.ensures.is c.args.a
+    (λ i h. c.loop-i.invariant.2 i (omega (arith, c.loop-i-test.false)))
 
-add-i : tie.Need-overflow-add-i invariant-loop decreases-loop
-add-i c = omega arith
-
-loop-less : tie.Need-loop-smaller invariant-loop decreases-loop
-loop-less c = omega arith
-
-loop-again : tie.Need-loop-preserved invariant-loop decreases-loop
-loop-again c =
-    let l = c.before.before.before.loop in
-    (omega arith, l.invariant.1, below_more _ _ l.invariant.2 (λ e. c.if1.false (c.before.parent.ensures.is ∙ e)))
-
-returns-2 : tie.Need-returns-2 invariant-loop decreases-loop
-returns-2 c =
-    let x = c.before.before.before.before in
-    parent_nowhere x.requires.0 x.requires.1 c.before.before.parent_count.ensures.is x.args.a
-    (λ i h. c.before.loop.invariant.2 i (omega (arith, c.loop-test.false)))
-
-pub is-parent-spec : {M : Type 1} → statement M
-is-parent-spec =
+pub is_parent_spec : {M : Type 1} → statement M
+is_parent_spec =
     tie.close
     (tie.spec
-    invariant-loop
-    decreases-loop
-    parent-count-requires
-    loop-holds
+    invariant-loop-i
+    decreases-loop-i
+    parent_count-n-requires
+    loop-i-init
     parent-requires
-    returns
-    add-i
-    loop-less
-    loop-again
-    returns-2)
+    returns-then-parent-a
+    overflow_add-i
+    loop-i-smaller
+    loop-i-preserved
+    returns)

@@ -4,53 +4,52 @@ use Rattle.edit.proofs.EditLaws.{presence_built}
 use Rattle.edit.proofs.presence_bytes.Statement.{statement}
 use Rattle.edit.proofs.presence_bytes.Tie as tie
 
-cast-row : tie.Need-overflow-cast-row
-cast-row c = search rules
+overflow_cast-row : tie.Need-overflow_cast-row
+overflow_cast-row c = search rules
 
-array-write-row : tie.Need-array-write-row
-array-write-row c = search rules
+bounds-row-0 : tie.Need-bounds-row-0
+bounds-row-0 c = search rules
 
-cast-row-2 : tie.Need-overflow-cast-row-2
-cast-row-2 c = search rules
+overflow_cast-row-2 : tie.Need-overflow_cast-row-2
+overflow_cast-row-2 c = search rules
 
-array-write-row-2 : tie.Need-array-write-row-2
-array-write-row-2 c = search rules
+bounds-row-17 : tie.Need-bounds-row-17
+bounds-row-17 c = search rules
 
-cast-row-3 : tie.Need-overflow-cast-row-3
-cast-row-3 c = search rules
+overflow_cast-row-3 : tie.Need-overflow_cast-row-3
+overflow_cast-row-3 c = search rules
 
-array-write-row-3 : tie.Need-array-write-row-3
-array-write-row-3 c = search rules
+bounds-row-18 : tie.Need-bounds-row-18
+bounds-row-18 c = search rules
 
-cast-row-4 : tie.Need-overflow-cast-row-4
-cast-row-4 c = search rules
+overflow_cast-row-4 : tie.Need-overflow_cast-row-4
+overflow_cast-row-4 c = search rules
 
-array-write-row-4 : tie.Need-array-write-row-4
-array-write-row-4 c = search rules
+bounds-row-19 : tie.Need-bounds-row-19
+bounds-row-19 c = search rules
 
-slice-aggregate-write : tie.Need-slice-aggregate-write
-slice-aggregate-write c = search rules
+slice_bounds-write-end : tie.Need-slice_bounds-write-end
+slice_bounds-write-end c = search rules
 
 write-requires : tie.Need-write-requires
 write-requires c κs = search rules
 
 returns : tie.Need-returns
 returns c =
-    let x = c.before.before.before.before in
-    presence_built x.args.d x.args.t x.args.usage x.args.definition x.args.name.now _ x.requires.0 x.requires.1 c.before.write.ensures
+    presence_built c.args.d c.args.t c.args.usage c.args.definition c.args.name.now _ c.requires.0 c.requires.1 c.write.ensures
 
-pub presence-bytes-spec : {M : Type 1} → statement M
-presence-bytes-spec =
+pub presence_bytes_spec : {M : Type 1} → statement M
+presence_bytes_spec =
     tie.close
     (tie.spec
-    cast-row
-    array-write-row
-    cast-row-2
-    array-write-row-2
-    cast-row-3
-    array-write-row-3
-    cast-row-4
-    array-write-row-4
-    slice-aggregate-write
+    overflow_cast-row
+    bounds-row-0
+    overflow_cast-row-2
+    bounds-row-17
+    overflow_cast-row-3
+    bounds-row-18
+    overflow_cast-row-4
+    bounds-row-19
+    slice_bounds-write-end
     write-requires
     returns)

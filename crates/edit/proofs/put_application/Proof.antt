@@ -9,48 +9,46 @@ use Rattle.edit.proofs.EditLaws.{ready, row_put, application_built, application_
 use Rattle.edit.proofs.put_application.Statement.{statement}
 use Rattle.edit.proofs.put_application.Tie as tie
 
-cast-t8 : tie.Need-overflow-cast-t8
-cast-t8 c = search rules
+overflow_cast-row : tie.Need-overflow_cast-row
+overflow_cast-row c = search rules
 
-cast-t10 : tie.Need-overflow-cast-t10
-cast-t10 c = search rules
+overflow_cast-row-2 : tie.Need-overflow_cast-row-2
+overflow_cast-row-2 c = search rules
 
-cast-t12 : tie.Need-overflow-cast-t12
-cast-t12 c = search rules
+overflow_cast-row-3 : tie.Need-overflow_cast-row-3
+overflow_cast-row-3 c = search rules
 
-application-count-requires : tie.Need-application-count-requires
-application-count-requires c κs = stored_long c.before.before.requires.0
+application_count-n-requires : tie.Need-application_count-n-requires
+application_count-n-requires c κs = stored_long c.requires.0
 
-slice-aggregate-put-in : tie.Need-slice-aggregate-put-in
-slice-aggregate-put-in c = search rules
+slice_bounds-put_in-end : tie.Need-slice_bounds-put_in-end
+slice_bounds-put_in-end c = search rules
 
-put-in-requires : tie.Need-put-in-requires
-put-in-requires c κs =
-    let x = c.before.before.before.before.before in
-    let row : Application = record { sds = x.args.d; to = x.args.t; attribute = x.args.a } in
-    let many = c.before.before.application_count.ensures.is ∙ sym (applications_long x.args.base.now) in
-    ready keeps_applications x.requires.0 row x.requires.1.1.0 many (application_built _ _ _ x.requires.1.0.1)
+put_in-requires : tie.Need-put_in-requires
+put_in-requires c κs =
+    let row : Application = record { sds = c.args.d; to = c.args.t; attribute = c.args.a } in
+    let many = c.application_count-n.ensures.is ∙ sym (applications_long c.args.base.now) in
+    ready keeps_applications c.requires.0 row c.requires.1.1.0 many (application_built _ _ _ c.requires.1.0.1)
 
-same_length : tie.Need-same-length
-same_length c = search rules
+shape_of-base : tie.Need-shape_of-base
+shape_of-base c = search rules
 
 returns : tie.Need-returns
 returns c =
-    let x = c.before.before.before.before.before.before.before.before in
-    let row : Application = record { sds = x.args.d; to = x.args.t; attribute = x.args.a } in
-    let many = c.before.before.before.before.before.application_count.ensures.is ∙ sym (applications_long x.args.base.now) in
-    row_put keeps_applications x.requires.0 row x.requires.1.1.0 many (application_built _ _ _ x.requires.1.0.1)
-    x.requires.1.0.0 tt (application_unlike x.requires.0.rows row x.requires.1.1.1) c.before.before.put_in.ensures
+    let row : Application = record { sds = c.args.d; to = c.args.t; attribute = c.args.a } in
+    let many = c.application_count-n.ensures.is ∙ sym (applications_long c.args.base.now) in
+    row_put keeps_applications c.requires.0 row c.requires.1.1.0 many (application_built _ _ _ c.requires.1.0.1)
+    c.requires.1.0.0 tt (application_unlike c.requires.0.rows row c.requires.1.1.1) c.put_in.ensures
 
-pub put-application-spec : {M : Type 1} → statement M
-put-application-spec =
+pub put_application_spec : {M : Type 1} → statement M
+put_application_spec =
     tie.close
     (tie.spec
-    cast-t8
-    cast-t10
-    cast-t12
-    application-count-requires
-    slice-aggregate-put-in
-    put-in-requires
-    same_length
+    overflow_cast-row
+    overflow_cast-row-2
+    overflow_cast-row-3
+    application_count-n-requires
+    slice_bounds-put_in-end
+    put_in-requires
+    shape_of-base
     returns)

@@ -6,19 +6,16 @@ use mathlib.Core.Logic.{inr}
 use Rattle.edit.proofs.put_nameless.Statement.{statement}
 use Rattle.edit.proofs.put_nameless.Tie as tie
 
-slice-aggregate-put-with-modes : tie.Need-slice-aggregate-put-with-modes
-slice-aggregate-put-with-modes c = search rules
-
-put-with-modes-requires : tie.Need-put-with-modes-requires
-put-with-modes-requires c κs =
-    let p = c.before.before.before.requires in
+put_with_modes-requires : tie.Need-put_with_modes-requires
+put_with_modes-requires c κs =
+    let p = c.requires in
     (p.0, (p.1.0, (refl, (p.1.1.0, (inr p.1.1.1, (omega arith, omega arith))))))
 
-same_length : tie.Need-same-length
-same_length c = search rules
+shape_of-base : tie.Need-shape_of-base
+shape_of-base c = search rules
 
 returns : tie.Need-returns
-returns c = c.before.before.put-with-modes.ensures
+returns c = c.put_with_modes.ensures
 
-pub put-nameless-spec : {M : Type 1} → statement M
-put-nameless-spec = tie.close (tie.spec slice-aggregate-put-with-modes put-with-modes-requires same_length returns)
+pub put_nameless_spec : {M : Type 1} → statement M
+put_nameless_spec = tie.close (tie.spec put_with_modes-requires shape_of-base returns)

@@ -4,14 +4,14 @@ use native.Mathlib.Omega.{arith}
 use Rattle.edit.proofs.put_row.Statement.{statement}
 use Rattle.edit.proofs.put_row.Tie as tie
 
-put-in-requires : tie.Need-put-in-requires
-put-in-requires c κs = let wide = c.before.before.before.requires.1.1 in rw wide (omega arith, omega arith)
+put_in-requires : tie.Need-put_in-requires
+put_in-requires c κs = let wide = c.requires.1.1 in rw wide (omega arith, omega arith)
 
-same_length : tie.Need-same-length
-same_length c = search rules
+shape_of-base : tie.Need-shape_of-base
+shape_of-base c = search rules
 
 returns : tie.Need-returns
 returns c = search rules
 
-pub put-row-spec : {M : Type 1} → statement M
-put-row-spec = tie.close (tie.spec put-in-requires same_length returns)
+pub put_row_spec : {M : Type 1} → statement M
+put_row_spec = tie.close (tie.spec put_in-requires shape_of-base returns)

@@ -13,45 +13,40 @@ use Rattle.edit.proofs.EditLaws.{row_put, presence_unlike}
 use Rattle.edit.proofs.put_with_modes.Statement.{statement}
 use Rattle.edit.proofs.put_with_modes.Tie as tie
 
-presence-bytes-requires : tie.Need-presence-bytes-requires
-presence-bytes-requires c κs =
-    let x = c.before.before in
-    ((x.requires.1.0.1.0, (x.requires.1.0.1.1, (name_fits x.args.name.now x.requires.1.1.0).short)), x.requires.1.1.1.1.1)
+presence_bytes-row-requires : tie.Need-presence_bytes-row-requires
+presence_bytes-row-requires c κs =
+    ((c.requires.1.0.1.0, (c.requires.1.0.1.1, (name_fits c.args.name.now c.requires.1.1.0).short)), c.requires.1.1.1.1.1)
 
-presence-count-requires : tie.Need-presence-count-requires
-presence-count-requires c κs = stored_long c.before.before.before.before.requires.0
+presence_count-n-requires : tie.Need-presence_count-n-requires
+presence_count-n-requires c κs = stored_long c.requires.0
 
-slice-aggregate-put-row : tie.Need-slice-aggregate-put-row
-slice-aggregate-put-row c = search rules
+slice_bounds-put_row-end : tie.Need-slice_bounds-put_row-end
+slice_bounds-put_row-end c = search rules
 
-put-row-requires : tie.Need-put-row-requires
-put-row-requires c κs =
-    let bytes = c.before.before.before.before in
-    let x = bytes.before.before.before in
-    let row : Presence = with_modes x.args.usage x.args.definition (new_presence x.args.d x.args.name.now x.args.t) in
-    let many = c.before.before.presence_count.ensures.is ∙ sym (presences_long x.args.base.now) in
-    (stored_long x.requires.0, (omega (arith, many, x.requires.1.1.1.0), ap length bytes.presence-bytes.ensures ∙ wide_presence row))
+put_row-requires : tie.Need-put_row-requires
+put_row-requires c κs =
+    let row : Presence = with_modes c.args.usage c.args.definition (new_presence c.args.d c.args.name.now c.args.t) in
+    let many = c.presence_count-n.ensures.is ∙ sym (presences_long c.args.base.now) in
+    (stored_long c.requires.0, (omega (arith, many, c.requires.1.1.1.0), ap length c.presence_bytes-row.ensures ∙ wide_presence row))
 
-same_length : tie.Need-same-length
-same_length c = search rules
+shape_of-base : tie.Need-shape_of-base
+shape_of-base c = search rules
 
 returns : tie.Need-returns
 returns c =
-    let bytes = c.before.before.before.before.before.before.before in
-    let x = bytes.before.before.before in
-    let row : Presence = with_modes x.args.usage x.args.definition (new_presence x.args.d x.args.name.now x.args.t) in
-    let many = c.before.before.before.before.before.presence_count.ensures.is ∙ sym (presences_long x.args.base.now) in
-    let named = x.requires.1.1.0 in
-    row_put keeps_presences x.requires.0 row x.requires.1.1.1.0 many bytes.presence-bytes.ensures
-    x.requires.1.0.0 named (presence_unlike x.requires.0.rows row named x.requires.1.1.1.1.0) c.before.before.put-row.ensures
+    let row : Presence = with_modes c.args.usage c.args.definition (new_presence c.args.d c.args.name.now c.args.t) in
+    let many = c.presence_count-n.ensures.is ∙ sym (presences_long c.args.base.now) in
+    let named = c.requires.1.1.0 in
+    row_put keeps_presences c.requires.0 row c.requires.1.1.1.0 many c.presence_bytes-row.ensures
+    c.requires.1.0.0 named (presence_unlike c.requires.0.rows row named c.requires.1.1.1.1.0) c.put_row.ensures
 
-pub put-with-modes-spec : {M : Type 1} → statement M
-put-with-modes-spec =
+pub put_with_modes_spec : {M : Type 1} → statement M
+put_with_modes_spec =
     tie.close
     (tie.spec
-    presence-bytes-requires
-    presence-count-requires
-    slice-aggregate-put-row
-    put-row-requires
-    same_length
+    presence_bytes-row-requires
+    presence_count-n-requires
+    slice_bounds-put_row-end
+    put_row-requires
+    shape_of-base
     returns)

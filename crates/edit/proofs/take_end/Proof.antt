@@ -9,42 +9,41 @@ use Rattle.edit.proofs.EditLaws.{row_taken}
 use Rattle.edit.proofs.take_end.Statement.{statement}
 use Rattle.edit.proofs.take_end.Tie as tie
 
-end-count-requires : tie.Need-end-count-requires
-end-count-requires c κs = stored_long c.before.before.requires.0
+end_count-n-requires : tie.Need-end_count-n-requires
+end_count-n-requires c κs = stored_long c.requires.0
 
-mul_at : tie.Need-overflow-mul-at
-mul_at c = search rules
+overflow_mul-at : tie.Need-overflow_mul-at
+overflow_mul-at c = search rules
 
-add_at : tie.Need-overflow-add-at
-add_at c = search rules
+overflow_add-at : tie.Need-overflow_add-at
+overflow_add-at c = search rules
 
-mul-end : tie.Need-overflow-mul-end
-mul-end c = search rules
+overflow_mul-end : tie.Need-overflow_mul-end
+overflow_mul-end c = search rules
 
-add-end : tie.Need-overflow-add-end
-add-end c = search rules
+overflow_add-end : tie.Need-overflow_add-end
+overflow_add-end c = search rules
 
-take-row-requires : tie.Need-take-row-requires
-take-row-requires c κs = let long = stored_long c.before.before.before.before.requires.0 in (omega arith, omega arith)
+take_row-requires : tie.Need-take_row-requires
+take_row-requires c κs = let long = stored_long c.requires.0 in (omega arith, omega arith)
 
-same_length : tie.Need-same-length
-same_length c = search rules
+shape_of-base : tie.Need-shape_of-base
+shape_of-base c = search rules
 
 returns : tie.Need-returns
 returns c =
-    let x = c.before.before.before.before.before.before.before in
-    let many = c.before.before.before.before.end_count.ensures.is ∙ sym (ends_long x.args.base.now) in
-    row_taken keeps_ends x.requires.0 many x.args.i (omega arith) c.before.before.take_row.ensures
+    let many = c.end_count-n.ensures.is ∙ sym (ends_long c.args.base.now) in
+    row_taken keeps_ends c.requires.0 many c.args.i (omega arith) c.take_row.ensures
 
-pub take-end-spec : {M : Type 1} → statement M
-take-end-spec =
+pub take_end_spec : {M : Type 1} → statement M
+take_end_spec =
     tie.close
     (tie.spec
-    end-count-requires
-    mul_at
-    add_at
-    mul-end
-    add-end
-    take-row-requires
-    same_length
+    end_count-n-requires
+    overflow_mul-at
+    overflow_add-at
+    overflow_mul-end
+    overflow_add-end
+    take_row-requires
+    shape_of-base
     returns)

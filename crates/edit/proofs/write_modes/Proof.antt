@@ -8,48 +8,46 @@ use Rattle.edit.proofs.ModesWritten.{modes_written}
 use Rattle.edit.proofs.write_modes.Statement.{statement}
 use Rattle.edit.proofs.write_modes.Tie as tie
 
-cast-t8 : tie.Need-overflow-cast-t8
-cast-t8 c = search rules
+overflow_cast-modes : tie.Need-overflow_cast-modes
+overflow_cast-modes c = search rules
 
-cast-t10 : tie.Need-overflow-cast-t10
-cast-t10 c = search rules
+overflow_cast-modes-2 : tie.Need-overflow_cast-modes-2
+overflow_cast-modes-2 c = search rules
 
-mul_at : tie.Need-overflow-mul-at
-mul_at c = omega (arith, rows_few presences c.before.args.base.now)
+overflow_mul-at : tie.Need-overflow_mul-at
+overflow_mul-at c = omega (arith, rows_few presences c.args.base.now)
 
-add_at : tie.Need-overflow-add-at
-add_at c = omega (arith, rows_few presences c.before.args.base.now)
+overflow_add-at : tie.Need-overflow_add-at
+overflow_add-at c = omega (arith, rows_few presences c.args.base.now)
 
-add-at-2 : tie.Need-overflow-add-at-2
-add-at-2 c = omega (arith, rows_few presences c.before.args.base.now)
+overflow_add-at-2 : tie.Need-overflow_add-at-2
+overflow_add-at-2 c = omega (arith, rows_few presences c.args.base.now)
 
-slice-aggregate-write : tie.Need-slice-aggregate-write
-slice-aggregate-write c = search rules
+slice_bounds-write-end : tie.Need-slice_bounds-write-end
+slice_bounds-write-end c = search rules
 
 write-requires : tie.Need-write-requires
 write-requires c κs =
-    let x = c.before.before.before in
-    omega (arith, rows_few presences x.args.base.now, stored_long x.requires.0)
+    omega (arith, rows_few presences c.args.base.now, stored_long c.requires.0)
 
-same_length : tie.Need-same-length
-same_length c = search rules
+shape_of-base : tie.Need-shape_of-base
+shape_of-base c = search rules
 
 returns : tie.Need-returns
 returns c =
-    let x = c.before.before.before.before.before.before in
-    modes_written x.requires.0 x.args.i x.args.usage x.args.definition x.requires.1.0.0 x.requires.1.0.1 x.requires.1.1.0 x.requires.1.1.1
-    c.before.before.write.ensures
+    modes_written c.requires.0 c.args.i c.args.usage c.args.definition c.requires.1.0.0 c.requires.1.0.1 c.requires.1.1.0 c.requires.1.1.1
+    c.write.ensures
 
-pub write-modes-spec : {M : Type 1} → statement M
-write-modes-spec =
+pub write_modes_spec : {M : Type 1} → statement M
+write_modes_spec =
     tie.close
     (tie.spec
-    cast-t8
-    cast-t10
-    mul_at
-    add_at
-    add-at-2
-    slice-aggregate-write
+    overflow_cast-modes
+    overflow_cast-modes-2
+    overflow_mul-at
+    overflow_add-at
+    overflow_add-at-2
+    slice_bounds-write-end
     write-requires
-    same_length
+    shape_of-base
     returns)

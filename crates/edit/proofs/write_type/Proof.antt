@@ -6,61 +6,58 @@ use Rattle.edit.proofs.TypeWritten.{type_built, type_written}
 use Rattle.edit.proofs.write_type.Statement.{statement}
 use Rattle.edit.proofs.write_type.Tie as tie
 
-cast-t10 : tie.Need-overflow-cast-t10
-cast-t10 c = search rules
+overflow_cast-row : tie.Need-overflow_cast-row
+overflow_cast-row c = search rules
 
-cast-t12 : tie.Need-overflow-cast-t12
-cast-t12 c = search rules
+overflow_cast-row-2 : tie.Need-overflow_cast-row-2
+overflow_cast-row-2 c = search rules
 
-cast-t14 : tie.Need-overflow-cast-t14
-cast-t14 c = search rules
+overflow_cast-row-3 : tie.Need-overflow_cast-row-3
+overflow_cast-row-3 c = search rules
 
-cast-t17 : tie.Need-overflow-cast-t17
-cast-t17 c = search rules
+overflow_cast-row-4 : tie.Need-overflow_cast-row-4
+overflow_cast-row-4 c = search rules
 
-slice-aggregate-write : tie.Need-slice-aggregate-write
-slice-aggregate-write c = search rules
+slice_bounds-write-end : tie.Need-slice_bounds-write-end
+slice_bounds-write-end c = search rules
 
 write-requires : tie.Need-write-requires
 write-requires c κs = search rules
 
-mul_at : tie.Need-overflow-mul-at
-mul_at c = search rules
+overflow_mul-at : tie.Need-overflow_mul-at
+overflow_mul-at c = search rules
 
-add_at : tie.Need-overflow-add-at
-add_at c = search rules
+overflow_add-at : tie.Need-overflow_add-at
+overflow_add-at c = search rules
 
-slice-aggregate-write-2 : tie.Need-slice-aggregate-write-2
-slice-aggregate-write-2 c = search rules
+slice_bounds-write-end-2 : tie.Need-slice_bounds-write-end-2
+slice_bounds-write-end-2 c = search rules
 
 write-requires-2 : tie.Need-write-requires-2
-write-requires-2 c κs = omega (arith, stored_long c.before.before.before.before.before.before.before.requires.0)
+write-requires-2 c κs = omega (arith, stored_long c.requires.0)
 
-same_length : tie.Need-same-length
-same_length c = search rules
+shape_of-base : tie.Need-shape_of-base
+shape_of-base c = search rules
 
 returns : tie.Need-returns
 returns c =
-    let over = c.before.before in
-    let row = over.before.before.before.before in
-    let x = row.before.before.before.before in
-    let fields = type_built x.args.kind x.args.value x.args.reverse x.args.parents.now _ x.requires.1.1.0 x.requires.1.1.1
-    row.write.ensures in
-    type_written x.requires.0 x.args.t x.requires.1.0 fields over.write2.ensures
+    let fields = type_built c.args.kind c.args.value c.args.reverse c.args.parents.now _ c.requires.1.1.0 c.requires.1.1.1
+    c.write.ensures in
+    type_written c.requires.0 c.args.t c.requires.1.0 fields c.write-2.ensures
 
-pub write-type-spec : {M : Type 1} → statement M
-write-type-spec =
+pub write_type_spec : {M : Type 1} → statement M
+write_type_spec =
     tie.close
     (tie.spec
-    cast-t10
-    cast-t12
-    cast-t14
-    cast-t17
-    slice-aggregate-write
+    overflow_cast-row
+    overflow_cast-row-2
+    overflow_cast-row-3
+    overflow_cast-row-4
+    slice_bounds-write-end
     write-requires
-    mul_at
-    add_at
-    slice-aggregate-write-2
+    overflow_mul-at
+    overflow_add-at
+    slice_bounds-write-end-2
     write-requires-2
-    same_length
+    shape_of-base
     returns)

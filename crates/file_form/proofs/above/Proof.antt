@@ -8,79 +8,77 @@ use Rattle.file_form.proofs.Scan.{AboveFrom, above_first, above_end, above_short
 use Rattle.file_form.proofs.above.Statement.{statement}
 use Rattle.file_form.proofs.above.Tie as tie
 
-abbrev invariant-loop : tie.invariant-loop
-invariant-loop prev e j₀ j = AboveFrom prev e j
+abbrev invariant-loop-j : tie.invariant-loop-j
+invariant-loop-j prev e j₀ j = AboveFrom prev e j
 
-abbrev decreases-loop : tie.decreases-loop
-decreases-loop prev e j₀ j = length prev - j
+abbrev decreases-loop-j : tie.decreases-loop-j
+decreases-loop-j prev e j₀ j = length prev - j
 
-loop-holds : tie.Need-loop-init invariant-loop decreases-loop
-loop-holds c = let x = c.before.before.args in above_first x.prev.now x.e.now
+loop-j-init : tie.Need-loop-j-init invariant-loop-j decreases-loop-j
+loop-j-init c = let x = c.args in above_first x.prev.now x.e.now
 
-returns : tie.Need-returns invariant-loop decreases-loop
-returns c = above_short c.before.before.loop.invariant (omega arith) (omega arith)
+returns-then-e-j : tie.Need-returns-then-e-j invariant-loop-j decreases-loop-j
+returns-then-e-j c = above_short c.loop-j.invariant (omega arith) (omega arith)
 
-shared-slice-read-x : tie.Need-shared-slice-read-x invariant-loop decreases-loop
-shared-slice-read-x c = search rules
+bounds-e-j : tie.Need-bounds-e-j invariant-loop-j decreases-loop-j
+bounds-e-j c = search rules
 
-shared-slice-read-y : tie.Need-shared-slice-read-y invariant-loop decreases-loop
-shared-slice-read-y c = search rules
+bounds-prev-j : tie.Need-bounds-prev-j invariant-loop-j decreases-loop-j
+bounds-prev-j c = search rules
 
-returns-2 : tie.Need-returns-2 invariant-loop decreases-loop
-returns-2 c = above_more c.before.before.before.before.before.loop.invariant (omega arith) (omega arith) c.if2.true
+returns-then-y-x : tie.Need-returns-then-y-x invariant-loop-j decreases-loop-j
+returns-then-y-x c = above_more c.loop-j.invariant (omega arith) (omega arith) c.if-y-x.true
 
-returns-3 : tie.Need-returns-3 invariant-loop decreases-loop
-returns-3 c = above_less c.before.before.before.before.before.before.loop.invariant (omega arith) (omega arith) c.if3.true
+returns-then-x-y : tie.Need-returns-then-x-y invariant-loop-j decreases-loop-j
+returns-then-x-y c = above_less c.loop-j.invariant (omega arith) (omega arith) c.if-x-y.true
 
-add-next : tie.Need-overflow-add-next invariant-loop decreases-loop
-add-next c = search rules
+overflow_add-next : tie.Need-overflow_add-next invariant-loop-j decreases-loop-j
+overflow_add-next c = search rules
 
-sub-is-full : tie.Need-overflow-sub-is-full invariant-loop decreases-loop
-sub-is-full c = search rules
+slice_bounds-is_full-count : tie.Need-slice_bounds-is_full-count invariant-loop-j decreases-loop-j
+slice_bounds-is_full-count c = search rules
 
-part-is-full-start : tie.Need-slice-bounds-is-full-start invariant-loop decreases-loop
-part-is-full-start c = search rules
+slice_bounds-is_full-start : tie.Need-slice_bounds-is_full-start invariant-loop-j decreases-loop-j
+slice_bounds-is_full-start c = search rules
 
-part-is-full-end : tie.Need-slice-bounds-is-full-end invariant-loop decreases-loop
-part-is-full-end c = search rules
+slice_bounds-is_full-end : tie.Need-slice_bounds-is_full-end invariant-loop-j decreases-loop-j
+slice_bounds-is_full-end c = search rules
 
-is-full-requires : tie.Need-is-full-requires invariant-loop decreases-loop
-is-full-requires c κs = search rules
+is_full-requires : tie.Need-is_full-requires invariant-loop-j decreases-loop-j
+is_full-requires c κs = search rules
 
-returns-4 : tie.Need-returns-4 invariant-loop decreases-loop
-returns-4 c =
-    let at = c.before.before.before.before.before.before.before.before.before in
-    above_full at.loop.invariant (omega arith) (omega arith) (omega arith) (sym c.before.is-full.ensures ∙ c.if4.true)
+returns-then-is_full : tie.Need-returns-then-is_full invariant-loop-j decreases-loop-j
+returns-then-is_full c =
+    above_full c.loop-j.invariant (omega arith) (omega arith) (omega arith) (sym c.is_full.ensures ∙ c.if-is_full.true)
 
-loop-less : tie.Need-loop-smaller invariant-loop decreases-loop
-loop-less c = search rules
+loop-j-smaller : tie.Need-loop-j-smaller invariant-loop-j decreases-loop-j
+loop-j-smaller c = search rules
 
-loop-again : tie.Need-loop-preserved invariant-loop decreases-loop
-loop-again c =
-    let at = c.before.before.before.before.before.before.before.before.before in
-    above_go at.loop.invariant (omega arith) (omega arith) (omega arith) (sym c.before.is-full.ensures ∙ c.if4.false)
+loop-j-preserved : tie.Need-loop-j-preserved invariant-loop-j decreases-loop-j
+loop-j-preserved c =
+    above_go c.loop-j.invariant (omega arith) (omega arith) (omega arith) (sym c.is_full.ensures ∙ c.if-is_full.false)
 
-returns-5 : tie.Need-returns-5 invariant-loop decreases-loop
-returns-5 c = above_end c.before.loop.invariant (omega arith)
+returns : tie.Need-returns invariant-loop-j decreases-loop-j
+returns c = above_end c.loop-j.invariant (omega arith)
 
-pub above-spec : {M : Type 1} → statement M
-above-spec =
+pub above_spec : {M : Type 1} → statement M
+above_spec =
     tie.close
     (tie.spec
-    invariant-loop
-    decreases-loop
-    loop-holds
-    returns
-    shared-slice-read-x
-    shared-slice-read-y
-    returns-2
-    returns-3
-    add-next
-    sub-is-full
-    part-is-full-start
-    part-is-full-end
-    is-full-requires
-    returns-4
-    loop-less
-    loop-again
-    returns-5)
+    invariant-loop-j
+    decreases-loop-j
+    loop-j-init
+    returns-then-e-j
+    bounds-e-j
+    bounds-prev-j
+    returns-then-y-x
+    returns-then-x-y
+    overflow_add-next
+    slice_bounds-is_full-count
+    slice_bounds-is_full-start
+    slice_bounds-is_full-end
+    is_full-requires
+    returns-then-is_full
+    loop-j-smaller
+    loop-j-preserved
+    returns)

@@ -4,17 +4,17 @@ use borrow.Author.Rules.{rules}
 use Rattle.file_form.proofs.fitting.Statement.{statement}
 use Rattle.file_form.proofs.fitting.Tie as tie
 
-above-requires : tie.Need-above-requires
-above-requires c κs = search rules
+above-high-requires : tie.Need-above-high-requires
+above-high-requires c κs = search rules
 
-leaving-requires : tie.Need-leaving-requires
-leaving-requires c κs = search rules
+leaving-low-requires : tie.Need-leaving-low-requires
+leaving-low-requires c κs = search rules
+
+returns-then-high-low : tie.Need-returns-then-high-low
+returns-then-high-low c = omega arith
 
 returns : tie.Need-returns
 returns c = omega arith
 
-returns-2 : tie.Need-returns-2
-returns-2 c = omega arith
-
-pub fitting-spec : {M : Type 1} → statement M
-fitting-spec = tie.close (tie.spec above-requires leaving-requires returns returns-2)
+pub fitting_spec : {M : Type 1} → statement M
+fitting_spec = tie.close (tie.spec above-high-requires leaving-low-requires returns-then-high-low returns)

@@ -7,53 +7,53 @@ use Rattle.file_form.proofs.Files.{Passed, passed_none, passed_stop, passed_go, 
 use Rattle.file_form.proofs.form.Statement.{statement}
 use Rattle.file_form.proofs.form.Tie as tie
 
-abbrev invariant-loop : tie.invariant-loop
-invariant-loop file at₀ i₀ at i = Passed file at i
+abbrev invariant-loop-i : tie.invariant-loop-i
+invariant-loop-i file at₀ i₀ at i = Passed file at i
 
-abbrev decreases-loop : tie.decreases-loop
-decreases-loop file at₀ i₀ at i = 6 - i
+abbrev decreases-loop-i : tie.decreases-loop-i
+decreases-loop-i file at₀ i₀ at i = 6 - i
 
-loop-holds : tie.Need-loop-init invariant-loop decreases-loop
-loop-holds c = passed_none c.before.args.file.now
+loop-i-init : tie.Need-loop-i-init invariant-loop-i decreases-loop-i
+loop-i-init c = passed_none c.args.file.now
 
-width-requires : tie.Need-width-requires invariant-loop decreases-loop
+width-requires : tie.Need-width-requires invariant-loop-i decreases-loop-i
 width-requires c κs = search rules
 
-section-requires : tie.Need-section-requires invariant-loop decreases-loop
-section-requires c κs = search rules
+section-walk-requires : tie.Need-section-walk-requires invariant-loop-i decreases-loop-i
+section-walk-requires c κs = search rules
 
-returns : tie.Need-returns invariant-loop decreases-loop
-returns c =
-    let w = c.before.before.before.width in
-    let walk = c.before.before.section in
-    passed_stop c.before.before.before.before.before.loop.invariant (omega arith) w.ensures.0 walk.ensures (not-true walk.result.whole c.if1.true)
+returns-then-not-walk : tie.Need-returns-then-not-walk invariant-loop-i decreases-loop-i
+returns-then-not-walk c =
+    let w = c.width in
+    let walk = c.section-walk in
+    passed_stop c.loop-i.invariant (omega arith) w.ensures.0 walk.ensures (not-true walk.result.whole c.if-not-walk.true)
 
-add-i : tie.Need-overflow-add-i invariant-loop decreases-loop
-add-i c = search rules
+overflow_add-i : tie.Need-overflow_add-i invariant-loop-i decreases-loop-i
+overflow_add-i c = search rules
 
-loop-less : tie.Need-loop-smaller invariant-loop decreases-loop
-loop-less c = search rules
+loop-i-smaller : tie.Need-loop-i-smaller invariant-loop-i decreases-loop-i
+loop-i-smaller c = search rules
 
-loop-again : tie.Need-loop-preserved invariant-loop decreases-loop
-loop-again c =
-    let w = c.before.before.before.width in
-    let walk = c.before.before.section in
-    passed_go c.before.before.before.before.before.loop.invariant (omega arith) w.ensures.0 walk.ensures (not-false walk.result.whole c.if1.false)
+loop-i-preserved : tie.Need-loop-i-preserved invariant-loop-i decreases-loop-i
+loop-i-preserved c =
+    let w = c.width in
+    let walk = c.section-walk in
+    passed_go c.loop-i.invariant (omega arith) w.ensures.0 walk.ensures (not-false walk.result.whole c.if-not-walk.false)
 
-returns-2 : tie.Need-returns-2 invariant-loop decreases-loop
-returns-2 c = passed_all c.before.loop.invariant (omega arith)
+returns : tie.Need-returns invariant-loop-i decreases-loop-i
+returns c = passed_all c.loop-i.invariant (omega arith)
 
-pub form-spec : {M : Type 1} → statement M
-form-spec =
+pub form_spec : {M : Type 1} → statement M
+form_spec =
     tie.close
     (tie.spec
-    invariant-loop
-    decreases-loop
-    loop-holds
+    invariant-loop-i
+    decreases-loop-i
+    loop-i-init
     width-requires
-    section-requires
-    returns
-    add-i
-    loop-less
-    loop-again
-    returns-2)
+    section-walk-requires
+    returns-then-not-walk
+    overflow_add-i
+    loop-i-smaller
+    loop-i-preserved
+    returns)

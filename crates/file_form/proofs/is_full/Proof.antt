@@ -7,43 +7,43 @@ use Rattle.file_form.proofs.Scan.{FullFrom, full_first, full_stop, full_go, full
 use Rattle.file_form.proofs.is_full.Statement.{statement}
 use Rattle.file_form.proofs.is_full.Tie as tie
 
-abbrev invariant-loop : tie.invariant-loop
-invariant-loop l i₀ i = FullFrom l i
+abbrev invariant-loop-i : tie.invariant-loop-i
+invariant-loop-i l i₀ i = FullFrom l i
 
-abbrev decreases-loop : tie.decreases-loop
-decreases-loop l i₀ i = length l - i
+abbrev decreases-loop-i : tie.decreases-loop-i
+decreases-loop-i l i₀ i = length l - i
 
-loop-holds : tie.Need-loop-init invariant-loop decreases-loop
-loop-holds c = full_first c.args.l.now
+loop-i-init : tie.Need-loop-i-init invariant-loop-i decreases-loop-i
+loop-i-init c = full_first c.args.l.now
 
-shared-slice-read-if1 : tie.Need-shared-slice-read-if1 invariant-loop decreases-loop
-shared-slice-read-if1 c = search rules
+bounds-l-i : tie.Need-bounds-l-i invariant-loop-i decreases-loop-i
+bounds-l-i c = search rules
 
-returns : tie.Need-returns invariant-loop decreases-loop
-returns c = full_stop c.before.before.before.loop.invariant (omega arith) c.if1.true
+returns-then-l-i : tie.Need-returns-then-l-i invariant-loop-i decreases-loop-i
+returns-then-l-i c = full_stop c.loop-i.invariant (omega arith) c.if-l-i.true
 
-add-i : tie.Need-overflow-add-i invariant-loop decreases-loop
-add-i c = search rules
+overflow_add-i : tie.Need-overflow_add-i invariant-loop-i decreases-loop-i
+overflow_add-i c = search rules
 
-loop-less : tie.Need-loop-smaller invariant-loop decreases-loop
-loop-less c = search rules
+loop-i-smaller : tie.Need-loop-i-smaller invariant-loop-i decreases-loop-i
+loop-i-smaller c = search rules
 
-loop-again : tie.Need-loop-preserved invariant-loop decreases-loop
-loop-again c = full_go c.before.before.before.loop.invariant (omega arith) c.if1.false
+loop-i-preserved : tie.Need-loop-i-preserved invariant-loop-i decreases-loop-i
+loop-i-preserved c = full_go c.loop-i.invariant (omega arith) c.if-l-i.false
 
-returns-2 : tie.Need-returns-2 invariant-loop decreases-loop
-returns-2 c = full_end c.before.loop.invariant (omega arith)
+returns : tie.Need-returns invariant-loop-i decreases-loop-i
+returns c = full_end c.loop-i.invariant (omega arith)
 
-pub is-full-spec : {M : Type 1} → statement M
-is-full-spec =
+pub is_full_spec : {M : Type 1} → statement M
+is_full_spec =
     tie.close
     (tie.spec
-    invariant-loop
-    decreases-loop
-    loop-holds
-    shared-slice-read-if1
-    returns
-    add-i
-    loop-less
-    loop-again
-    returns-2)
+    invariant-loop-i
+    decreases-loop-i
+    loop-i-init
+    bounds-l-i
+    returns-then-l-i
+    overflow_add-i
+    loop-i-smaller
+    loop-i-preserved
+    returns)

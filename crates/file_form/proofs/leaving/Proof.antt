@@ -7,59 +7,59 @@ use Rattle.file_form.proofs.Scan.{WithinFrom, within_first, within_end, within_l
 use Rattle.file_form.proofs.leaving.Statement.{statement}
 use Rattle.file_form.proofs.leaving.Tie as tie
 
-abbrev invariant-loop : tie.invariant-loop
-invariant-loop e w more j₀ j = WithinFrom w more e j
+abbrev invariant-loop-j : tie.invariant-loop-j
+invariant-loop-j e w more j₀ j = WithinFrom w more e j
 
-abbrev decreases-loop : tie.decreases-loop
-decreases-loop e w more j₀ j = length e - j
+abbrev decreases-loop-j : tie.decreases-loop-j
+decreases-loop-j e w more j₀ j = length e - j
 
-loop-holds : tie.Need-loop-init invariant-loop decreases-loop
-loop-holds c = let x = c.before.args in within_first x.w x.more x.e.now (omega arith)
+loop-j-init : tie.Need-loop-j-init invariant-loop-j decreases-loop-j
+loop-j-init c = let x = c.args in within_first x.w x.more x.e.now (omega arith)
 
-shared-slice-read-wide : tie.Need-shared-slice-read-wide invariant-loop decreases-loop
-shared-slice-read-wide c = search rules
+bounds-e-j : tie.Need-bounds-e-j invariant-loop-j decreases-loop-j
+bounds-e-j c = search rules
 
-wide-requires : tie.Need-wide-requires invariant-loop decreases-loop
-wide-requires c κs = search rules
+wide-x-requires : tie.Need-wide-x-requires invariant-loop-j decreases-loop-j
+wide-x-requires c κs = search rules
 
-sub-last-byte : tie.Need-overflow-sub-last-byte invariant-loop decreases-loop
-sub-last-byte c = search rules
+overflow_sub-w : tie.Need-overflow_sub-w invariant-loop-j decreases-loop-j
+overflow_sub-w c = search rules
 
-last-byte-requires : tie.Need-last-byte-requires invariant-loop decreases-loop
-last-byte-requires c κs = search rules
+last_byte-z-requires : tie.Need-last_byte-z-requires invariant-loop-j decreases-loop-j
+last_byte-z-requires c κs = search rules
 
-returns : tie.Need-returns invariant-loop decreases-loop
-returns c = within_less c.before.before.before.before.before.loop.invariant (omega arith) (omega arith)
+returns-then-x-z : tie.Need-returns-then-x-z invariant-loop-j decreases-loop-j
+returns-then-x-z c = within_less c.loop-j.invariant (omega arith) (omega arith)
 
-returns-2 : tie.Need-returns-2 invariant-loop decreases-loop
-returns-2 c = within_more c.before.before.before.before.before.before.loop.invariant (omega arith) (omega arith)
+returns-then-z-x : tie.Need-returns-then-z-x invariant-loop-j decreases-loop-j
+returns-then-z-x c = within_more c.loop-j.invariant (omega arith) (omega arith)
 
-add-j : tie.Need-overflow-add-j invariant-loop decreases-loop
-add-j c = search rules
+overflow_add-j : tie.Need-overflow_add-j invariant-loop-j decreases-loop-j
+overflow_add-j c = search rules
 
-loop-less : tie.Need-loop-smaller invariant-loop decreases-loop
-loop-less c = search rules
+loop-j-smaller : tie.Need-loop-j-smaller invariant-loop-j decreases-loop-j
+loop-j-smaller c = search rules
 
-loop-again : tie.Need-loop-preserved invariant-loop decreases-loop
-loop-again c = within_go c.before.before.before.before.before.before.loop.invariant (omega arith) (omega arith)
+loop-j-preserved : tie.Need-loop-j-preserved invariant-loop-j decreases-loop-j
+loop-j-preserved c = within_go c.loop-j.invariant (omega arith) (omega arith)
 
-returns-3 : tie.Need-returns-3 invariant-loop decreases-loop
-returns-3 c = within_end c.before.loop.invariant (omega arith)
+returns : tie.Need-returns invariant-loop-j decreases-loop-j
+returns c = within_end c.loop-j.invariant (omega arith)
 
-pub leaving-spec : {M : Type 1} → statement M
-leaving-spec =
+pub leaving_spec : {M : Type 1} → statement M
+leaving_spec =
     tie.close
     (tie.spec
-    invariant-loop
-    decreases-loop
-    loop-holds
-    shared-slice-read-wide
-    wide-requires
-    sub-last-byte
-    last-byte-requires
-    returns
-    returns-2
-    add-j
-    loop-less
-    loop-again
-    returns-3)
+    invariant-loop-j
+    decreases-loop-j
+    loop-j-init
+    bounds-e-j
+    wide-x-requires
+    overflow_sub-w
+    last_byte-z-requires
+    returns-then-x-z
+    returns-then-z-x
+    overflow_add-j
+    loop-j-smaller
+    loop-j-preserved
+    returns)

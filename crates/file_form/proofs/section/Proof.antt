@@ -5,129 +5,124 @@ use Rattle.file_form.proofs.Sections.{Left, walked_short, left_first, left_stop,
 use Rattle.file_form.proofs.section.Statement.{statement}
 use Rattle.file_form.proofs.section.Tie as tie
 
-abbrev invariant-loop : tie.invariant-loop
-invariant-loop file at w left₀ here₀ before₀ left here before = Left w file at before here left
+abbrev invariant-loop-left : tie.invariant-loop-left
+invariant-loop-left file at w left₀ here₀ before₀ left here before = Left w file at before here left
 
-abbrev decreases-loop : tie.decreases-loop
-decreases-loop file at w left₀ here₀ before₀ left here before = left
+abbrev decreases-loop-left : tie.decreases-loop-left
+decreases-loop-left file at w left₀ here₀ before₀ left here before = left
 
-sub-if1 : tie.Need-overflow-sub-if1 invariant-loop decreases-loop
-sub-if1 c = search rules
+overflow_sub-file : tie.Need-overflow_sub-file invariant-loop-left decreases-loop-left
+overflow_sub-file c = search rules
 
-returns : tie.Need-returns invariant-loop decreases-loop
-returns c =
-    let start = c.before.before in
-    let x = start.args in
-    walked_short x.w x.file.now x.at start.requires.1 (λ i. (c.before.shared-slice-known.given i).fits) start.requires.0 c.if1.true
+returns-then-file-at-lt-COUNT : tie.Need-returns-then-file-at-lt-COUNT invariant-loop-left decreases-loop-left
+returns-then-file-at-lt-COUNT c =
+    let x = c.args in
+    walked_short x.w x.file.now x.at c.requires.1 (λ i. (c.shared_slice_known-1.given i).fits) c.requires.0 c.if-file-at-lt-COUNT.true
 
-shared-slice-read-wide : tie.Need-shared-slice-read-wide invariant-loop decreases-loop
-shared-slice-read-wide c = search rules
+bounds-file-at : tie.Need-bounds-file-at invariant-loop-left decreases-loop-left
+bounds-file-at c = search rules
 
-wide-requires : tie.Need-wide-requires invariant-loop decreases-loop
+wide-requires : tie.Need-wide-requires invariant-loop-left decreases-loop-left
 wide-requires c κs = search rules
 
-add_wide : tie.Need-overflow-add-wide invariant-loop decreases-loop
-add_wide c = search rules
+overflow_add-at : tie.Need-overflow_add-at invariant-loop-left decreases-loop-left
+overflow_add-at c = search rules
 
-shared-slice-read-wide-2 : tie.Need-shared-slice-read-wide-2 invariant-loop decreases-loop
-shared-slice-read-wide-2 c = search rules
+bounds-file-at-2 : tie.Need-bounds-file-at-2 invariant-loop-left decreases-loop-left
+bounds-file-at-2 c = search rules
 
-wide-requires-2 : tie.Need-wide-requires-2 invariant-loop decreases-loop
+wide-requires-2 : tie.Need-wide-requires-2 invariant-loop-left decreases-loop-left
 wide-requires-2 c κs = search rules
 
-mul_left : tie.Need-overflow-mul-left invariant-loop decreases-loop
-mul_left c = search rules
+overflow_mul-left : tie.Need-overflow_mul-left invariant-loop-left decreases-loop-left
+overflow_mul-left c = search rules
 
-add_left : tie.Need-overflow-add-left invariant-loop decreases-loop
-add_left c = search rules
+overflow_add-left : tie.Need-overflow_add-left invariant-loop-left decreases-loop-left
+overflow_add-left c = search rules
 
-add-here : tie.Need-overflow-add-here invariant-loop decreases-loop
-add-here c = search rules
+overflow_add-here : tie.Need-overflow_add-here invariant-loop-left decreases-loop-left
+overflow_add-here c = search rules
 
-loop-holds : tie.Need-loop-init invariant-loop decreases-loop
-loop-holds c =
-    let known = c.before.before.before.before.before in
-    let start = known.before in
-    let x = start.args in
-    let low = c.before.before.wide in
-    let high = c.wide2 in
-    left_first x.w x.file.now x.at start.requires.1 (λ i. (known.shared-slice-known.given i).fits) low.result high.result
+loop-left-init : tie.Need-loop-left-init invariant-loop-left decreases-loop-left
+loop-left-init c =
+    let x = c.args in
+    let low = c.wide in
+    let high = c.wide-2 in
+    left_first x.w x.file.now x.at c.requires.1 (λ i. (c.shared_slice_known-1.given i).fits) low.result high.result
     (omega arith) low.ensures.0 high.ensures.0
 
-sub-left : tie.Need-overflow-sub-left invariant-loop decreases-loop
-sub-left c = search rules
+overflow_sub-left : tie.Need-overflow_sub-left invariant-loop-left decreases-loop-left
+overflow_sub-left c = search rules
 
-reach-requires : tie.Need-reach-requires invariant-loop decreases-loop
-reach-requires c κs = search rules
+reach-end-requires : tie.Need-reach-end-requires invariant-loop-left decreases-loop-left
+reach-end-requires c κs = search rules
 
-sub-fitting : tie.Need-overflow-sub-fitting invariant-loop decreases-loop
-sub-fitting c = search rules
+slice_bounds-fitting-count : tie.Need-slice_bounds-fitting-count invariant-loop-left decreases-loop-left
+slice_bounds-fitting-count c = search rules
 
-part-fitting-start : tie.Need-slice-bounds-fitting-start invariant-loop decreases-loop
-part-fitting-start c = search rules
+slice_bounds-fitting-start : tie.Need-slice_bounds-fitting-start invariant-loop-left decreases-loop-left
+slice_bounds-fitting-start c = search rules
 
-part-fitting-end : tie.Need-slice-bounds-fitting-end invariant-loop decreases-loop
-part-fitting-end c = search rules
+slice_bounds-fitting-end : tie.Need-slice_bounds-fitting-end invariant-loop-left decreases-loop-left
+slice_bounds-fitting-end c = search rules
 
-sub-fitting-2 : tie.Need-overflow-sub-fitting-2 invariant-loop decreases-loop
-sub-fitting-2 c = search rules
+slice_bounds-fitting-count-in-loop-left : tie.Need-slice_bounds-fitting-count-in-loop-left invariant-loop-left decreases-loop-left
+slice_bounds-fitting-count-in-loop-left c = search rules
 
-part-fitting-start-2 : tie.Need-slice-bounds-fitting-start-2 invariant-loop decreases-loop
-part-fitting-start-2 c = search rules
+slice_bounds-fitting-start-in-loop-left : tie.Need-slice_bounds-fitting-start-in-loop-left invariant-loop-left decreases-loop-left
+slice_bounds-fitting-start-in-loop-left c = search rules
 
-part-fitting-end-2 : tie.Need-slice-bounds-fitting-end-2 invariant-loop decreases-loop
-part-fitting-end-2 c = search rules
+slice_bounds-fitting-end-in-loop-left : tie.Need-slice_bounds-fitting-end-in-loop-left invariant-loop-left decreases-loop-left
+slice_bounds-fitting-end-in-loop-left c = search rules
 
-fitting-requires : tie.Need-fitting-requires invariant-loop decreases-loop
-fitting-requires c κs = search rules
+fitting-good-requires : tie.Need-fitting-good-requires invariant-loop-left decreases-loop-left
+fitting-good-requires c κs = search rules
 
-returns-2 : tie.Need-returns-2 invariant-loop decreases-loop
-returns-2 c =
-    let at = c.before.before.before.before.before.before in
-    left_stop at.loop.invariant (omega arith) c.before.before.before.before.reach.ensures c.before.fitting.ensures c.if2.true
+returns-then-good-w : tie.Need-returns-then-good-w invariant-loop-left decreases-loop-left
+returns-then-good-w c =
+    left_stop c.loop-left.invariant (omega arith) c.reach-end.ensures c.fitting-good.ensures c.if-good-w.true
 
-add-t28 : tie.Need-overflow-add-t28 invariant-loop decreases-loop
-add-t28 c = omega (arith, (returns-2 c).inside)
+overflow_add-result : tie.Need-overflow_add-result invariant-loop-left decreases-loop-left
+overflow_add-result c = omega (arith, (returns-then-good-w c).inside)
 
-loop-less : tie.Need-loop-smaller invariant-loop decreases-loop
-loop-less c = search rules
+loop-left-smaller : tie.Need-loop-left-smaller invariant-loop-left decreases-loop-left
+loop-left-smaller c = search rules
 
-loop-again : tie.Need-loop-preserved invariant-loop decreases-loop
-loop-again c =
-    let at = c.before.before.before.before.before.before in
-    left_go at.loop.invariant (omega arith) c.before.before.before.before.reach.ensures c.before.fitting.ensures c.if2.false
+loop-left-preserved : tie.Need-loop-left-preserved invariant-loop-left decreases-loop-left
+loop-left-preserved c =
+    left_go c.loop-left.invariant (omega arith) c.reach-end.ensures c.fitting-good.ensures c.if-good-w.false
 
-returns-3 : tie.Need-returns-3 invariant-loop decreases-loop
-returns-3 c = left_done c.before.loop.invariant (omega arith)
+returns : tie.Need-returns invariant-loop-left decreases-loop-left
+returns c = left_done c.loop-left.invariant (omega arith)
 
-pub section-spec : {M : Type 1} → statement M
-section-spec =
+pub section_spec : {M : Type 1} → statement M
+section_spec =
     tie.close
     (tie.spec
-    invariant-loop
-    decreases-loop
-    sub-if1
-    returns
-    shared-slice-read-wide
+    invariant-loop-left
+    decreases-loop-left
+    overflow_sub-file
+    returns-then-file-at-lt-COUNT
+    bounds-file-at
     wide-requires
-    add_wide
-    shared-slice-read-wide-2
+    overflow_add-at
+    bounds-file-at-2
     wide-requires-2
-    mul_left
-    add_left
-    add-here
-    loop-holds
-    sub-left
-    reach-requires
-    sub-fitting
-    part-fitting-start
-    part-fitting-end
-    sub-fitting-2
-    part-fitting-start-2
-    part-fitting-end-2
-    fitting-requires
-    add-t28
-    returns-2
-    loop-less
-    loop-again
-    returns-3)
+    overflow_mul-left
+    overflow_add-left
+    overflow_add-here
+    loop-left-init
+    overflow_sub-left
+    reach-end-requires
+    slice_bounds-fitting-count
+    slice_bounds-fitting-start
+    slice_bounds-fitting-end
+    slice_bounds-fitting-count-in-loop-left
+    slice_bounds-fitting-start-in-loop-left
+    slice_bounds-fitting-end-in-loop-left
+    fitting-good-requires
+    overflow_add-result
+    returns-then-good-w
+    loop-left-smaller
+    loop-left-preserved
+    returns)

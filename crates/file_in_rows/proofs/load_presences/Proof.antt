@@ -6,45 +6,45 @@ use Rattle.file_in_rows.proofs.LoadedLaws.{too_many_presences, presences_loaded}
 use Rattle.file_in_rows.proofs.load_presences.Statement.{statement}
 use Rattle.file_in_rows.proofs.load_presences.Tie as tie
 
-count-requires : tie.Need-count-requires
-count-requires c κs = search rules
+count-n-requires : tie.Need-count-n-requires
+count-n-requires c κs = search rules
 
-returns : tie.Need-returns
-returns c = too_many_presences c.before.count.ensures (omega arith) c.before.before.before.before.args.area.now _
+returns-then-n-gt-PRESENCES : tie.Need-returns-then-n-gt-PRESENCES
+returns-then-n-gt-PRESENCES c = too_many_presences c.count-n.ensures (omega arith) c.args.area.now _
 
-add-put-presences : tie.Need-overflow-add-put-presences
-add-put-presences c = omega (arith, c.before.count.ensures.fits (omega arith))
+overflow_add-at : tie.Need-overflow_add-at
+overflow_add-at c = omega (arith, c.count-n.ensures.fits (omega arith))
 
-put-presences-requires : tie.Need-put-presences-requires
-put-presences-requires c κs =
-    let fits = c.before.before.count.ensures.fits (omega arith) in
+put_presences-requires : tie.Need-put_presences-requires
+put_presences-requires c κs =
+    let fits = c.count-n.ensures.fits (omega arith) in
     (omega arith, (omega arith, omega arith))
 
-add-result : tie.Need-overflow-add-result
-add-result c = omega (arith, c.before.before.before.before.before.count.ensures.fits (omega arith))
+overflow_add-result : tie.Need-overflow_add-result
+overflow_add-result c = omega (arith, c.count-n.ensures.fits (omega arith))
 
-mul-result : tie.Need-overflow-mul-result
-mul-result c = search rules
+overflow_mul-result : tie.Need-overflow_mul-result
+overflow_mul-result c = search rules
 
-add-result-2 : tie.Need-overflow-add-result-2
-add-result-2 c = omega (arith, c.before.before.before.before.before.count.ensures.fits (omega arith))
+overflow_add-result-2 : tie.Need-overflow_add-result-2
+overflow_add-result-2 c = omega (arith, c.count-n.ensures.fits (omega arith))
 
-same_length : tie.Need-same-length
-same_length c = search rules
+shape_of-area : tie.Need-shape_of-area
+shape_of-area c = search rules
 
-returns-2 : tie.Need-returns-2
-returns-2 c = presences_loaded c.before.before.before.before.before.count.ensures c.before.before.put-presences.ensures
+returns : tie.Need-returns
+returns c = presences_loaded c.count-n.ensures c.put_presences.ensures
 
-pub load-presences-spec : {M : Type 1} → statement M
-load-presences-spec =
+pub load_presences_spec : {M : Type 1} → statement M
+load_presences_spec =
     tie.close
     (tie.spec
-    count-requires
-    returns
-    add-put-presences
-    put-presences-requires
-    add-result
-    mul-result
-    add-result-2
-    same_length
-    returns-2)
+    count-n-requires
+    returns-then-n-gt-PRESENCES
+    overflow_add-at
+    put_presences-requires
+    overflow_add-result
+    overflow_mul-result
+    overflow_add-result-2
+    shape_of-area
+    returns)

@@ -6,58 +6,55 @@ use Rattle.file_in_rows.proofs.LoadedLaws.{too_many_rows, table_loaded}
 use Rattle.file_in_rows.proofs.load_table.Statement.{statement}
 use Rattle.file_in_rows.proofs.load_table.Tie as tie
 
-count-requires : tie.Need-count-requires
-count-requires c κs = search rules
+count-n-requires : tie.Need-count-n-requires
+count-n-requires c κs = search rules
 
-returns : tie.Need-returns
-returns c =
-    let x = c.before.before.before.before in
-    too_many_rows c.before.count.ensures x.requires.1.0 (omega arith) x.args.area.now x.args.to _
+returns-then-most-n : tie.Need-returns-then-most-n
+returns-then-most-n c =
+    too_many_rows c.count-n.ensures c.requires.1.0 (omega arith) c.args.area.now c.args.to _
 
-add_start : tie.Need-overflow-add-start
-add_start c = omega (arith, c.before.count.ensures.fits (omega arith))
+overflow_add-start : tie.Need-overflow_add-start
+overflow_add-start c = omega (arith, c.count-n.ensures.fits (omega arith))
 
-mul-end : tie.Need-overflow-mul-end
-mul-end c = omega (arith, c.before.count.ensures.fits (omega arith))
+overflow_mul-end : tie.Need-overflow_mul-end
+overflow_mul-end c = omega (arith, c.count-n.ensures.fits (omega arith))
 
-add-end : tie.Need-overflow-add-end
-add-end c = omega (arith, c.before.count.ensures.fits (omega arith))
+overflow_add-end : tie.Need-overflow_add-end
+overflow_add-end c = omega (arith, c.count-n.ensures.fits (omega arith))
 
-sub-write : tie.Need-overflow-sub-write
-sub-write c = search rules
+slice_bounds-write-count : tie.Need-slice_bounds-write-count
+slice_bounds-write-count c = search rules
 
-part-write-start : tie.Need-slice-bounds-write-start
-part-write-start c = search rules
+slice_bounds-write-start : tie.Need-slice_bounds-write-start
+slice_bounds-write-start c = search rules
 
-part-write-end : tie.Need-slice-bounds-write-end
-part-write-end c = omega (arith, c.before.before.count.ensures.fits (omega arith))
+slice_bounds-write-end : tie.Need-slice_bounds-write-end
+slice_bounds-write-end c = omega (arith, c.count-n.ensures.fits (omega arith))
 
 write-requires : tie.Need-write-requires
 write-requires c κs =
-    let x = c.before.before.before.before.before.before in
-    let few = mul-le-mul_right x.args.w c.before.before.if1.false in
-    omega (arith, c.before.before.before.count.ensures.fits (omega arith))
+    let few = mul-le-mul_right c.args.w c.if-most-n.false in
+    omega (arith, c.count-n.ensures.fits (omega arith))
 
-same_length : tie.Need-same-length
-same_length c = search rules
+shape_of-area : tie.Need-shape_of-area
+shape_of-area c = search rules
 
-returns-2 : tie.Need-returns-2
-returns-2 c =
-    let x = c.before.before.before.before.before.before.before.before.before in
-    table_loaded c.before.before.before.before.before.before.count.ensures x.requires.1.0 c.before.before.write.ensures
+returns : tie.Need-returns
+returns c =
+    table_loaded c.count-n.ensures c.requires.1.0 c.write.ensures
 
-pub load-table-spec : {M : Type 1} → statement M
-load-table-spec =
+pub load_table_spec : {M : Type 1} → statement M
+load_table_spec =
     tie.close
     (tie.spec
-    count-requires
-    returns
-    add_start
-    mul-end
-    add-end
-    sub-write
-    part-write-start
-    part-write-end
+    count-n-requires
+    returns-then-most-n
+    overflow_add-start
+    overflow_mul-end
+    overflow_add-end
+    slice_bounds-write-count
+    slice_bounds-write-start
+    slice_bounds-write-end
     write-requires
-    same_length
-    returns-2)
+    shape_of-area
+    returns)

@@ -4,85 +4,84 @@ use Rattle.file_in_rows.proofs.EntryLaws.{row_made}
 use Rattle.file_in_rows.proofs.presence_row.Statement.{statement}
 use Rattle.file_in_rows.proofs.presence_row.Tie as tie
 
-shared-slice-read-row : tie.Need-shared-slice-read-row
-shared-slice-read-row c = search rules
+bounds-file-at : tie.Need-bounds-file-at
+bounds-file-at c = search rules
 
-array-write-row : tie.Need-array-write-row
-array-write-row c = search rules
+bounds-row-0 : tie.Need-bounds-row-0
+bounds-row-0 c = search rules
 
-add_row : tie.Need-overflow-add-row
-add_row c = search rules
+overflow_add-row : tie.Need-overflow_add-row
+overflow_add-row c = search rules
 
-shared-slice-read-row-2 : tie.Need-shared-slice-read-row-2
-shared-slice-read-row-2 c = search rules
+bounds-file-at-2 : tie.Need-bounds-file-at-2
+bounds-file-at-2 c = search rules
 
-array-write-row-2 : tie.Need-array-write-row-2
-array-write-row-2 c = search rules
+bounds-row-17 : tie.Need-bounds-row-17
+bounds-row-17 c = search rules
 
-add-row-2 : tie.Need-overflow-add-row-2
-add-row-2 c = search rules
+overflow_add-row-2 : tie.Need-overflow_add-row-2
+overflow_add-row-2 c = search rules
 
-shared-slice-read-row-3 : tie.Need-shared-slice-read-row-3
-shared-slice-read-row-3 c = search rules
+bounds-file-at-3 : tie.Need-bounds-file-at-3
+bounds-file-at-3 c = search rules
 
-array-write-row-3 : tie.Need-array-write-row-3
-array-write-row-3 c = search rules
+bounds-row-18 : tie.Need-bounds-row-18
+bounds-row-18 c = search rules
 
-add-row-3 : tie.Need-overflow-add-row-3
-add-row-3 c = search rules
+overflow_add-row-3 : tie.Need-overflow_add-row-3
+overflow_add-row-3 c = search rules
 
-shared-slice-read-row-4 : tie.Need-shared-slice-read-row-4
-shared-slice-read-row-4 c = search rules
+bounds-file-at-4 : tie.Need-bounds-file-at-4
+bounds-file-at-4 c = search rules
 
-array-write-row-4 : tie.Need-array-write-row-4
-array-write-row-4 c = search rules
+bounds-row-19 : tie.Need-bounds-row-19
+bounds-row-19 c = search rules
 
-add-name : tie.Need-overflow-add-name
-add-name c = search rules
+overflow_add-name : tie.Need-overflow_add-name
+overflow_add-name c = search rules
 
-add-end : tie.Need-overflow-add-end
-add-end c = search rules
+overflow_add-end : tie.Need-overflow_add-end
+overflow_add-end c = search rules
 
-slice-aggregate-write : tie.Need-slice-aggregate-write
-slice-aggregate-write c = search rules
+slice_bounds-write-end : tie.Need-slice_bounds-write-end
+slice_bounds-write-end c = search rules
 
-sub-write : tie.Need-overflow-sub-write
-sub-write c = search rules
+slice_bounds-write-count : tie.Need-slice_bounds-write-count
+slice_bounds-write-count c = search rules
 
-part-write-start : tie.Need-slice-bounds-write-start
-part-write-start c = search rules
+slice_bounds-write-start : tie.Need-slice_bounds-write-start
+slice_bounds-write-start c = search rules
 
-part-write-end : tie.Need-slice-bounds-write-end
-part-write-end c = search rules
+slice_bounds-write-end-2 : tie.Need-slice_bounds-write-end-2
+slice_bounds-write-end-2 c = search rules
 
 write-requires : tie.Need-write-requires
 write-requires c κs = search rules
 
 returns : tie.Need-returns
 returns c =
-    let x = c.before.before.before.before.before.before.before.before.before in
-    row_made x.args.file.now _ x.args.at x.requires c.before.write.ensures
+    row_made c.args.file.now _ c.args.at c.requires c.write.ensures
 
-pub presence-row-spec : {M : Type 1} → statement M
-presence-row-spec =
+pub presence_row_spec : {M : Type 1} → statement M
+presence_row_spec =
     tie.close
     (tie.spec
-    shared-slice-read-row
-    array-write-row
-    add_row
-    shared-slice-read-row-2
-    array-write-row-2
-    add-row-2
-    shared-slice-read-row-3
-    array-write-row-3
-    add-row-3
-    shared-slice-read-row-4
-    array-write-row-4
-    add-name
-    add-end
-    slice-aggregate-write
-    sub-write
-    part-write-start
-    part-write-end
+    bounds-file-at
+    bounds-row-0
+    overflow_add-row
+    bounds-file-at-2
+    bounds-row-17
+    overflow_add-row-2
+    bounds-file-at-3
+    bounds-row-18
+    overflow_add-row-3
+    bounds-file-at-4
+    bounds-row-19
+    overflow_add-name
+    overflow_add-end
+    slice_bounds-write-end
+    slice_bounds-write-count
+    slice_bounds-write-start
+    slice_bounds-write-end-2
     write-requires
     returns)

@@ -8,69 +8,69 @@ use Rattle.file_in_rows.proofs.LoadedLaws.{Turns, no_turn, next_turn, all_turns}
 use Rattle.file_in_rows.proofs.put_presences.Statement.{statement}
 use Rattle.file_in_rows.proofs.put_presences.Tie as tie
 
-abbrev invariant-loop : tie.invariant-loop
-invariant-loop file at n area₀ i₀ area i = (i ≤ n) × (length area ≡ length area₀) × Turns file at n area₀ i area
+abbrev invariant-loop-i : tie.invariant-loop-i
+invariant-loop-i file at n area₀ i₀ area i = (i ≤ n) × (length area ≡ length area₀) × Turns file at n area₀ i area
 
-abbrev decreases-loop : tie.decreases-loop
-decreases-loop file at n area₀ i₀ area i = n - i
+abbrev decreases-loop-i : tie.decreases-loop-i
+decreases-loop-i file at n area₀ i₀ area i = n - i
 
-loop-holds : tie.Need-loop-init invariant-loop decreases-loop
-loop-holds c = let x = c.before.before.args in (omega arith, refl, no_turn x.file.now x.at x.n x.area.now)
+loop-i-init : tie.Need-loop-i-init invariant-loop-i decreases-loop-i
+loop-i-init c = let x = c.args in (omega arith, refl, no_turn x.file.now x.at x.n x.area.now)
 
-mul-presence-row : tie.Need-overflow-mul-presence-row invariant-loop decreases-loop
-mul-presence-row c = search rules
+overflow_mul-i : tie.Need-overflow_mul-i invariant-loop-i decreases-loop-i
+overflow_mul-i c = search rules
 
-add-presence-row : tie.Need-overflow-add-presence-row invariant-loop decreases-loop
-add-presence-row c = search rules
+overflow_add-at : tie.Need-overflow_add-at invariant-loop-i decreases-loop-i
+overflow_add-at c = search rules
 
-presence-row-requires : tie.Need-presence-row-requires invariant-loop decreases-loop
-presence-row-requires c κs = search rules
+presence_row-row-requires : tie.Need-presence_row-row-requires invariant-loop-i decreases-loop-i
+presence_row-row-requires c κs = search rules
 
-slice-aggregate-put-row : tie.Need-slice-aggregate-put-row invariant-loop decreases-loop
-slice-aggregate-put-row c = search rules
+slice_bounds-put_row-end : tie.Need-slice_bounds-put_row-end invariant-loop-i decreases-loop-i
+slice_bounds-put_row-end c = search rules
 
-put-row-requires : tie.Need-put-row-requires invariant-loop decreases-loop
-put-row-requires c κs = search rules
+put_row-requires : tie.Need-put_row-requires invariant-loop-i decreases-loop-i
+put_row-requires c κs = search rules
 
-add-i : tie.Need-overflow-add-i invariant-loop decreases-loop
-add-i c = search rules
+overflow_add-i : tie.Need-overflow_add-i invariant-loop-i decreases-loop-i
+overflow_add-i c = search rules
 
-loop-less : tie.Need-loop-smaller invariant-loop decreases-loop
-loop-less c = search rules
+loop-i-smaller : tie.Need-loop-i-smaller invariant-loop-i decreases-loop-i
+loop-i-smaller c = search rules
 
-loop-again : tie.Need-loop-preserved invariant-loop decreases-loop
-loop-again c =
-    let x = c.before.before.before.before.before.before.before.before.before.before.args in
-    let at = c.before.before.before.before.before.before.before.loop in (
+loop-i-preserved : tie.Need-loop-i-preserved invariant-loop-i decreases-loop-i
+loop-i-preserved c =
+    let x = c.args in
+    let at = c.loop-i in (
       omega arith,
       search rules,
-      next_turn x.file.now x.at x.n x.area.now at.i (omega arith) c.before.before.before.before.before.presence_row.ensures
-          c.before.before.put-row.ensures at.invariant.2,
+      next_turn x.file.now x.at x.n x.area.now at.i (omega arith) c.presence_row-row.ensures
+          c.put_row.ensures at.invariant.2,
     )
 
-same_length : tie.Need-same-length invariant-loop decreases-loop
-same_length c = c.before.loop.invariant.1
+shape_of-area : tie.Need-shape_of-area invariant-loop-i decreases-loop-i
+shape_of-area c = c.loop-i.invariant.1
 
-returns : tie.Need-returns invariant-loop decreases-loop
+returns : tie.Need-returns invariant-loop-i decreases-loop-i
 returns c =
-    let x = c.before.before.before.before.args in
-    let at = c.before.loop in
+    let x = c.args in
+    let at = c.loop-i in
     all_turns x.file.now x.at x.n x.area.now at.i (omega arith) at.invariant.2
 
-pub put-presences-spec : {M : Type 1} → statement M
-put-presences-spec =
+pub put_presences_spec : {M : Type 1} → statement M
+put_presences_spec =
     tie.close
     (tie.spec
-    invariant-loop
-    decreases-loop
-    loop-holds
-    mul-presence-row
-    add-presence-row
-    presence-row-requires
-    slice-aggregate-put-row
-    put-row-requires
-    add-i
-    loop-less
-    loop-again
-    same_length
+    invariant-loop-i
+    decreases-loop-i
+    loop-i-init
+    overflow_mul-i
+    overflow_add-at
+    presence_row-row-requires
+    slice_bounds-put_row-end
+    put_row-requires
+    overflow_add-i
+    loop-i-smaller
+    loop-i-preserved
+    shape_of-area
     returns)

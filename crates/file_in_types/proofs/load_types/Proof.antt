@@ -8,34 +8,30 @@ use Rattle.file_in_types.proofs.load_types.Tie as tie
 clear-requires : tie.Need-clear-requires
 clear-requires c κs = search rules
 
-put-section-requires : tie.Need-put-section-requires
-put-section-requires c κs = search rules
+put_section-types_at-requires : tie.Need-put_section-types_at-requires
+put_section-types_at-requires c κs = search rules
 
-put-section-requires-2 : tie.Need-put-section-requires-2
-put-section-requires-2 c κs = search rules
+put_section-parents_at-requires : tie.Need-put_section-parents_at-requires
+put_section-parents_at-requires c κs = search rules
 
-put-section-requires-3 : tie.Need-put-section-requires-3
-put-section-requires-3 c κs = search rules
+put_section-requires : tie.Need-put_section-requires
+put_section-requires c κs = search rules
 
-same_length : tie.Need-same-length
-same_length c = search rules
+shape_of-area : tie.Need-shape_of-area
+shape_of-area c = search rules
 
 returns : tie.Need-returns
 returns c =
-    let third = c.before.before in
-    let second = third.before.before.before.before in
-    let first = second.before.before.before.before in
-    let cleared = first.before.before.before.before in
-    types_loaded cleared.before.before.before.before.requires cleared.clear.ensures first.put-section.ensures second.put-section2.ensures
-    third.put-section3.ensures
+    types_loaded c.requires c.clear.ensures c.put_section-types_at.ensures c.put_section-parents_at.ensures
+    c.put_section.ensures
 
-pub load-types-spec : {M : Type 1} → statement M
-load-types-spec =
+pub load_types_spec : {M : Type 1} → statement M
+load_types_spec =
     tie.close
     (tie.spec
     clear-requires
-    put-section-requires
-    put-section-requires-2
-    put-section-requires-3
-    same_length
+    put_section-types_at-requires
+    put_section-parents_at-requires
+    put_section-requires
+    shape_of-area
     returns)

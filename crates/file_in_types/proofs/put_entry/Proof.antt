@@ -6,48 +6,47 @@ use Rattle.file_in_types.specs.Steps.{width_of}
 use Rattle.file_in_types.proofs.put_entry.Statement.{statement}
 use Rattle.file_in_types.proofs.put_entry.Tie as tie
 
-put-sds-requires : tie.Need-put-sds-requires
-put-sds-requires c κs = let (below, (wide, long)) = c.before.before.before.before.requires in (wide ∙ ap width_of c.before.if1.true, long)
+put_sds-requires : tie.Need-put_sds-requires
+put_sds-requires c κs = let (below, (wide, long)) = c.requires in (wide ∙ ap width_of c.if-which-eq-SDSS.true, long)
 
-same_length : tie.Need-same-length
-same_length c = search rules
+shape_of-area-then-which-eq-SDSS : tie.Need-shape_of-area-then-which-eq-SDSS
+shape_of-area-then-which-eq-SDSS c = search rules
+
+returns-then-which-eq-SDSS : tie.Need-returns-then-which-eq-SDSS
+returns-then-which-eq-SDSS c = rw c.if-which-eq-SDSS.true c.put_sds.ensures
+
+put_type-requires : tie.Need-put_type-requires
+put_type-requires c κs = let (below, (wide, long)) = c.requires in (wide ∙ ap width_of c.if-which-eq-TYPES.true, long)
+
+shape_of-area-then-which-eq-TYPES : tie.Need-shape_of-area-then-which-eq-TYPES
+shape_of-area-then-which-eq-TYPES c = search rules
+
+returns-then-which-eq-TYPES : tie.Need-returns-then-which-eq-TYPES
+returns-then-which-eq-TYPES c = rw c.if-which-eq-TYPES.true c.put_type.ensures
+
+put_parent-requires : tie.Need-put_parent-requires
+put_parent-requires c κs =
+    let (below, (wide, long)) = c.requires in
+    let e : c.args.which ≡ 2 = omega arith in (wide ∙ ap width_of e, long)
+
+shape_of-area : tie.Need-shape_of-area
+shape_of-area c = search rules
 
 returns : tie.Need-returns
-returns c = rw c.before.before.before.before.if1.true c.before.before.put-sds.ensures
+returns c =
+    let e : c.args.which ≡ 2 = omega arith in
+    rw e c.put_parent.ensures
 
-put-type-requires : tie.Need-put-type-requires
-put-type-requires c κs = let (below, (wide, long)) = c.before.before.before.before.before.requires in (wide ∙ ap width_of c.before.if2.true, long)
-
-same-length-2 : tie.Need-same-length-2
-same-length-2 c = search rules
-
-returns-2 : tie.Need-returns-2
-returns-2 c = rw c.before.before.before.before.if2.true c.before.before.put-type.ensures
-
-put-parent-requires : tie.Need-put-parent-requires
-put-parent-requires c κs =
-    let x = c.before.before.before.before.before in
-    let (below, (wide, long)) = x.requires in
-    let e : x.args.which ≡ 2 = omega arith in (wide ∙ ap width_of e, long)
-
-same-length-3 : tie.Need-same-length-3
-same-length-3 c = search rules
-
-returns-3 : tie.Need-returns-3
-returns-3 c =
-    let e : c.before.before.before.before.before.before.before.before.args.which ≡ 2 = omega arith in
-    rw e c.before.before.put-parent.ensures
-
-pub put-entry-spec : {M : Type 1} → statement M
-put-entry-spec =
+pub put_entry_spec : {M : Type 1} → statement M
+put_entry_spec =
     tie.close
     (tie.spec
-    put-sds-requires
-    same_length
-    returns
-    put-type-requires
-    same-length-2
-    returns-2
-    put-parent-requires
-    same-length-3
-    returns-3)
+    put_sds-requires
+    shape_of-area-then-which-eq-SDSS
+    returns-then-which-eq-SDSS
+    put_type-requires
+    shape_of-area-then-which-eq-TYPES
+    returns-then-which-eq-TYPES
+    put_parent-requires
+    shape_of-area
+    returns)

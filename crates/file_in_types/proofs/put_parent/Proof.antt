@@ -11,93 +11,82 @@ use Rattle.file_in_types.proofs.StepLaws.{parent_past, parent_full, parent_done}
 use Rattle.file_in_types.proofs.put_parent.Statement.{statement}
 use Rattle.file_in_types.proofs.put_parent.Tie as tie
 
-byte-requires : tie.Need-byte-requires
-byte-requires c κs = search rules
+byte-t-requires : tie.Need-byte-t-requires
+byte-t-requires c κs = search rules
+
+returns-then-t-ge-TYPES : tie.Need-returns-then-t-ge-TYPES
+returns-then-t-ge-TYPES c =
+    parent_past c.args.entry.now c.args.area.now c.byte-t.result c.byte-t.ensures.is (omega arith)
+
+parent_count-n-requires : tie.Need-parent_count-n-requires
+parent_count-n-requires c κs = search rules
+
+shape_of-area-then-n-ge-MOST_PARENTS : tie.Need-shape_of-area-then-n-ge-MOST_PARENTS
+shape_of-area-then-n-ge-MOST_PARENTS c = search rules
+
+returns-then-n-ge-MOST_PARENTS : tie.Need-returns-then-n-ge-MOST_PARENTS
+returns-then-n-ge-MOST_PARENTS c =
+    parent_full c.args.entry.now c.args.area.now c.byte-t.result c.byte-t.ensures.is (omega arith) c.parent_count-n.result
+    c.parent_count-n.ensures.is (omega arith)
+
+overflow_mul-at : tie.Need-overflow_mul-at
+overflow_mul-at c = search rules
+
+overflow_add-at : tie.Need-overflow_add-at
+overflow_add-at c = search rules
+
+bounds-entry-1 : tie.Need-bounds-entry-1
+bounds-entry-1 c = search rules
+
+overflow_add-area : tie.Need-overflow_add-area
+overflow_add-area c = search rules
+
+overflow_add-area-2 : tie.Need-overflow_add-area-2
+overflow_add-area-2 c = search rules
+
+bounds-area-at : tie.Need-bounds-area-at
+bounds-area-at c = search rules
+
+overflow_add-area-3 : tie.Need-overflow_add-area-3
+overflow_add-area-3 c = search rules
+
+overflow_cast-area : tie.Need-overflow_cast-area
+overflow_cast-area c = search rules
+
+overflow_add-area-4 : tie.Need-overflow_add-area-4
+overflow_add-area-4 c = search rules
+
+bounds-area-at-2 : tie.Need-bounds-area-at-2
+bounds-area-at-2 c =
+    let at = type_at c.byte-t.result + parents_offset + c.parent_count-n.result in
+    omega (arith, length-set c.args.area.now at (get_or c.args.entry.now 1 0))
+
+shape_of-area : tie.Need-shape_of-area
+shape_of-area c = search rules
 
 returns : tie.Need-returns
 returns c =
-    let read = c.before in
-    let x = read.before.before.before in
-    parent_past x.args.entry.now x.args.area.now read.byte.result read.byte.ensures.is (omega arith)
+    parent_done c.args.entry.now c.args.area.now c.byte-t.result c.byte-t.ensures.is (omega arith) c.parent_count-n.result
+    c.parent_count-n.ensures.is (omega arith) refl
 
-parent-count-requires : tie.Need-parent-count-requires
-parent-count-requires c κs = search rules
-
-same_length : tie.Need-same-length
-same_length c = search rules
-
-returns-2 : tie.Need-returns-2
-returns-2 c =
-    let counted = c.before in
-    let read = counted.before.before.before in
-    let x = read.before.before.before in
-    parent_full x.args.entry.now x.args.area.now read.byte.result read.byte.ensures.is (omega arith) counted.parent_count.result
-    counted.parent_count.ensures.is (omega arith)
-
-mul_at : tie.Need-overflow-mul-at
-mul_at c = search rules
-
-add_at : tie.Need-overflow-add-at
-add_at c = search rules
-
-shared-slice-read-area : tie.Need-shared-slice-read-area
-shared-slice-read-area c = search rules
-
-add-area : tie.Need-overflow-add-area
-add-area c = search rules
-
-add-area-2 : tie.Need-overflow-add-area-2
-add-area-2 c = search rules
-
-slice-write-area : tie.Need-slice-write-area
-slice-write-area c = search rules
-
-add-area-3 : tie.Need-overflow-add-area-3
-add-area-3 c = search rules
-
-cast-area : tie.Need-overflow-cast-area
-cast-area c = search rules
-
-add-area-4 : tie.Need-overflow-add-area-4
-add-area-4 c = search rules
-
-slice-write-area-2 : tie.Need-slice-write-area-2
-slice-write-area-2 c =
-    let counted = c.before.before in
-    let read = counted.before.before.before in
-    let x = read.before.before.before in
-    let at = type_at read.byte.result + parents_offset + counted.parent_count.result in
-    omega (arith, length-set x.args.area.now at (get_or x.args.entry.now 1 0))
-
-same-length-2 : tie.Need-same-length-2
-same-length-2 c = search rules
-
-returns-3 : tie.Need-returns-3
-returns-3 c =
-    let counted = c.before.before in
-    let read = counted.before.before.before in
-    let x = read.before.before.before in
-    parent_done x.args.entry.now x.args.area.now read.byte.result read.byte.ensures.is (omega arith) counted.parent_count.result
-    counted.parent_count.ensures.is (omega arith) refl
-
-pub put-parent-spec : {M : Type 1} → statement M
-put-parent-spec =
+pub put_parent_spec : {M : Type 1} → statement M
+put_parent_spec =
     tie.close
     (tie.spec
-    byte-requires
-    returns
-    parent-count-requires
-    same_length
-    returns-2
-    mul_at
-    add_at
-    shared-slice-read-area
-    add-area
-    add-area-2
-    slice-write-area
-    add-area-3
-    cast-area
-    add-area-4
-    slice-write-area-2
-    same-length-2
-    returns-3)
+    byte-t-requires
+    returns-then-t-ge-TYPES
+    parent_count-n-requires
+    shape_of-area-then-n-ge-MOST_PARENTS
+    returns-then-n-ge-MOST_PARENTS
+    overflow_mul-at
+    overflow_add-at
+    bounds-entry-1
+    overflow_add-area
+    overflow_add-area-2
+    bounds-area-at
+    overflow_add-area-3
+    overflow_cast-area
+    overflow_add-area-4
+    bounds-area-at-2
+    shape_of-area
+    returns)

@@ -5,54 +5,49 @@ use Rattle.file_in_types.proofs.StepLaws.{sds_past, sds_done}
 use Rattle.file_in_types.proofs.put_sds.Statement.{statement}
 use Rattle.file_in_types.proofs.put_sds.Tie as tie
 
-byte-requires : tie.Need-byte-requires
-byte-requires c κs = search rules
+byte-d-requires : tie.Need-byte-d-requires
+byte-d-requires c κs = search rules
 
-returns : tie.Need-returns
-returns c =
-    let read = c.before in
-    let x = read.before.before.before in
-    sds_past x.args.entry.now x.args.area.now read.byte.result read.byte.ensures.is (omega arith)
+returns-then-d-ge-SDSS : tie.Need-returns-then-d-ge-SDSS
+returns-then-d-ge-SDSS c =
+    sds_past c.args.entry.now c.args.area.now c.byte-d.result c.byte-d.ensures.is (omega arith)
 
-mul_at : tie.Need-overflow-mul-at
-mul_at c = search rules
+overflow_mul-at : tie.Need-overflow_mul-at
+overflow_mul-at c = search rules
 
-add_at : tie.Need-overflow-add-at
-add_at c = search rules
+overflow_add-at : tie.Need-overflow_add-at
+overflow_add-at c = search rules
 
-sub-write : tie.Need-overflow-sub-write
-sub-write c = search rules
+slice_bounds-write-count : tie.Need-slice_bounds-write-count
+slice_bounds-write-count c = search rules
 
-part-write-start : tie.Need-slice-bounds-write-start
-part-write-start c = search rules
+slice_bounds-write-start : tie.Need-slice_bounds-write-start
+slice_bounds-write-start c = search rules
 
-part-write-end : tie.Need-slice-bounds-write-end
-part-write-end c = search rules
+slice_bounds-write-end : tie.Need-slice_bounds-write-end
+slice_bounds-write-end c = search rules
 
 write-requires : tie.Need-write-requires
 write-requires c κs = search rules
 
-same_length : tie.Need-same-length
-same_length c = search rules
+shape_of-area : tie.Need-shape_of-area
+shape_of-area c = search rules
 
-returns-2 : tie.Need-returns-2
-returns-2 c =
-    let done = c.before.before in
-    let read = done.before.before.before.before in
-    let x = read.before.before.before in
-    sds_done x.args.entry.now x.args.area.now read.byte.result read.byte.ensures.is (omega arith) done.write.ensures
+returns : tie.Need-returns
+returns c =
+    sds_done c.args.entry.now c.args.area.now c.byte-d.result c.byte-d.ensures.is (omega arith) c.write.ensures
 
-pub put-sds-spec : {M : Type 1} → statement M
-put-sds-spec =
+pub put_sds_spec : {M : Type 1} → statement M
+put_sds_spec =
     tie.close
     (tie.spec
-    byte-requires
-    returns
-    mul_at
-    add_at
-    sub-write
-    part-write-start
-    part-write-end
+    byte-d-requires
+    returns-then-d-ge-SDSS
+    overflow_mul-at
+    overflow_add-at
+    slice_bounds-write-count
+    slice_bounds-write-start
+    slice_bounds-write-end
     write-requires
-    same_length
-    returns-2)
+    shape_of-area
+    returns)

@@ -7,96 +7,88 @@ use Rattle.file_in_types.proofs.SectionLaws.{Going, one_more, going_start, going
 use Rattle.file_in_types.proofs.put_section.Statement.{statement}
 use Rattle.file_in_types.proofs.put_section.Tie as tie
 
-abbrev invariant-loop : tie.invariant-loop
-invariant-loop which file at area₀ w n here₀ left₀ area here left = Going (step_of which) w file at n area₀ area here left
+abbrev invariant-loop-left : tie.invariant-loop-left
+invariant-loop-left which file at area₀ w n here₀ left₀ area here left = Going (step_of which) w file at n area₀ area here left
 
-abbrev decreases-loop : tie.decreases-loop
-decreases-loop which file at area₀ w n here₀ left₀ area here left = left
+abbrev decreases-loop-left : tie.decreases-loop-left
+decreases-loop-left which file at area₀ w n here₀ left₀ area here left = left
 
-width-requires : tie.Need-width-requires invariant-loop decreases-loop
-width-requires c κs = search rules
+width-w-requires : tie.Need-width-w-requires invariant-loop-left decreases-loop-left
+width-w-requires c κs = search rules
 
-count-requires : tie.Need-count-requires invariant-loop decreases-loop
-count-requires c κs = search rules
+count-n-requires : tie.Need-count-n-requires invariant-loop-left decreases-loop-left
+count-n-requires c κs = search rules
 
-most-requires : tie.Need-most-requires invariant-loop decreases-loop
+most-requires : tie.Need-most-requires invariant-loop-left decreases-loop-left
 most-requires c κs = search rules
 
-returns : tie.Need-returns invariant-loop decreases-loop
+returns-then-most-n : tie.Need-returns-then-most-n invariant-loop-left decreases-loop-left
+returns-then-most-n c =
+    let (limit, small) = c.most.ensures in
+    rw (sym c.width-w.ensures.0, sym limit)
+    (over_limit _ _ _ _ _ _ c.count-n.ensures _ small (omega arith) (omega arith))
+
+overflow_add-here : tie.Need-overflow_add-here invariant-loop-left decreases-loop-left
+overflow_add-here c = omega (arith, c.count-n.ensures.fits (omega arith))
+
+loop-left-init : tie.Need-loop-left-init invariant-loop-left decreases-loop-left
+loop-left-init c = going_start _ _ _ _ _ _ c.count-n.ensures (omega arith) (omega arith)
+
+overflow_add-end : tie.Need-overflow_add-end invariant-loop-left decreases-loop-left
+overflow_add-end c = search rules
+
+slice_bounds-put_entry-count : tie.Need-slice_bounds-put_entry-count invariant-loop-left decreases-loop-left
+slice_bounds-put_entry-count c = search rules
+
+slice_bounds-put_entry-start : tie.Need-slice_bounds-put_entry-start invariant-loop-left decreases-loop-left
+slice_bounds-put_entry-start c = search rules
+
+slice_bounds-put_entry-end : tie.Need-slice_bounds-put_entry-end invariant-loop-left decreases-loop-left
+slice_bounds-put_entry-end c =
+    let turn = c.loop-left in
+    omega (arith, turn.invariant.fits, one_more c.width-w.result turn.left (omega arith))
+
+put_entry-requires : tie.Need-put_entry-requires invariant-loop-left decreases-loop-left
+put_entry-requires c κs = search rules
+
+overflow_sub-left : tie.Need-overflow_sub-left invariant-loop-left decreases-loop-left
+overflow_sub-left c = search rules
+
+loop-left-smaller : tie.Need-loop-left-smaller invariant-loop-left decreases-loop-left
+loop-left-smaller c = search rules
+
+loop-left-preserved : tie.Need-loop-left-preserved invariant-loop-left decreases-loop-left
+loop-left-preserved c =
+    going_next _ _ c.loop-left.invariant (omega arith) c.put_entry.ensures (omega arith)
+
+shape_of-area : tie.Need-shape_of-area invariant-loop-left decreases-loop-left
+shape_of-area c = search rules
+
+returns : tie.Need-returns invariant-loop-left decreases-loop-left
 returns c =
-    let limited = c.before in
-    let counted = limited.before in
-    let wide = counted.before in
-    let (limit, small) = limited.most.ensures in
-    rw (sym wide.width.ensures.0, sym limit)
-    (over_limit _ _ _ _ _ _ counted.count.ensures _ small (omega arith) (omega arith))
+    let (limit, small) = c.most.ensures in
+    rw (sym c.width-w.ensures.0, sym limit)
+    (going_done _ _ _ _ _ _ c.count-n.ensures _ small c.loop-left.invariant (omega arith))
 
-add-here : tie.Need-overflow-add-here invariant-loop decreases-loop
-add-here c = omega (arith, c.before.before.count.ensures.fits (omega arith))
-
-loop-holds : tie.Need-loop-init invariant-loop decreases-loop
-loop-holds c = going_start _ _ _ _ _ _ c.before.before.count.ensures (omega arith) (omega arith)
-
-add-end : tie.Need-overflow-add-end invariant-loop decreases-loop
-add-end c = search rules
-
-sub-put-entry : tie.Need-overflow-sub-put-entry invariant-loop decreases-loop
-sub-put-entry c = search rules
-
-part-put-entry-start : tie.Need-slice-bounds-put-entry-start invariant-loop decreases-loop
-part-put-entry-start c = search rules
-
-part-put-entry-end : tie.Need-slice-bounds-put-entry-end invariant-loop decreases-loop
-part-put-entry-end c =
-    let turn = c.before.loop in
-    omega (arith, turn.invariant.fits, one_more c.before.before.before.before.before.width.result turn.left (omega arith))
-
-put-entry-requires : tie.Need-put-entry-requires invariant-loop decreases-loop
-put-entry-requires c κs = search rules
-
-sub-left : tie.Need-overflow-sub-left invariant-loop decreases-loop
-sub-left c = search rules
-
-loop-less : tie.Need-loop-smaller invariant-loop decreases-loop
-loop-less c = search rules
-
-loop-again : tie.Need-loop-preserved invariant-loop decreases-loop
-loop-again c =
-    let one = c.before.before in
-    going_next _ _ one.before.before.before.before.loop.invariant (omega arith) one.put-entry.ensures (omega arith)
-
-same_length : tie.Need-same-length invariant-loop decreases-loop
-same_length c = search rules
-
-returns-2 : tie.Need-returns-2 invariant-loop decreases-loop
-returns-2 c =
-    let turn = c.before in
-    let limited = turn.before.before in
-    let counted = limited.before in
-    let wide = counted.before in
-    let (limit, small) = limited.most.ensures in
-    rw (sym wide.width.ensures.0, sym limit)
-    (going_done _ _ _ _ _ _ counted.count.ensures _ small turn.loop.invariant (omega arith))
-
-pub put-section-spec : {M : Type 1} → statement M
-put-section-spec =
+pub put_section_spec : {M : Type 1} → statement M
+put_section_spec =
     tie.close
     (tie.spec
-    invariant-loop
-    decreases-loop
-    width-requires
-    count-requires
+    invariant-loop-left
+    decreases-loop-left
+    width-w-requires
+    count-n-requires
     most-requires
-    returns
-    add-here
-    loop-holds
-    add-end
-    sub-put-entry
-    part-put-entry-start
-    part-put-entry-end
-    put-entry-requires
-    sub-left
-    loop-less
-    loop-again
-    same_length
-    returns-2)
+    returns-then-most-n
+    overflow_add-here
+    loop-left-init
+    overflow_add-end
+    slice_bounds-put_entry-count
+    slice_bounds-put_entry-start
+    slice_bounds-put_entry-end
+    put_entry-requires
+    overflow_sub-left
+    loop-left-smaller
+    loop-left-preserved
+    shape_of-area
+    returns)

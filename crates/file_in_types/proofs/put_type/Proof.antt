@@ -5,58 +5,53 @@ use Rattle.file_in_types.proofs.StepLaws.{type_past, type_done}
 use Rattle.file_in_types.proofs.put_type.Statement.{statement}
 use Rattle.file_in_types.proofs.put_type.Tie as tie
 
-byte-requires : tie.Need-byte-requires
-byte-requires c κs = search rules
+byte-t-requires : tie.Need-byte-t-requires
+byte-t-requires c κs = search rules
 
-returns : tie.Need-returns
-returns c =
-    let read = c.before in
-    let x = read.before.before.before in
-    type_past x.args.entry.now x.args.area.now read.byte.result read.byte.ensures.is (omega arith)
+returns-then-t-ge-TYPES : tie.Need-returns-then-t-ge-TYPES
+returns-then-t-ge-TYPES c =
+    type_past c.args.entry.now c.args.area.now c.byte-t.result c.byte-t.ensures.is (omega arith)
 
-shared-slice-read-t8 : tie.Need-shared-slice-read-t8
-shared-slice-read-t8 c = search rules
+bounds-entry-1 : tie.Need-bounds-entry-1
+bounds-entry-1 c = search rules
 
-shared-slice-read-t10 : tie.Need-shared-slice-read-t10
-shared-slice-read-t10 c = search rules
+bounds-entry-2 : tie.Need-bounds-entry-2
+bounds-entry-2 c = search rules
 
-shared-slice-read-t12 : tie.Need-shared-slice-read-t12
-shared-slice-read-t12 c = search rules
+bounds-entry-3 : tie.Need-bounds-entry-3
+bounds-entry-3 c = search rules
 
-mul_at : tie.Need-overflow-mul-at
-mul_at c = search rules
+overflow_mul-at : tie.Need-overflow_mul-at
+overflow_mul-at c = search rules
 
-add_at : tie.Need-overflow-add-at
-add_at c = search rules
+overflow_add-at : tie.Need-overflow_add-at
+overflow_add-at c = search rules
 
-slice-aggregate-write : tie.Need-slice-aggregate-write
-slice-aggregate-write c = search rules
+slice_bounds-write-end : tie.Need-slice_bounds-write-end
+slice_bounds-write-end c = search rules
 
 write-requires : tie.Need-write-requires
 write-requires c κs = search rules
 
-same_length : tie.Need-same-length
-same_length c = search rules
+shape_of-area : tie.Need-shape_of-area
+shape_of-area c = search rules
 
-returns-2 : tie.Need-returns-2
-returns-2 c =
-    let done = c.before.before in
-    let read = done.before.before.before.before.before.before.before in
-    let x = read.before.before.before in
-    type_done x.args.entry.now x.args.area.now read.byte.result read.byte.ensures.is (omega arith) done.write.ensures
+returns : tie.Need-returns
+returns c =
+    type_done c.args.entry.now c.args.area.now c.byte-t.result c.byte-t.ensures.is (omega arith) c.write.ensures
 
-pub put-type-spec : {M : Type 1} → statement M
-put-type-spec =
+pub put_type_spec : {M : Type 1} → statement M
+put_type_spec =
     tie.close
     (tie.spec
-    byte-requires
-    returns
-    shared-slice-read-t8
-    shared-slice-read-t10
-    shared-slice-read-t12
-    mul_at
-    add_at
-    slice-aggregate-write
+    byte-t-requires
+    returns-then-t-ge-TYPES
+    bounds-entry-1
+    bounds-entry-2
+    bounds-entry-3
+    overflow_mul-at
+    overflow_add-at
+    slice_bounds-write-end
     write-requires
-    same_length
-    returns-2)
+    shape_of-area
+    returns)

@@ -4,15 +4,15 @@ use Rattle.file_out.specs.Parts.{count_bytes}
 use Rattle.file_out.proofs.put_count.Statement.{statement}
 use Rattle.file_out.proofs.put_count.Tie as tie
 
-put-two-requires : tie.Need-put-two-requires
-put-two-requires c κs = search rules
+put_two-requires : tie.Need-put_two-requires
+put_two-requires c κs = search rules
 
-same_length : tie.Need-same-length
-same_length c = search rules
+shape_of-out : tie.Need-shape_of-out
+shape_of-out c = search rules
 
 returns : tie.Need-returns
 unfolding count_bytes
-returns c = c.before.before.put_two.ensures
+returns c = c.put_two.ensures
 
-pub put-count-spec : {M : Type 1} → statement M
-put-count-spec = tie.close (tie.spec put-two-requires same_length returns)
+pub put_count_spec : {M : Type 1} → statement M
+put_count_spec = tie.close (tie.spec put_two-requires shape_of-out returns)

@@ -6,67 +6,65 @@ use Rattle.file_sections.proofs.SectionLaws.{few_bytes, no_count, no_entries, al
 use Rattle.file_sections.proofs.count.Statement.{statement}
 use Rattle.file_sections.proofs.count.Tie as tie
 
-returns : tie.Need-returns
-returns c = let x = c.before.before in no_count x.args.file.now x.args.at x.args.w (omega arith)
+returns-then-file-at : tie.Need-returns-then-file-at
+returns-then-file-at c = no_count c.args.file.now c.args.at c.args.w (omega arith)
 
-sub-left : tie.Need-overflow-sub-left
-sub-left c = search rules
+overflow_sub-left : tie.Need-overflow_sub-left
+overflow_sub-left c = search rules
 
-returns-2 : tie.Need-returns-2
-returns-2 c = let x = c.before.before.before in no_count x.args.file.now x.args.at x.args.w (omega arith)
+returns-then-left-lt-COUNT : tie.Need-returns-then-left-lt-COUNT
+returns-then-left-lt-COUNT c = no_count c.args.file.now c.args.at c.args.w (omega arith)
 
-shared-slice-read-wide : tie.Need-shared-slice-read-wide
-shared-slice-read-wide c = search rules
+bounds-file-at : tie.Need-bounds-file-at
+bounds-file-at c = search rules
 
 wide-requires : tie.Need-wide-requires
 wide-requires c κs = search rules
 
-add_wide : tie.Need-overflow-add-wide
-add_wide c = search rules
+overflow_add-at : tie.Need-overflow_add-at
+overflow_add-at c = search rules
 
-shared-slice-read-wide-2 : tie.Need-shared-slice-read-wide-2
-shared-slice-read-wide-2 c = search rules
+bounds-file-at-2 : tie.Need-bounds-file-at-2
+bounds-file-at-2 c = search rules
 
 wide-requires-2 : tie.Need-wide-requires-2
 wide-requires-2 c κs = search rules
 
-mul-n : tie.Need-overflow-mul-n
-mul-n c = search rules
+overflow_mul-n : tie.Need-overflow_mul-n
+overflow_mul-n c = search rules
 
-add-n : tie.Need-overflow-add-n
-add-n c = search rules
+overflow_add-n : tie.Need-overflow_add-n
+overflow_add-n c = search rules
 
-mul-if3 : tie.Need-overflow-mul-if3
-mul-if3 c =
-    let n = c.before.before.wide.result + 256 * c.wide2.result in
-    omega (arith, few_bytes n c.before.before.before.before.before.before.before.args.w (omega arith) (omega arith))
+overflow_mul-n-2 : tie.Need-overflow_mul-n-2
+overflow_mul-n-2 c =
+    let n = c.wide.result + 256 * c.wide-2.result in
+    omega (arith, few_bytes n c.args.w (omega arith) (omega arith))
 
-returns-3 : tie.Need-returns-3
-returns-3 c =
-    let x = c.before.before.before.before.before.before.before.before in
-    let n = c.before.before.before.wide.result + 256 * c.before.wide2.result in
-    no_entries x.args.file.now x.args.at x.args.w n (omega arith) (omega arith)
+returns-then-left-n : tie.Need-returns-then-left-n
+returns-then-left-n c =
+    let n = c.wide.result + 256 * c.wide-2.result in
+    no_entries c.args.file.now c.args.at c.args.w n (omega arith) (omega arith)
 
-returns-4 : tie.Need-returns-4
-returns-4 c =
-    let x = c.before.before.before.before.before.before.before.before in
-    let n = c.before.before.before.wide.result + 256 * c.before.wide2.result in
-    all_there x.args.file.now x.args.at x.args.w n (omega arith) (omega arith) (omega arith)
+returns : tie.Need-returns
+returns c =
+    let n = c.wide.result + 256 * c.wide-2.result in
+    all_there c.args.file.now c.args.at c.args.w n (omega arith) (omega arith) (omega arith)
 
 pub count_spec : {M : Type 1} → statement M
 count_spec =
     tie.close
     (tie.spec
-    returns
-    sub-left
-    returns-2
-    shared-slice-read-wide
+    returns-then-file-at
+    overflow_sub-left
+    returns-then-left-lt-COUNT
+    bounds-file-at
     wide-requires
-    add_wide
-    shared-slice-read-wide-2
+    overflow_add-at
+    bounds-file-at-2
     wide-requires-2
-    mul-n
-    add-n
-    mul-if3
-    returns-3
-    returns-4)
+    overflow_mul-n
+    overflow_add-n
+    overflow_mul-n-2
+    returns-then-left-n
+    returns)

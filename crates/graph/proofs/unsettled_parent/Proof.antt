@@ -15,68 +15,63 @@ use Rattle.graph.proofs.Laws.{unsettled_at, unsettled_none}
 use Rattle.graph.proofs.unsettled_parent.Statement.{statement}
 use Rattle.graph.proofs.unsettled_parent.Tie as tie
 
-abbrev invariant-loop : tie.invariant-loop
-invariant-loop base t settled n i₀ i = (i ≤ n) × (n ≤ 4) × ((k : ℕ) → k < i → has settled (get_or base (type_at t + parents_offset + k) 0) ≡ true)
+abbrev invariant-loop-i : tie.invariant-loop-i
+invariant-loop-i base t settled n i₀ i = (i ≤ n) × (n ≤ 4) × ((k : ℕ) → k < i → has settled (get_or base (type_at t + parents_offset + k) 0) ≡ true)
 
-abbrev decreases-loop : tie.decreases-loop
-decreases-loop base t settled n i₀ i = n - i
+abbrev decreases-loop-i : tie.decreases-loop-i
+decreases-loop-i base t settled n i₀ i = n - i
 
-parent-count-requires : tie.Need-parent-count-requires invariant-loop decreases-loop
-parent-count-requires c κs = let start = c.before in (start.requires.0.long, start.requires.1)
+parent_count-n-requires : tie.Need-parent_count-n-requires invariant-loop-i decreases-loop-i
+parent_count-n-requires c κs = (c.requires.0.long, c.requires.1)
 
-loop-holds : tie.Need-loop-init invariant-loop decreases-loop
-loop-holds c =
-    let start = c.before.before in
-    let few = count_few start.requires.0 start.args.t start.requires.1 in
+loop-i-init : tie.Need-loop-i-init invariant-loop-i decreases-loop-i
+loop-i-init c =
+    let few = count_few c.requires.0 c.args.t c.requires.1 in
     (omega arith, omega arith, below_none _)
 
-parent-requires : tie.Need-parent-requires invariant-loop decreases-loop
-parent-requires c κs = let start = c.before.before.before.before in (start.requires.0.long, (start.requires.1, omega arith))
+parent-a-requires : tie.Need-parent-a-requires invariant-loop-i decreases-loop-i
+parent-a-requires c κs = (c.requires.0.long, (c.requires.1, omega arith))
 
-test-requires : tie.Need-test-requires invariant-loop decreases-loop
+test-requires : tie.Need-test-requires invariant-loop-i decreases-loop-i
 test-requires c κs =
-    let start = c.before.before.before.before.before in
-    let l = c.before.before.loop in
-    let by = parent_at start.requires.0 start.args.t start.requires.1 l.i (omega arith) in
-    omega (arith, parent_below start.requires.0 by)
+    let l = c.loop-i in
+    let by = parent_at c.requires.0 c.args.t c.requires.1 l.i (omega arith) in
+    omega (arith, parent_below c.requires.0 by)
 
-returns : tie.Need-returns invariant-loop decreases-loop
+returns-then-not-test : tie.Need-returns-then-not-test invariant-loop-i decreases-loop-i
+returns-then-not-test c =
+    let l = c.loop-i in
+    unsettled_at c.requires.0 (has c.args.settled) c.args.t c.requires.1 l.i _ (omega arith) c.parent-a.ensures.is
+    (sym c.test.ensures ∙ not-true _ c.if-not-test.true-raw)
+
+overflow_add-i : tie.Need-overflow_add-i invariant-loop-i decreases-loop-i
+overflow_add-i c = omega arith
+
+loop-i-smaller : tie.Need-loop-i-smaller invariant-loop-i decreases-loop-i
+loop-i-smaller c = omega arith
+
+loop-i-preserved : tie.Need-loop-i-preserved invariant-loop-i decreases-loop-i
+loop-i-preserved c =
+    let l = c.loop-i in
+    let a = ap (has c.args.settled) (sym c.parent-a.ensures.is) ∙ sym c.test.ensures in
+    (omega arith, l.invariant.1, below_more _ _ l.invariant.2 (a ∙ not-false _ c.if-not-test.false-raw))
+
+returns : tie.Need-returns invariant-loop-i decreases-loop-i
 returns c =
-    let start = c.before.before.before.before.before.before.before in
-    let l = c.before.before.before.before.loop in
-    unsettled_at start.requires.0 (has start.args.settled) start.args.t start.requires.1 l.i _ (omega arith) c.before.before.parent.ensures.is
-    (sym c.before.test.ensures ∙ not-true _ c.if1.true)
+    unsettled_none c.requires.0 (has c.args.settled) c.args.t c.requires.1 (λ k h. c.loop-i.invariant.2 k (omega arith))
 
-add-i : tie.Need-overflow-add-i invariant-loop decreases-loop
-add-i c = omega arith
-
-loop-less : tie.Need-loop-smaller invariant-loop decreases-loop
-loop-less c = omega arith
-
-loop-again : tie.Need-loop-preserved invariant-loop decreases-loop
-loop-again c =
-    let start = c.before.before.before.before.before.before.before in
-    let l = c.before.before.before.before.loop in
-    let a = ap (has start.args.settled) (sym c.before.before.parent.ensures.is) ∙ sym c.before.test.ensures in
-    (omega arith, l.invariant.1, below_more _ _ l.invariant.2 (a ∙ not-false _ c.if1.false))
-
-returns-2 : tie.Need-returns-2 invariant-loop decreases-loop
-returns-2 c =
-    let start = c.before.before.before.before in
-    unsettled_none start.requires.0 (has start.args.settled) start.args.t start.requires.1 (λ k h. c.before.loop.invariant.2 k (omega arith))
-
-pub unsettled-parent-spec : {M : Type 1} → statement M
-unsettled-parent-spec =
+pub unsettled_parent_spec : {M : Type 1} → statement M
+unsettled_parent_spec =
     tie.close
     (tie.spec
-    invariant-loop
-    decreases-loop
-    parent-count-requires
-    loop-holds
-    parent-requires
+    invariant-loop-i
+    decreases-loop-i
+    parent_count-n-requires
+    loop-i-init
+    parent-a-requires
     test-requires
-    returns
-    add-i
-    loop-less
-    loop-again
-    returns-2)
+    returns-then-not-test
+    overflow_add-i
+    loop-i-smaller
+    loop-i-preserved
+    returns)

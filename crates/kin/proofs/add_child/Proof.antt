@@ -26,76 +26,71 @@ type b i = (presence_shown b i).type
 abbrev child_of : List ℕ → (ℕ → Bool) → ℕ → Bool
 child_of b q i = children_of (schema_of b) q (type b i)
 
-presence-sds-requires : tie.Need-presence-sds-requires
-presence-sds-requires c κs = (sound_long c.before.requires.0, omega (arith, few_presences c.before.args.base.now, c.before.requires.1))
+presence_sds-requires : tie.Need-presence_sds-requires
+presence_sds-requires c κs = (sound_long c.requires.0, omega (arith, few_presences c.args.base.now, c.requires.1))
 
 lists-requires : tie.Need-lists-requires
-lists-requires c κs = omega (arith, c.presence_sds.ensures.is, (presence_small c.before.before.requires.0 _ c.before.before.requires.1).0)
+lists-requires c κs = omega (arith, c.presence_sds.ensures.is, (presence_small c.requires.0 _ c.requires.1).0)
 
-returns : tie.Need-returns
-returns c =
-    let x = c.before.before.before.before.args in
+returns-then-not-lists : tie.Need-returns-then-not-lists
+returns-then-not-lists c =
+    let x = c.args in
     λ k. not_listed (has x.s) (type x.base.now x.i) k _ (child_of x.base.now (has x.s) x.i)
-    (sym (c.before.lists.ensures ∙ ap (bit x.sdss) c.before.before.presence_sds.ensures.is) ∙ not-true _ c.if1.true)
+    (sym (c.lists.ensures ∙ ap (bit x.sdss) c.presence_sds.ensures.is) ∙ not-true _ c.if-not-lists.true-raw)
 
-presence-type-requires : tie.Need-presence-type-requires
-presence-type-requires c κs =
-    let start = c.before.before.before.before in
-    (sound_long start.requires.0, omega (arith, few_presences start.args.base.now, start.requires.1))
+presence_type-t-requires : tie.Need-presence_type-t-requires
+presence_type-t-requires c κs =
+    (sound_long c.requires.0, omega (arith, few_presences c.args.base.now, c.requires.1))
 
 test-requires : tie.Need-test-requires
 test-requires c κs =
-    let start = c.before.before.before.before.before in
-    omega (arith, c.presence_type.ensures.is, (presence_small start.requires.0 _ start.requires.1).1)
+    omega (arith, c.presence_type-t.ensures.is, (presence_small c.requires.0 _ c.requires.1).1)
 
-returns-2 : tie.Need-returns-2
-returns-2 c =
-    let x = c.before.before.before.before.before.before.before.args in
+returns-then-test : tie.Need-returns-then-test
+returns-then-test c =
+    let x = c.args in
     λ k. there_already (has x.s) (type x.base.now x.i) k (bit x.sdss (sds x.base.now x.i)) (child_of x.base.now (has x.s) x.i)
-    (ap (has x.s) (sym c.before.before.presence_type.ensures.is) ∙ sym c.before.test.ensures ∙ c.if2.true)
+    (ap (has x.s) (sym c.presence_type-t.ensures.is) ∙ sym c.test.ensures ∙ c.if-test.true)
 
-has-parent-in-requires : tie.Need-has-parent-in-requires
-has-parent-in-requires c κs =
-    let start = c.before.before.before.before.before.before.before in
-    (good_parental start.requires.0, omega (arith, c.before.before.presence_type.ensures.is, (presence_small start.requires.0 _ start.requires.1).1))
+has_parent_in-requires : tie.Need-has_parent_in-requires
+has_parent_in-requires c κs =
+    (good_parental c.requires.0, omega (arith, c.presence_type-t.ensures.is, (presence_small c.requires.0 _ c.requires.1).1))
 
-child : (c : tie.After-has-parent-in) → let x = c.before.before.before.before.before.before.before.before.args in
-    child_of x.base.now (has x.s) x.i ≡ c.has-parent-in.result
+child : (c : tie.After-has_parent_in) → let x = c.args in
+    child_of x.base.now (has x.s) x.i ≡ c.has_parent_in.result
 child c =
-    let x = c.before.before.before.before.before.before.before.before.args in
-    ap (children_of (schema_of x.base.now) (has x.s)) (sym c.before.before.before.presence_type.ensures.is) ∙ sym c.has-parent-in.ensures
+    let x = c.args in
+    ap (children_of (schema_of x.base.now) (has x.s)) (sym c.presence_type-t.ensures.is) ∙ sym c.has_parent_in.ensures
 
-returns-3 : tie.Need-returns-3
-returns-3 c =
-    let x = c.before.before.before.before.before.before.before.before.before.args in
-    λ k. childless (has x.s) (type x.base.now x.i) k (bit x.sdss (sds x.base.now x.i)) _ (child c.before ∙ not-true _ c.if3.true)
+returns-then-not-has_parent_in : tie.Need-returns-then-not-has_parent_in
+returns-then-not-has_parent_in c =
+    let x = c.args in
+    λ k. childless (has x.s) (type x.base.now x.i) k (bit x.sdss (sds x.base.now x.i)) _ (child c.before ∙ not-true _ c.if-not-has_parent_in.true-raw)
 
 add-requires : tie.Need-add-requires
 add-requires c κs =
-    let start = c.before.before.before.before.before.before.before.before.before in
-    omega (arith, c.before.before.before.before.presence_type.ensures.is, (presence_small start.requires.0 _ start.requires.1).1)
+    omega (arith, c.presence_type-t.ensures.is, (presence_small c.requires.0 _ c.requires.1).1)
 
-returns-4 : tie.Need-returns-4
-returns-4 c =
-    let x = c.before.before.before.before.before.before.before.before.before.before.args in
-    let listed = c.before.before.before.before.before.before.before in
+returns : tie.Need-returns
+returns c =
+    let x = c.args in
     λ k. added (has x.s) (type x.base.now x.i) k _ _
-    (c.add.ensures k ∙ ap (λ (t : ℕ). eqb k t || has x.s k) c.before.before.before.before.before.presence_type.ensures.is)
-    (sym (listed.lists.ensures ∙ ap (bit x.sdss) listed.before.presence_sds.ensures.is)
-    ∙ not-false _ c.before.before.before.before.before.before.if1.false)
-    (child c.before.before ∙ not-false _ c.before.if3.false)
+    (c.add.ensures k ∙ ap (λ (t : ℕ). eqb k t || has x.s k) c.presence_type-t.ensures.is)
+    (sym (c.lists.ensures ∙ ap (bit x.sdss) c.presence_sds.ensures.is)
+    ∙ not-false _ c.if-not-lists.false-raw)
+    (child c.before.before ∙ not-false _ c.if-not-has_parent_in.false-raw)
 
-pub add-child-spec : {M : Type 1} → statement M
-add-child-spec =
+pub add_child_spec : {M : Type 1} → statement M
+add_child_spec =
     tie.close
     (tie.spec
-    presence-sds-requires
+    presence_sds-requires
     lists-requires
-    returns
-    presence-type-requires
+    returns-then-not-lists
+    presence_type-t-requires
     test-requires
-    returns-2
-    has-parent-in-requires
-    returns-3
+    returns-then-test
+    has_parent_in-requires
+    returns-then-not-has_parent_in
     add-requires
-    returns-4)
+    returns)

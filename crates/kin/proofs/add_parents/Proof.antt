@@ -11,63 +11,59 @@ use Rattle.kin.proofs.KinLaws.{Adds, adds_none, adds_more, adds_all}
 use Rattle.kin.proofs.add_parents.Statement.{statement}
 use Rattle.kin.proofs.add_parents.Tie as tie
 
-abbrev invariant-loop : tie.invariant-loop
-invariant-loop base t n r₀ i₀ r i = (i ≤ n) × (n ≤ 4) × Adds (schema_of base) t i (has r₀) (has r)
+abbrev invariant-loop-i : tie.invariant-loop-i
+invariant-loop-i base t n r₀ i₀ r i = (i ≤ n) × (n ≤ 4) × Adds (schema_of base) t i (has r₀) (has r)
 
-abbrev decreases-loop : tie.decreases-loop
-decreases-loop base t n r₀ i₀ r i = n - i
+abbrev decreases-loop-i : tie.decreases-loop-i
+decreases-loop-i base t n r₀ i₀ r i = n - i
 
-parent-count-requires : tie.Need-parent-count-requires invariant-loop decreases-loop
-parent-count-requires c κs = let start = c.before in (start.requires.0.long, start.requires.1)
+parent_count-n-requires : tie.Need-parent_count-n-requires invariant-loop-i decreases-loop-i
+parent_count-n-requires c κs = (c.requires.0.long, c.requires.1)
 
-loop-holds : tie.Need-loop-init invariant-loop decreases-loop
-loop-holds c =
-    let start = c.before.before in
-    let few = count_few start.requires.0 start.args.t start.requires.1 in
+loop-i-init : tie.Need-loop-i-init invariant-loop-i decreases-loop-i
+loop-i-init c =
+    let few = count_few c.requires.0 c.args.t c.requires.1 in
     (omega arith, omega arith, adds_none _ _ _)
 
-parent-requires : tie.Need-parent-requires invariant-loop decreases-loop
-parent-requires c κs = let start = c.before.before.before.before in (start.requires.0.long, (start.requires.1, omega arith))
+parent-a-requires : tie.Need-parent-a-requires invariant-loop-i decreases-loop-i
+parent-a-requires c κs = (c.requires.0.long, (c.requires.1, omega arith))
 
-add-requires : tie.Need-add-requires invariant-loop decreases-loop
-add-requires c κs =
-    let start = c.before.before.before.before.before in
-    let by = parent_at start.requires.0 start.args.t start.requires.1 c.before.before.loop.i (omega arith) in
-    omega (arith, parent_below start.requires.0 by)
+add-r-requires : tie.Need-add-r-requires invariant-loop-i decreases-loop-i
+add-r-requires c κs =
+    let by = parent_at c.requires.0 c.args.t c.requires.1 c.loop-i.i (omega arith) in
+    omega (arith, parent_below c.requires.0 by)
 
-add-i : tie.Need-overflow-add-i invariant-loop decreases-loop
-add-i c = omega arith
+overflow_add-i : tie.Need-overflow_add-i invariant-loop-i decreases-loop-i
+overflow_add-i c = omega arith
 
-loop-less : tie.Need-loop-smaller invariant-loop decreases-loop
-loop-less c = omega arith
+loop-i-smaller : tie.Need-loop-i-smaller invariant-loop-i decreases-loop-i
+loop-i-smaller c = omega arith
 
-loop-again : tie.Need-loop-preserved invariant-loop decreases-loop
-loop-again c =
-    let start = c.before.before.before.before.before.before in
-    let l = c.before.before.before.loop in
-    let place = c.before.parent.ensures.is in (
+loop-i-preserved : tie.Need-loop-i-preserved invariant-loop-i decreases-loop-i
+loop-i-preserved c =
+    let l = c.loop-i in
+    let place = c.parent-a.ensures.is in (
       omega arith,
       l.invariant.1,
-      adds_more start.requires.0 start.args.t start.requires.1 l.invariant.2 _ (omega arith)
-          (λ k. c.add.ensures k ∙ ap (λ (a : ℕ). eqb k a || has l.r k) place),
+      adds_more c.requires.0 c.args.t c.requires.1 l.invariant.2 _ (omega arith)
+          (λ k. c.add-r.ensures k ∙ ap (λ (a : ℕ). eqb k a || has l.r k) place),
     )
 
-returns : tie.Need-returns invariant-loop decreases-loop
+returns : tie.Need-returns invariant-loop-i decreases-loop-i
 returns c =
-    let start = c.before.before.before.before in
-    adds_all start.requires.0 start.args.t start.requires.1 c.before.loop.invariant.2 (omega arith)
+    adds_all c.requires.0 c.args.t c.requires.1 c.loop-i.invariant.2 (omega arith)
 
-pub add-parents-spec : {M : Type 1} → statement M
-add-parents-spec =
+pub add_parents_spec : {M : Type 1} → statement M
+add_parents_spec =
     tie.close
     (tie.spec
-    invariant-loop
-    decreases-loop
-    parent-count-requires
-    loop-holds
-    parent-requires
-    add-requires
-    add-i
-    loop-less
-    loop-again
+    invariant-loop-i
+    decreases-loop-i
+    parent_count-n-requires
+    loop-i-init
+    parent-a-requires
+    add-r-requires
+    overflow_add-i
+    loop-i-smaller
+    loop-i-preserved
     returns)

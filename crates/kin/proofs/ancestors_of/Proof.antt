@@ -15,71 +15,70 @@ use Rattle.kin.proofs.ReachLaws.{Taking, taking_none, more_found, taking_more, a
 use Rattle.kin.proofs.ancestors_of.Statement.{statement}
 use Rattle.kin.proofs.ancestors_of.Tie as tie
 
-abbrev invariant-loop : tie.invariant-loop
-invariant-loop base found₀ left₀ t₀ found left t = Lowest (has left) t × Taking (is_parent (schema_of base)) (has left₀) (has left) (has found)
+abbrev invariant-loop-t : tie.invariant-loop-t
+invariant-loop-t base found₀ left₀ t₀ found left t = Lowest (has left) t × Taking (is_parent (schema_of base)) (has left₀) (has left) (has found)
 
-abbrev decreases-loop : tie.decreases-loop
-decreases-loop base found₀ left₀ t₀ found left t = 128 - length (members (has found))
+abbrev decreases-loop-t : tie.decreases-loop-t
+decreases-loop-t base found₀ left₀ t₀ found left t = 128 - length (members (has found))
 
-empty-requires : tie.Need-empty-requires invariant-loop decreases-loop
-empty-requires c κs = tt
+empty-found-requires : tie.Need-empty-found-requires invariant-loop-t decreases-loop-t
+empty-found-requires c κs = tt
 
-parents-of-requires : tie.Need-parents-of-requires invariant-loop decreases-loop
-parents-of-requires c κs = good_parental c.before.before.requires
+parents_of-left-requires : tie.Need-parents_of-left-requires invariant-loop-t decreases-loop-t
+parents_of-left-requires c κs = good_parental c.requires
 
-lowest-requires : tie.Need-lowest-requires invariant-loop decreases-loop
-lowest-requires c κs = tt
+lowest-t-requires : tie.Need-lowest-t-requires invariant-loop-t decreases-loop-t
+lowest-t-requires c κs = tt
 
-loop-holds : tie.Need-loop-init invariant-loop decreases-loop
-loop-holds c = (c.lowest.ensures, taking_none _ _ _ c.before.before.empty.ensures)
+loop-t-init : tie.Need-loop-t-init invariant-loop-t decreases-loop-t
+loop-t-init c = (c.lowest-t.ensures, taking_none _ _ _ c.empty-found.ensures)
 
-add-requires : tie.Need-add-requires invariant-loop decreases-loop
-add-requires c κs = omega arith
+add-found-requires : tie.Need-add-found-requires invariant-loop-t decreases-loop-t
+add-found-requires c κs = omega arith
 
-add-parents-requires : tie.Need-add-parents-requires invariant-loop decreases-loop
-add-parents-requires c κs = (good_parental c.before.before.before.before.before.before.before.requires, omega arith)
+add_parents-requires : tie.Need-add_parents-requires invariant-loop-t decreases-loop-t
+add_parents-requires c κs = (good_parental c.requires, omega arith)
 
-without-requires : tie.Need-without-requires invariant-loop decreases-loop
-without-requires c κs = tt
+without-left-requires : tie.Need-without-left-requires invariant-loop-t decreases-loop-t
+without-left-requires c κs = tt
 
-lowest-requires-2 : tie.Need-lowest-requires-2 invariant-loop decreases-loop
-lowest-requires-2 c κs = tt
+lowest-t-requires-in-loop-t : tie.Need-lowest-t-requires-in-loop-t invariant-loop-t decreases-loop-t
+lowest-t-requires-in-loop-t c κs = tt
 
-loop-less : tie.Need-loop-smaller invariant-loop decreases-loop
-loop-less c =
-    let l = c.before.before.before.before.before.loop in
-    let more = more_found l.invariant.1 _ l.t (l.invariant.0.passes (omega arith)) c.before.before.before.add.ensures (omega arith) in
-    omega (arith, members_most (has c.before.before.before.add.result))
+loop-t-smaller : tie.Need-loop-t-smaller invariant-loop-t decreases-loop-t
+loop-t-smaller c =
+    let l = c.loop-t in
+    let more = more_found l.invariant.1 _ l.t (l.invariant.0.passes (omega arith)) c.add-found.ensures (omega arith) in
+    omega (arith, members_most (has c.add-found.result))
 
-loop-again : tie.Need-loop-preserved invariant-loop decreases-loop
-loop-again c =
-    let l = c.before.before.before.before.before.loop in (
-      c.lowest2.ensures,
-      taking_more l.invariant.1 _ l.t (l.invariant.0.passes (omega arith)) c.before.before.before.add.ensures _ _
-          c.before.before.add-parents.ensures c.before.without.ensures,
+loop-t-preserved : tie.Need-loop-t-preserved invariant-loop-t decreases-loop-t
+loop-t-preserved c =
+    let l = c.loop-t in (
+      c.lowest-t-in-loop-t.ensures,
+      taking_more l.invariant.1 _ l.t (l.invariant.0.passes (omega arith)) c.add-found.ensures _ _
+          c.add_parents.ensures c.without-left.ensures,
     )
 
-returns : tie.Need-returns invariant-loop decreases-loop
+returns : tie.Need-returns invariant-loop-t decreases-loop-t
 returns c =
-    let l = c.before.loop in
-    let start = c.before.before.before.before.before.before in
-    ancestors_all (sound_good start.requires) _ _ c.before.before.before.parents_of.ensures l.invariant.1
+    let l = c.loop-t in
+    ancestors_all (sound_good c.requires) _ _ c.parents_of-left.ensures l.invariant.1
     (lowest_none l.left l.invariant.0 (omega arith))
 
-pub ancestors-of-spec : {M : Type 1} → statement M
-ancestors-of-spec =
+pub ancestors_of_spec : {M : Type 1} → statement M
+ancestors_of_spec =
     tie.close
     (tie.spec
-    invariant-loop
-    decreases-loop
-    empty-requires
-    parents-of-requires
-    lowest-requires
-    loop-holds
-    add-requires
-    add-parents-requires
-    without-requires
-    lowest-requires-2
-    loop-less
-    loop-again
+    invariant-loop-t
+    decreases-loop-t
+    empty-found-requires
+    parents_of-left-requires
+    lowest-t-requires
+    loop-t-init
+    add-found-requires
+    add_parents-requires
+    without-left-requires
+    lowest-t-requires-in-loop-t
+    loop-t-smaller
+    loop-t-preserved
     returns)

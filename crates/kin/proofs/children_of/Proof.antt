@@ -16,59 +16,59 @@ use Rattle.kin.proofs.KinLaws.{children_all}
 use Rattle.kin.proofs.children_of.Statement.{statement}
 use Rattle.kin.proofs.children_of.Tie as tie
 
-abbrev invariant-loop : tie.invariant-loop
-invariant-loop base s r₀ k₀ r k = (k ≤ 128) × ((n : ℕ) → has r n ≡ grow_to k (children_of (schema_of base) (has s)) (has r₀) n)
+abbrev invariant-loop-k : tie.invariant-loop-k
+invariant-loop-k base s r₀ k₀ r k = (k ≤ 128) × ((n : ℕ) → has r n ≡ grow_to k (children_of (schema_of base) (has s)) (has r₀) n)
 
-abbrev decreases-loop : tie.decreases-loop
-decreases-loop base s r₀ k₀ r k = 128 - k
+abbrev decreases-loop-k : tie.decreases-loop-k
+decreases-loop-k base s r₀ k₀ r k = 128 - k
 
-empty-requires : tie.Need-empty-requires invariant-loop decreases-loop
-empty-requires c κs = tt
+empty-r-requires : tie.Need-empty-r-requires invariant-loop-k decreases-loop-k
+empty-r-requires c κs = tt
 
-loop-holds : tie.Need-loop-init invariant-loop decreases-loop
-loop-holds c = (omega arith, grow_none _ _)
+loop-k-init : tie.Need-loop-k-init invariant-loop-k decreases-loop-k
+loop-k-init c = (omega arith, grow_none _ _)
 
-has-parent-in-requires : tie.Need-has-parent-in-requires invariant-loop decreases-loop
-has-parent-in-requires c κs = (c.before.before.before.before.requires, omega arith)
+has_parent_in-requires : tie.Need-has_parent_in-requires invariant-loop-k decreases-loop-k
+has_parent_in-requires c κs = (c.requires, omega arith)
 
-add-requires : tie.Need-add-requires invariant-loop decreases-loop
-add-requires c κs = omega arith
+add-r-requires : tie.Need-add-r-requires invariant-loop-k decreases-loop-k
+add-r-requires c κs = omega arith
 
-add-k : tie.Need-overflow-add-k invariant-loop decreases-loop
-add-k c = omega arith
+overflow_add-k : tie.Need-overflow_add-k invariant-loop-k decreases-loop-k
+overflow_add-k c = omega arith
 
-loop-less : tie.Need-loop-smaller invariant-loop decreases-loop
-loop-less c = omega arith
+loop-k-smaller : tie.Need-loop-k-smaller invariant-loop-k decreases-loop-k
+loop-k-smaller c = omega arith
 
-loop-again : tie.Need-loop-preserved invariant-loop decreases-loop
-loop-again c =
-    let l = c.before.before.before.loop in
-    let child = sym c.before.has-parent-in.ensures in (
+loop-k-preserved : tie.Need-loop-k-preserved invariant-loop-k decreases-loop-k
+loop-k-preserved c =
+    let l = c.loop-k in
+    let child = sym c.has_parent_in.ensures in (
       omega arith,
       λ n. ⊎_elim
           (λ w.
-          ap (λ (x : TypeSet). has x n) w.2 ∙ w.1.ensures n ∙ ap (λ (x : Bool). eqb n l.k || x) (l.invariant.1 n)
-          ∙ grow_add _ _ l.k (child ∙ w.0.taken) n)
-          (λ w. ap (λ (x : TypeSet). has x n) w.1 ∙ l.invariant.1 n ∙ grow_skip _ _ l.k (child ∙ w.0.left) n)
-          c.if1.branch,
+          ap (λ (x : TypeSet). has x n) w.r-is ∙ w.add-r.ensures n ∙ ap (λ (x : Bool). eqb n l.k || x) (l.invariant.1 n)
+          ∙ grow_add _ _ l.k (child ∙ w.if-has_parent_in.true) n)
+          (λ w. ap (λ (x : TypeSet). has x n) w.r-is ∙ l.invariant.1 n ∙ grow_skip _ _ l.k (child ∙ w.if-has_parent_in.false) n)
+          c.if-has_parent_in.branch-raw,
     )
 
-returns : tie.Need-returns invariant-loop decreases-loop
+returns : tie.Need-returns invariant-loop-k decreases-loop-k
 returns c =
-    let s = c.before.before.before.before.args in
-    children_all s.base.now (has s.s) _ _ c.before.loop.k (omega arith) c.before.before.empty.ensures c.before.loop.invariant.1
+    let s = c.args in
+    children_all s.base.now (has s.s) _ _ c.loop-k.k (omega arith) c.empty-r.ensures c.loop-k.invariant.1
 
-pub children-of-spec : {M : Type 1} → statement M
-children-of-spec =
+pub children_of_spec : {M : Type 1} → statement M
+children_of_spec =
     tie.close
     (tie.spec
-    invariant-loop
-    decreases-loop
-    empty-requires
-    loop-holds
-    has-parent-in-requires
-    add-requires
-    add-k
-    loop-less
-    loop-again
+    invariant-loop-k
+    decreases-loop-k
+    empty-r-requires
+    loop-k-init
+    has_parent_in-requires
+    add-r-requires
+    overflow_add-k
+    loop-k-smaller
+    loop-k-preserved
     returns)

@@ -13,80 +13,76 @@ use Rattle.kin.proofs.DepthLaws.{Level, level_none, level_more, level_some, leve
 use Rattle.kin.proofs.depth.Statement.{statement}
 use Rattle.kin.proofs.depth.Tie as tie
 
-abbrev invariant-loop : tie.invariant-loop
-invariant-loop base t s₀ a₀ d₀ s a d = Lowest (has s) a × (d ≤ depth (schema_of base) t) × Level (schema_of base) t (d + 1) (has s)
+abbrev invariant-loop-a : tie.invariant-loop-a
+invariant-loop-a base t s₀ a₀ d₀ s a d = Lowest (has s) a × (d ≤ depth (schema_of base) t) × Level (schema_of base) t (d + 1) (has s)
 
-abbrev decreases-loop : tie.decreases-loop
-decreases-loop base t s₀ a₀ d₀ s a d = depth (schema_of base) t - d
+abbrev decreases-loop-a : tie.decreases-loop-a
+decreases-loop-a base t s₀ a₀ d₀ s a d = depth (schema_of base) t - d
 
-empty-requires : tie.Need-empty-requires invariant-loop decreases-loop
-empty-requires c κs = tt
+empty-none-requires : tie.Need-empty-none-requires invariant-loop-a decreases-loop-a
+empty-none-requires c κs = tt
 
-add-requires : tie.Need-add-requires invariant-loop decreases-loop
-add-requires c κs = let start = c.before.before in object_below start.args.base.now start.args.t start.requires.1
+add-requires : tie.Need-add-requires invariant-loop-a decreases-loop-a
+add-requires c κs = object_below c.args.base.now c.args.t c.requires.1
 
-parents-of-requires : tie.Need-parents-of-requires invariant-loop decreases-loop
-parents-of-requires c κs = good_parental c.before.before.before.requires.0
+parents_of-s-requires : tie.Need-parents_of-s-requires invariant-loop-a decreases-loop-a
+parents_of-s-requires c κs = good_parental c.requires.0
 
-lowest-requires : tie.Need-lowest-requires invariant-loop decreases-loop
-lowest-requires c κs = tt
+lowest-a-requires : tie.Need-lowest-a-requires invariant-loop-a decreases-loop-a
+lowest-a-requires c κs = tt
 
-loop-holds : tie.Need-loop-init invariant-loop decreases-loop
-loop-holds c =
-    let start = c.before.before.before.before.before.args in
-    let one = c.before.before.add in
-    let alone = level_none (schema_of start.base.now) start.t (has one.result) _ c.before.before.before.empty.ensures one.ensures in (
-      c.lowest.ensures,
+loop-a-init : tie.Need-loop-a-init invariant-loop-a decreases-loop-a
+loop-a-init c =
+    let start = c.args in
+    let one = c.add in
+    let alone = level_none (schema_of start.base.now) start.t (has one.result) _ c.empty-none.ensures one.ensures in (
+      c.lowest-a.ensures,
       omega arith,
-      level_more _ alone (has_below one.result) c.before.parents_of.ensures,
+      level_more _ alone (has_below one.result) c.parents_of-s.ensures,
     )
 
-parents-of-requires-2 : tie.Need-parents-of-requires-2 invariant-loop decreases-loop
-parents-of-requires-2 c κs = good_parental c.before.before.before.before.before.before.before.requires.0
+parents_of-s-requires-in-loop-a : tie.Need-parents_of-s-requires-in-loop-a invariant-loop-a decreases-loop-a
+parents_of-s-requires-in-loop-a c κs = good_parental c.requires.0
 
-lowest-requires-2 : tie.Need-lowest-requires-2 invariant-loop decreases-loop
-lowest-requires-2 c κs = tt
+lowest-a-requires-in-loop-a : tie.Need-lowest-a-requires-in-loop-a invariant-loop-a decreases-loop-a
+lowest-a-requires-in-loop-a c κs = tt
 
-add-d : tie.Need-overflow-add-d invariant-loop decreases-loop
-add-d c =
-    let start = c.before.before.before.before.before.before.before.before.before in
-    omega (arith, depth_small (sound_good start.requires.0) start.args.t start.requires.1)
+overflow_add-d : tie.Need-overflow_add-d invariant-loop-a decreases-loop-a
+overflow_add-d c =
+    omega (arith, depth_small (sound_good c.requires.0) c.args.t c.requires.1)
 
-loop-less : tie.Need-loop-smaller invariant-loop decreases-loop
-loop-less c =
-    let start = c.before.before.before.before.before.before.before.before.before in
-    let l = c.before.before.before.loop in
-    let some = level_some (sound_good start.requires.0) start.args.t start.requires.1 l.invariant.2 l.a (l.invariant.0.passes (omega arith)) in
+loop-a-smaller : tie.Need-loop-a-smaller invariant-loop-a decreases-loop-a
+loop-a-smaller c =
+    let l = c.loop-a in
+    let some = level_some (sound_good c.requires.0) c.args.t c.requires.1 l.invariant.2 l.a (l.invariant.0.passes (omega arith)) in
     omega arith
 
-loop-again : tie.Need-loop-preserved invariant-loop decreases-loop
-loop-again c =
-    let start = c.before.before.before.before.before.before.before.before.before in
-    let l = c.before.before.before.loop in
-    let some = level_some (sound_good start.requires.0) start.args.t start.requires.1 l.invariant.2 l.a (l.invariant.0.passes (omega arith)) in
-    (c.lowest2.ensures, omega arith, level_more _ l.invariant.2 (has_below l.s) c.before.parents-of2.ensures)
+loop-a-preserved : tie.Need-loop-a-preserved invariant-loop-a decreases-loop-a
+loop-a-preserved c =
+    let l = c.loop-a in
+    let some = level_some (sound_good c.requires.0) c.args.t c.requires.1 l.invariant.2 l.a (l.invariant.0.passes (omega arith)) in
+    (c.lowest-a-in-loop-a.ensures, omega arith, level_more _ l.invariant.2 (has_below l.s) c.parents_of-s-in-loop-a.ensures)
 
-returns : tie.Need-returns invariant-loop decreases-loop
+returns : tie.Need-returns invariant-loop-a decreases-loop-a
 returns c =
-    let start = c.before.before.before.before.before.before.before in
-    let l = c.before.loop in
-    let none = level_last (sound_good start.requires.0) start.args.t start.requires.1 l.invariant.2 (lowest_none l.s l.invariant.0 (omega arith)) in
+    let l = c.loop-a in
+    let none = level_last (sound_good c.requires.0) c.args.t c.requires.1 l.invariant.2 (lowest_none l.s l.invariant.0 (omega arith)) in
     omega arith
 
-pub depth-spec : {M : Type 1} → statement M
-depth-spec =
+pub depth_spec : {M : Type 1} → statement M
+depth_spec =
     tie.close
     (tie.spec
-    invariant-loop
-    decreases-loop
-    empty-requires
+    invariant-loop-a
+    decreases-loop-a
+    empty-none-requires
     add-requires
-    parents-of-requires
-    lowest-requires
-    loop-holds
-    parents-of-requires-2
-    lowest-requires-2
-    add-d
-    loop-less
-    loop-again
+    parents_of-s-requires
+    lowest-a-requires
+    loop-a-init
+    parents_of-s-requires-in-loop-a
+    lowest-a-requires-in-loop-a
+    overflow_add-d
+    loop-a-smaller
+    loop-a-preserved
     returns)

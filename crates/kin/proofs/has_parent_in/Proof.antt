@@ -9,66 +9,61 @@ use Rattle.kin.proofs.KinLaws.{Finds, finds_none, finds_here, finds_more, finds_
 use Rattle.kin.proofs.has_parent_in.Statement.{statement}
 use Rattle.kin.proofs.has_parent_in.Tie as tie
 
-abbrev invariant-loop : tie.invariant-loop
-invariant-loop base t s n j₀ j = (j ≤ n) × (n ≤ 4) × Finds (schema_of base) t j (has s)
+abbrev invariant-loop-j : tie.invariant-loop-j
+invariant-loop-j base t s n j₀ j = (j ≤ n) × (n ≤ 4) × Finds (schema_of base) t j (has s)
 
-abbrev decreases-loop : tie.decreases-loop
-decreases-loop base t s n j₀ j = n - j
+abbrev decreases-loop-j : tie.decreases-loop-j
+decreases-loop-j base t s n j₀ j = n - j
 
-parent-count-requires : tie.Need-parent-count-requires invariant-loop decreases-loop
-parent-count-requires c κs = let start = c.before in (start.requires.0.long, start.requires.1)
+parent_count-n-requires : tie.Need-parent_count-n-requires invariant-loop-j decreases-loop-j
+parent_count-n-requires c κs = (c.requires.0.long, c.requires.1)
 
-loop-holds : tie.Need-loop-init invariant-loop decreases-loop
-loop-holds c =
-    let start = c.before.before in
-    let few = count_few start.requires.0 start.args.t start.requires.1 in
-    (omega arith, omega arith, finds_none start.requires.0 start.args.t start.requires.1 _)
+loop-j-init : tie.Need-loop-j-init invariant-loop-j decreases-loop-j
+loop-j-init c =
+    let few = count_few c.requires.0 c.args.t c.requires.1 in
+    (omega arith, omega arith, finds_none c.requires.0 c.args.t c.requires.1 _)
 
-parent-requires : tie.Need-parent-requires invariant-loop decreases-loop
-parent-requires c κs = let start = c.before.before.before.before in (start.requires.0.long, (start.requires.1, omega arith))
+parent-a-requires : tie.Need-parent-a-requires invariant-loop-j decreases-loop-j
+parent-a-requires c κs = (c.requires.0.long, (c.requires.1, omega arith))
 
-test-requires : tie.Need-test-requires invariant-loop decreases-loop
+test-requires : tie.Need-test-requires invariant-loop-j decreases-loop-j
 test-requires c κs =
-    let start = c.before.before.before.before.before in
-    let by = parent_at start.requires.0 start.args.t start.requires.1 c.before.before.loop.j (omega arith) in
-    omega (arith, parent_below start.requires.0 by)
+    let by = parent_at c.requires.0 c.args.t c.requires.1 c.loop-j.j (omega arith) in
+    omega (arith, parent_below c.requires.0 by)
 
-returns : tie.Need-returns invariant-loop decreases-loop
+returns-then-test : tie.Need-returns-then-test invariant-loop-j decreases-loop-j
+returns-then-test c =
+    let a = ap (has c.args.s) (sym c.parent-a.ensures.is) ∙ sym c.test.ensures in
+    finds_here c.requires.0 c.args.t c.requires.1 _ c.loop-j.invariant.2 (omega arith) (a ∙ c.if-test.true)
+
+overflow_add-j : tie.Need-overflow_add-j invariant-loop-j decreases-loop-j
+overflow_add-j c = omega arith
+
+loop-j-smaller : tie.Need-loop-j-smaller invariant-loop-j decreases-loop-j
+loop-j-smaller c = omega arith
+
+loop-j-preserved : tie.Need-loop-j-preserved invariant-loop-j decreases-loop-j
+loop-j-preserved c =
+    let l = c.loop-j in
+    let a = ap (has c.args.s) (sym c.parent-a.ensures.is) ∙ sym c.test.ensures in
+    (omega arith, l.invariant.1, finds_more c.requires.0 c.args.t c.requires.1 _ l.invariant.2 (omega arith) (a ∙ c.if-test.false))
+
+returns : tie.Need-returns invariant-loop-j decreases-loop-j
 returns c =
-    let start = c.before.before.before.before.before.before.before in
-    let a = ap (has start.args.s) (sym c.before.before.parent.ensures.is) ∙ sym c.before.test.ensures in
-    finds_here start.requires.0 start.args.t start.requires.1 _ c.before.before.before.before.loop.invariant.2 (omega arith) (a ∙ c.if1.true)
+    finds_all c.requires.0 c.args.t c.requires.1 _ c.loop-j.invariant.2 (omega arith)
 
-add-j : tie.Need-overflow-add-j invariant-loop decreases-loop
-add-j c = omega arith
-
-loop-less : tie.Need-loop-smaller invariant-loop decreases-loop
-loop-less c = omega arith
-
-loop-again : tie.Need-loop-preserved invariant-loop decreases-loop
-loop-again c =
-    let start = c.before.before.before.before.before.before.before in
-    let l = c.before.before.before.before.loop in
-    let a = ap (has start.args.s) (sym c.before.before.parent.ensures.is) ∙ sym c.before.test.ensures in
-    (omega arith, l.invariant.1, finds_more start.requires.0 start.args.t start.requires.1 _ l.invariant.2 (omega arith) (a ∙ c.if1.false))
-
-returns-2 : tie.Need-returns-2 invariant-loop decreases-loop
-returns-2 c =
-    let start = c.before.before.before.before in
-    finds_all start.requires.0 start.args.t start.requires.1 _ c.before.loop.invariant.2 (omega arith)
-
-pub has-parent-in-spec : {M : Type 1} → statement M
-has-parent-in-spec =
+pub has_parent_in_spec : {M : Type 1} → statement M
+has_parent_in_spec =
     tie.close
     (tie.spec
-    invariant-loop
-    decreases-loop
-    parent-count-requires
-    loop-holds
-    parent-requires
+    invariant-loop-j
+    decreases-loop-j
+    parent_count-n-requires
+    loop-j-init
+    parent-a-requires
     test-requires
-    returns
-    add-j
-    loop-less
-    loop-again
-    returns-2)
+    returns-then-test
+    overflow_add-j
+    loop-j-smaller
+    loop-j-preserved
+    returns)

@@ -10,58 +10,58 @@ use Rattle.kin.proofs.KinLaws.{fewer_left, ParentsLeft, parents_none, parents_mo
 use Rattle.kin.proofs.parents_of.Statement.{statement}
 use Rattle.kin.proofs.parents_of.Tie as tie
 
-abbrev invariant-loop : tie.invariant-loop
-invariant-loop base r₀ left₀ t₀ r left t = Lowest (has left) t × ParentsLeft (schema_of base) (has left₀) (has left) (has r)
+abbrev invariant-loop-t : tie.invariant-loop-t
+invariant-loop-t base r₀ left₀ t₀ r left t = Lowest (has left) t × ParentsLeft (schema_of base) (has left₀) (has left) (has r)
 
-abbrev decreases-loop : tie.decreases-loop
-decreases-loop base r₀ left₀ t₀ r left t = length (members (has left))
+abbrev decreases-loop-t : tie.decreases-loop-t
+decreases-loop-t base r₀ left₀ t₀ r left t = length (members (has left))
 
-empty-requires : tie.Need-empty-requires invariant-loop decreases-loop
-empty-requires c κs = tt
+empty-r-requires : tie.Need-empty-r-requires invariant-loop-t decreases-loop-t
+empty-r-requires c κs = tt
 
-lowest-requires : tie.Need-lowest-requires invariant-loop decreases-loop
-lowest-requires c κs = tt
+lowest-t-requires : tie.Need-lowest-t-requires invariant-loop-t decreases-loop-t
+lowest-t-requires c κs = tt
 
-loop-holds : tie.Need-loop-init invariant-loop decreases-loop
-loop-holds c = (c.lowest.ensures, parents_none _ _ _ c.before.empty.ensures)
+loop-t-init : tie.Need-loop-t-init invariant-loop-t decreases-loop-t
+loop-t-init c = (c.lowest-t.ensures, parents_none _ _ _ c.empty-r.ensures)
 
-add-parents-requires : tie.Need-add-parents-requires invariant-loop decreases-loop
-add-parents-requires c κs = (c.before.before.before.before.before.requires, omega arith)
+add_parents-r-requires : tie.Need-add_parents-r-requires invariant-loop-t decreases-loop-t
+add_parents-r-requires c κs = (c.requires, omega arith)
 
-less-requires : tie.Need-less-requires invariant-loop decreases-loop
-less-requires c κs = omega arith
+less-left-requires : tie.Need-less-left-requires invariant-loop-t decreases-loop-t
+less-left-requires c κs = omega arith
 
-lowest-requires-2 : tie.Need-lowest-requires-2 invariant-loop decreases-loop
-lowest-requires-2 c κs = tt
+lowest-t-requires-in-loop-t : tie.Need-lowest-t-requires-in-loop-t invariant-loop-t decreases-loop-t
+lowest-t-requires-in-loop-t c κs = tt
 
-loop-less : tie.Need-loop-smaller invariant-loop decreases-loop
-loop-less c =
-    let l = c.before.before.before.before.loop in
-    fewer_left (has l.left) _ l.t (omega arith) (l.invariant.0.passes (omega arith)) c.before.less.ensures
+loop-t-smaller : tie.Need-loop-t-smaller invariant-loop-t decreases-loop-t
+loop-t-smaller c =
+    let l = c.loop-t in
+    fewer_left (has l.left) _ l.t (omega arith) (l.invariant.0.passes (omega arith)) c.less-left.ensures
 
-loop-again : tie.Need-loop-preserved invariant-loop decreases-loop
-loop-again c =
-    let l = c.before.before.before.before.loop in (
-      c.lowest2.ensures,
-      parents_more l.invariant.1 _ _ l.t (omega arith) (l.invariant.0.passes (omega arith)) c.before.less.ensures
-          c.before.before.add-parents.ensures,
+loop-t-preserved : tie.Need-loop-t-preserved invariant-loop-t decreases-loop-t
+loop-t-preserved c =
+    let l = c.loop-t in (
+      c.lowest-t-in-loop-t.ensures,
+      parents_more l.invariant.1 _ _ l.t (omega arith) (l.invariant.0.passes (omega arith)) c.less-left.ensures
+          c.add_parents-r.ensures,
     )
 
-returns : tie.Need-returns invariant-loop decreases-loop
-returns c = let l = c.before.loop in parents_all l.invariant.1 (lowest_none l.left l.invariant.0 (omega arith))
+returns : tie.Need-returns invariant-loop-t decreases-loop-t
+returns c = let l = c.loop-t in parents_all l.invariant.1 (lowest_none l.left l.invariant.0 (omega arith))
 
-pub parents-of-spec : {M : Type 1} → statement M
-parents-of-spec =
+pub parents_of_spec : {M : Type 1} → statement M
+parents_of_spec =
     tie.close
     (tie.spec
-    invariant-loop
-    decreases-loop
-    empty-requires
-    lowest-requires
-    loop-holds
-    add-parents-requires
-    less-requires
-    lowest-requires-2
-    loop-less
-    loop-again
+    invariant-loop-t
+    decreases-loop-t
+    empty-r-requires
+    lowest-t-requires
+    loop-t-init
+    add_parents-r-requires
+    less-left-requires
+    lowest-t-requires-in-loop-t
+    loop-t-smaller
+    loop-t-preserved
     returns)

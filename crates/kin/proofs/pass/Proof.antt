@@ -13,54 +13,52 @@ use Rattle.kin.proofs.PassLaws.{Looked, looked_none, looked_more, looked_all}
 use Rattle.kin.proofs.pass.Statement.{statement}
 use Rattle.kin.proofs.pass.Tie as tie
 
-abbrev invariant-loop : tie.invariant-loop
-invariant-loop base sdss from n down r₀ i₀ r i = (i ≤ n) × Looked base (bit sdss) (has r₀) from n down i (has r)
+abbrev invariant-loop-i : tie.invariant-loop-i
+invariant-loop-i base sdss from n down r₀ i₀ r i = (i ≤ n) × Looked base (bit sdss) (has r₀) from n down i (has r)
 
-abbrev decreases-loop : tie.decreases-loop
-decreases-loop base sdss from n down r₀ i₀ r i = n - i
+abbrev decreases-loop-i : tie.decreases-loop-i
+decreases-loop-i base sdss from n down r₀ i₀ r i = n - i
 
-loop-holds : tie.Need-loop-init invariant-loop decreases-loop
-loop-holds c = (omega arith, looked_none _ _ _ _ _ _)
+loop-i-init : tie.Need-loop-i-init invariant-loop-i decreases-loop-i
+loop-i-init c = (omega arith, looked_none _ _ _ _ _ _)
 
-row-requires : tie.Need-row-requires invariant-loop decreases-loop
-row-requires c κs = let start = c.before.before.before in (omega arith, omega (arith, start.requires.1.fits, few_presences start.args.base.now))
+row-requires : tie.Need-row-requires invariant-loop-i decreases-loop-i
+row-requires c κs = (omega arith, omega (arith, c.requires.1.fits, few_presences c.args.base.now))
 
-add-child-requires : tie.Need-add-child-requires invariant-loop decreases-loop
-add-child-requires c κs = let start = c.before.before.before.before in (start.requires.0, omega (arith, start.requires.1.fits, c.row.ensures.0))
+add_child-r-requires : tie.Need-add_child-r-requires invariant-loop-i decreases-loop-i
+add_child-r-requires c κs = (c.requires.0, omega (arith, c.requires.1.fits, c.row.ensures.0))
 
-add-i : tie.Need-overflow-add-i invariant-loop decreases-loop
-add-i c = omega arith
+overflow_add-i : tie.Need-overflow_add-i invariant-loop-i decreases-loop-i
+overflow_add-i c = omega arith
 
-loop-less : tie.Need-loop-smaller invariant-loop decreases-loop
-loop-less c = omega arith
+loop-i-smaller : tie.Need-loop-i-smaller invariant-loop-i decreases-loop-i
+loop-i-smaller c = omega arith
 
-loop-again : tie.Need-loop-preserved invariant-loop decreases-loop
-loop-again c =
-    let l = c.before.before.before.loop in
-    let start = c.before.before.before.before.before in
-    let b = start.args.base.now in (
+loop-i-preserved : tie.Need-loop-i-preserved invariant-loop-i decreases-loop-i
+loop-i-preserved c =
+    let l = c.loop-i in
+    let b = c.args.base.now in (
       omega arith,
-      looked_more _ _ _ _ _ _ l.invariant.1 _ (has_below l.r) (omega (arith, start.requires.1.fits, c.before.row.ensures.0, c.before.row.ensures.1))
-          (λ k. c.add-child.ensures k ∙ ap
-          (λ (j : ℕ). has l.r k || child_there (schema_of b) (bit start.args.sdss) (has l.r) (presence_shown b j) k) c.before.row.ensures.1),
+      looked_more _ _ _ _ _ _ l.invariant.1 _ (has_below l.r) (omega (arith, c.requires.1.fits, c.row.ensures.0, c.row.ensures.1))
+          (λ k. c.add_child-r.ensures k ∙ ap
+          (λ (j : ℕ). has l.r k || child_there (schema_of b) (bit c.args.sdss) (has l.r) (presence_shown b j) k) c.row.ensures.1),
     )
 
-returns : tie.Need-returns invariant-loop decreases-loop
+returns : tie.Need-returns invariant-loop-i decreases-loop-i
 returns c =
-    let start = c.before.before.before in
-    let l = c.before.loop in
-    looked_all _ _ _ _ _ _ l.invariant.1 (sound_good start.requires.0) start.requires.1 (omega arith) (has_below start.args.s)
+    let l = c.loop-i in
+    looked_all _ _ _ _ _ _ l.invariant.1 (sound_good c.requires.0) c.requires.1 (omega arith) (has_below c.args.s)
 
 pub pass_spec : {M : Type 1} → statement M
 pass_spec =
     tie.close
     (tie.spec
-    invariant-loop
-    decreases-loop
-    loop-holds
+    invariant-loop-i
+    decreases-loop-i
+    loop-i-init
     row-requires
-    add-child-requires
-    add-i
-    loop-less
-    loop-again
+    add_child-r-requires
+    overflow_add-i
+    loop-i-smaller
+    loop-i-preserved
     returns)

@@ -12,63 +12,61 @@ use Rattle.kin.specs.Kin.{looked_at}
 use Rattle.kin.proofs.unlisted.Statement.{statement}
 use Rattle.kin.proofs.unlisted.Tie as tie
 
-abbrev invariant-loop : tie.invariant-loop
-invariant-loop base sdss from n down i₀ i = (i ≤ n) × ((j : ℕ) → j < i → bit sdss (presence_shown base (looked_at from n down j)).sds ≡ false)
+abbrev invariant-loop-i : tie.invariant-loop-i
+invariant-loop-i base sdss from n down i₀ i = (i ≤ n) × ((j : ℕ) → j < i → bit sdss (presence_shown base (looked_at from n down j)).sds ≡ false)
 
-abbrev decreases-loop : tie.decreases-loop
-decreases-loop base sdss from n down i₀ i = n - i
+abbrev decreases-loop-i : tie.decreases-loop-i
+decreases-loop-i base sdss from n down i₀ i = n - i
 
-loop-holds : tie.Need-loop-init invariant-loop decreases-loop
-loop-holds c = (omega arith, below_none _)
+loop-i-init : tie.Need-loop-i-init invariant-loop-i decreases-loop-i
+loop-i-init c = (omega arith, below_none _)
 
-row-requires : tie.Need-row-requires invariant-loop decreases-loop
-row-requires c κs = let start = c.before.before.before in (omega arith, omega (arith, start.requires.1, few_presences start.args.base.now))
+row-requires : tie.Need-row-requires invariant-loop-i decreases-loop-i
+row-requires c κs = (omega arith, omega (arith, c.requires.1, few_presences c.args.base.now))
 
-presence-sds-requires : tie.Need-presence-sds-requires invariant-loop decreases-loop
-presence-sds-requires c κs =
-    let start = c.before.before.before.before in
-    (sound_long start.requires.0, omega (arith, start.requires.1, few_presences start.args.base.now, c.row.ensures.0))
+presence_sds-requires : tie.Need-presence_sds-requires invariant-loop-i decreases-loop-i
+presence_sds-requires c κs =
+    (sound_long c.requires.0, omega (arith, c.requires.1, few_presences c.args.base.now, c.row.ensures.0))
 
-lists-requires : tie.Need-lists-requires invariant-loop decreases-loop
+lists-requires : tie.Need-lists-requires invariant-loop-i decreases-loop-i
 lists-requires c κs =
-    let start = c.before.before.before.before.before in
-    let small = presence_small start.requires.0 c.before.row.result (omega (arith, start.requires.1, c.before.row.ensures.0)) in
+    let small = presence_small c.requires.0 c.row.result (omega (arith, c.requires.1, c.row.ensures.0)) in
     omega (arith, c.presence_sds.ensures.is, small.0)
 
-returns : tie.Need-returns invariant-loop decreases-loop
-returns c = (omega arith, c.before.before.before.before.before.loop.invariant.1)
+returns-then-lists : tie.Need-returns-then-lists invariant-loop-i decreases-loop-i
+returns-then-lists c = (omega arith, c.loop-i.invariant.1)
 
-add-i : tie.Need-overflow-add-i invariant-loop decreases-loop
-add-i c = omega arith
+overflow_add-i : tie.Need-overflow_add-i invariant-loop-i decreases-loop-i
+overflow_add-i c = omega arith
 
-loop-less : tie.Need-loop-smaller invariant-loop decreases-loop
-loop-less c = omega arith
+loop-i-smaller : tie.Need-loop-i-smaller invariant-loop-i decreases-loop-i
+loop-i-smaller c = omega arith
 
-loop-again : tie.Need-loop-preserved invariant-loop decreases-loop
-loop-again c =
-    let l = c.before.before.before.before.before.loop in
-    let x = c.before.before.before.before.before.before.before.args in (
+loop-i-preserved : tie.Need-loop-i-preserved invariant-loop-i decreases-loop-i
+loop-i-preserved c =
+    let l = c.loop-i in
+    let x = c.args in (
       omega arith,
       below_more _ l.i l.invariant.1
-          (ap (λ (j : ℕ). bit x.sdss (presence_shown x.base.now j).sds) (sym c.before.before.before.row.ensures.1)
-          ∙ ap (bit x.sdss) (sym c.before.before.presence_sds.ensures.is) ∙ sym c.before.lists.ensures ∙ c.if1.false),
+          (ap (λ (j : ℕ). bit x.sdss (presence_shown x.base.now j).sds) (sym c.row.ensures.1)
+          ∙ ap (bit x.sdss) (sym c.presence_sds.ensures.is) ∙ sym c.lists.ensures ∙ c.if-lists.false),
     )
 
-returns-2 : tie.Need-returns-2 invariant-loop decreases-loop
-returns-2 c = (omega arith, c.before.loop.invariant.1)
+returns : tie.Need-returns invariant-loop-i decreases-loop-i
+returns c = (omega arith, c.loop-i.invariant.1)
 
-pub unlisted-spec : {M : Type 1} → statement M
-unlisted-spec =
+pub unlisted_spec : {M : Type 1} → statement M
+unlisted_spec =
     tie.close
     (tie.spec
-    invariant-loop
-    decreases-loop
-    loop-holds
+    invariant-loop-i
+    decreases-loop-i
+    loop-i-init
     row-requires
-    presence-sds-requires
+    presence_sds-requires
     lists-requires
-    returns
-    add-i
-    loop-less
-    loop-again
-    returns-2)
+    returns-then-lists
+    overflow_add-i
+    loop-i-smaller
+    loop-i-preserved
+    returns)

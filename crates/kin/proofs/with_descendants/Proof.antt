@@ -15,77 +15,74 @@ use Rattle.kin.proofs.ReachLaws.{Growing, growing_none, child_in, passed_more, d
 use Rattle.kin.proofs.with_descendants.Statement.{statement}
 use Rattle.kin.proofs.with_descendants.Tie as tie
 
-abbrev invariant-loop : tie.invariant-loop
-invariant-loop base sdss all from rest rows r₀ down₀ n₀ m₀ r down n m =
+abbrev invariant-loop-n : tie.invariant-loop-n
+invariant-loop-n base sdss all from rest rows r₀ down₀ n₀ m₀ r down n m =
     (m ≡ length (members (has r))) × Growing (child_in (schema_of base) (bit sdss)) (has r₀) n (has r)
 
-abbrev decreases-loop : tie.decreases-loop
-decreases-loop base sdss all from rest rows r₀ down₀ n₀ m₀ r down n m = 128 - n
+abbrev decreases-loop-n : tie.decreases-loop-n
+decreases-loop-n base sdss all from rest rows r₀ down₀ n₀ m₀ r down n m = 128 - n
 
-count-requires : tie.Need-count-requires invariant-loop decreases-loop
-count-requires c κs = c.before.requires
+count-all-requires : tie.Need-count-all-requires invariant-loop-n decreases-loop-n
+count-all-requires c κs = c.requires
 
-unlisted-requires : tie.Need-unlisted-requires invariant-loop decreases-loop
-unlisted-requires c κs = (c.before.before.requires, omega (arith, c.count.ensures.is))
+unlisted-from-requires : tie.Need-unlisted-from-requires invariant-loop-n decreases-loop-n
+unlisted-from-requires c κs = (c.requires, omega (arith, c.count-all.ensures.is))
 
-sub-rest : tie.Need-overflow-sub-rest invariant-loop decreases-loop
-sub-rest c = c.unlisted.ensures.0
+overflow_sub-rest : tie.Need-overflow_sub-rest invariant-loop-n decreases-loop-n
+overflow_sub-rest c = c.unlisted-from.ensures.0
 
-unlisted-requires-2 : tie.Need-unlisted-requires-2 invariant-loop decreases-loop
-unlisted-requires-2 c κs = (c.before.before.before.requires, omega (arith, c.before.count.ensures.is, c.unlisted.ensures.0))
+unlisted-requires : tie.Need-unlisted-requires invariant-loop-n decreases-loop-n
+unlisted-requires c κs = (c.requires, omega (arith, c.count-all.ensures.is, c.unlisted-from.ensures.0))
 
-sub-rows : tie.Need-overflow-sub-rows invariant-loop decreases-loop
-sub-rows c = c.unlisted2.ensures.0
+overflow_sub-rows : tie.Need-overflow_sub-rows invariant-loop-n decreases-loop-n
+overflow_sub-rows c = c.unlisted.ensures.0
 
-count-requires-2 : tie.Need-count-requires-2 invariant-loop decreases-loop
-count-requires-2 c κs = tt
+count-m-requires : tie.Need-count-m-requires invariant-loop-n decreases-loop-n
+count-m-requires c κs = tt
 
-loop-holds : tie.Need-loop-init invariant-loop decreases-loop
-loop-holds c = (c.count2.ensures, growing_none _ _)
+loop-n-init : tie.Need-loop-n-init invariant-loop-n decreases-loop-n
+loop-n-init c = (c.count-m.ensures, growing_none _ _)
 
-pass-requires : tie.Need-pass-requires invariant-loop decreases-loop
-pass-requires c κs =
-    let start = c.before.before.before.before.before.before.before in
-    let before = c.before.before.before.before.unlisted in
-    let behind = c.before.before.before.unlisted2 in
-    let count = c.before.before.before.before.before.count in (
-      start.requires,
+pass-r-requires : tie.Need-pass-r-requires invariant-loop-n decreases-loop-n
+pass-r-requires c κs =
+    let before = c.unlisted-from in
+    let behind = c.unlisted in
+    let count = c.count-all in (
+      c.requires,
       spans _ _ _ _ _ _ _ count.ensures.is refl refl before.ensures.0 behind.ensures.0 before.ensures.1 behind.ensures.1,
     )
 
-count-requires-3 : tie.Need-count-requires-3 invariant-loop decreases-loop
-count-requires-3 c κs = tt
+count-m-requires-in-loop-n : tie.Need-count-m-requires-in-loop-n invariant-loop-n decreases-loop-n
+count-m-requires-in-loop-n c κs = tt
 
-loop-less : tie.Need-loop-smaller invariant-loop decreases-loop
-loop-less c = let l = c.before.before.before.loop in omega (arith, members_most (has l.r))
+loop-n-smaller : tie.Need-loop-n-smaller invariant-loop-n decreases-loop-n
+loop-n-smaller c = let l = c.loop-n in omega (arith, members_most (has l.r))
 
-loop-again : tie.Need-loop-preserved invariant-loop decreases-loop
-loop-again c =
-    let l = c.before.before.before.loop in
-    let start = c.before.before.before.before.before.before.before.before.before in
-    (c.count3.ensures, passed_more (sound_good start.requires) (bit start.args.sdss) l.invariant.1 _ l.m c.before.pass.ensures l.invariant.0)
+loop-n-preserved : tie.Need-loop-n-preserved invariant-loop-n decreases-loop-n
+loop-n-preserved c =
+    let l = c.loop-n in
+    (c.count-m-in-loop-n.ensures, passed_more (sound_good c.requires) (bit c.args.sdss) l.invariant.1 _ l.m c.pass-r.ensures l.invariant.0)
 
-returns : tie.Need-returns invariant-loop decreases-loop
+returns : tie.Need-returns invariant-loop-n decreases-loop-n
 returns c =
-    let l = c.before.loop in
-    let start = c.before.before.before.before.before.before.before in
-    descendants_all (sound_good start.requires) (bit start.args.sdss) l.invariant.1 (omega arith) (has_below start.args.s) (has_below l.r)
+    let l = c.loop-n in
+    descendants_all (sound_good c.requires) (bit c.args.sdss) l.invariant.1 (omega arith) (has_below c.args.s) (has_below l.r)
 
-pub with-descendants-spec : {M : Type 1} → statement M
-with-descendants-spec =
+pub with_descendants_spec : {M : Type 1} → statement M
+with_descendants_spec =
     tie.close
     (tie.spec
-    invariant-loop
-    decreases-loop
-    count-requires
+    invariant-loop-n
+    decreases-loop-n
+    count-all-requires
+    unlisted-from-requires
+    overflow_sub-rest
     unlisted-requires
-    sub-rest
-    unlisted-requires-2
-    sub-rows
-    count-requires-2
-    loop-holds
-    pass-requires
-    count-requires-3
-    loop-less
-    loop-again
+    overflow_sub-rows
+    count-m-requires
+    loop-n-init
+    pass-r-requires
+    count-m-requires-in-loop-n
+    loop-n-smaller
+    loop-n-preserved
     returns)

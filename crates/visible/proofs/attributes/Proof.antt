@@ -19,88 +19,87 @@ use Rattle.lookup.proofs.RowBytes.{application_small}
 use Rattle.visible.proofs.attributes.Statement.{statement}
 use Rattle.visible.proofs.attributes.Tie as tie
 
-abbrev invariant-loop : tie.invariant-loop
-invariant-loop base sdss types n r₀ i₀ r i = (i ≤ n) × Gathers i (λ j. bit sdss (get_or base (application_at j) 0) && has types
+abbrev invariant-loop-i : tie.invariant-loop-i
+invariant-loop-i base sdss types n r₀ i₀ r i = (i ≤ n) × Gathers i (λ j. bit sdss (get_or base (application_at j) 0) && has types
     (get_or base (application_at j + to_offset) 0)) (λ j. get_or base (application_at j + attribute_offset) 0) (has r)
 
-abbrev decreases-loop : tie.decreases-loop
-decreases-loop base sdss types n r₀ i₀ r i = n - i
+abbrev decreases-loop-i : tie.decreases-loop-i
+decreases-loop-i base sdss types n r₀ i₀ r i = n - i
 
-application-count-requires : tie.Need-application-count-requires invariant-loop decreases-loop
-application-count-requires c κs = sound_long c.before.requires
+application_count-n-requires : tie.Need-application_count-n-requires invariant-loop-i decreases-loop-i
+application_count-n-requires c κs = sound_long c.requires
 
-empty-requires : tie.Need-empty-requires invariant-loop decreases-loop
-empty-requires c κs = search rules
+empty-r-requires : tie.Need-empty-r-requires invariant-loop-i decreases-loop-i
+empty-r-requires c κs = search rules
 
-loop-holds : tie.Need-loop-init invariant-loop decreases-loop
-loop-holds c = (omega arith, gathers_none _ _ _ c.empty.ensures)
+loop-i-init : tie.Need-loop-i-init invariant-loop-i decreases-loop-i
+loop-i-init c = (omega arith, gathers_none _ _ _ c.empty-r.ensures)
 
-is-applied-requires : tie.Need-is-applied-requires invariant-loop decreases-loop
-is-applied-requires c κs = (
-  c.before.before.before.before.before.requires,
+is_applied-requires : tie.Need-is_applied-requires invariant-loop-i decreases-loop-i
+is_applied-requires c κs = (
+  c.requires,
   omega
-      (arith, c.before.before.before.application_count.ensures.is, c.loop-test.true),
+      (arith, c.application_count-n.ensures.is, c.loop-i-test.true),
 )
 
-application-attribute-requires : tie.Need-application-attribute-requires invariant-loop decreases-loop
-application-attribute-requires c κs = (
-  sound_long c.before.before.before.before.before.before.before.requires,
+application_attribute-requires : tie.Need-application_attribute-requires invariant-loop-i decreases-loop-i
+application_attribute-requires c κs = (
+  sound_long c.requires,
   omega
-      (arith, c.before.before.before.before.before.application_count.ensures.fits, c.before.before.loop-test.true),
+      (arith, c.application_count-n.ensures.fits, c.loop-i-test.true),
 )
 
-add-requires : tie.Need-add-requires invariant-loop decreases-loop
-add-requires c κs =
+add-r-requires : tie.Need-add-r-requires invariant-loop-i decreases-loop-i
+add-r-requires c κs =
     omega (
       arith,
       c.application_attribute.ensures.is,
-      (application_small c.before.before.before.before.before.before.before.before.requires
-          c.before.before.before.before.loop.i (omega (
+      (application_small c.requires
+          c.loop-i.i (omega (
             arith,
-            c.before.before.before.before.before.before.application_count.ensures.is,
-            c.before.before.before.loop-test.true,
+            c.application_count-n.ensures.is,
+            c.loop-i-test.true,
           ))).1.1,
     )
 
-add-i : tie.Need-overflow-add-i invariant-loop decreases-loop
-add-i c = search rules
+overflow_add-i : tie.Need-overflow_add-i invariant-loop-i decreases-loop-i
+overflow_add-i c = search rules
 
-loop-less : tie.Need-loop-smaller invariant-loop decreases-loop
-loop-less c = search rules
+loop-i-smaller : tie.Need-loop-i-smaller invariant-loop-i decreases-loop-i
+loop-i-smaller c = search rules
 
-loop-again : tie.Need-loop-preserved invariant-loop decreases-loop
-loop-again c =
-    let l = c.before.before.before.loop in
-    let test = sym c.before.is-applied.ensures in (
+loop-i-preserved : tie.Need-loop-i-preserved invariant-loop-i decreases-loop-i
+loop-i-preserved c =
+    let l = c.loop-i in
+    let test = sym c.is_applied.ensures in (
       omega arith,
       ⊎_elim
-          (λ w. gathers_more _ _ l.i (has l.r) l.invariant.1 _ (test ∙ w.0.taken)
-          (λ k. ap (λ (x : TypeSet). has x k) w.3 ∙ w.2.ensures k ∙ ap (λ (x : ℕ). eqb k x || has l.r k) w.1.ensures.is))
-          (λ w. rw w.1 (gathers_skip _ _ l.i (has l.r) l.invariant.1 (test ∙ w.0.left)))
-          c.if1.branch,
+          (λ w. gathers_more _ _ l.i (has l.r) l.invariant.1 _ (test ∙ w.if-is_applied.true)
+          (λ k. ap (λ (x : TypeSet). has x k) w.r-is ∙ w.add-r.ensures k ∙ ap (λ (x : ℕ). eqb k x || has l.r k) w.application_attribute.ensures.is))
+          (λ w. rw w.r-is (gathers_skip _ _ l.i (has l.r) l.invariant.1 (test ∙ w.if-is_applied.false)))
+          c.if-is_applied.branch-raw,
     )
 
-returns : tie.Need-returns invariant-loop decreases-loop
+returns : tie.Need-returns invariant-loop-i decreases-loop-i
 returns c =
-    let x = c.before.before.before.before.before in
-    let l = c.before.loop in
-    let end : l.i ≡ application_count x.args.base.now = omega (arith, c.before.before.before.application_count.ensures.is) in
-    all_applications x.args.base.now (has l.r) (λ a. bit x.args.sdss a.sds && has x.args.types a.to) (λ a. a.attribute)
+    let l = c.loop-i in
+    let end : l.i ≡ application_count c.args.base.now = omega (arith, c.application_count-n.ensures.is) in
+    all_applications c.args.base.now (has l.r) (λ a. bit c.args.sdss a.sds && has c.args.types a.to) (λ a. a.attribute)
     (rw end at l.invariant.1)
 
-pub attributes-spec : {M : Type 1} → statement M
-attributes-spec =
+pub attributes_spec : {M : Type 1} → statement M
+attributes_spec =
     tie.close
     (tie.spec
-    invariant-loop
-    decreases-loop
-    application-count-requires
-    empty-requires
-    loop-holds
-    is-applied-requires
-    application-attribute-requires
-    add-requires
-    add-i
-    loop-less
-    loop-again
+    invariant-loop-i
+    decreases-loop-i
+    application_count-n-requires
+    empty-r-requires
+    loop-i-init
+    is_applied-requires
+    application_attribute-requires
+    add-r-requires
+    overflow_add-i
+    loop-i-smaller
+    loop-i-preserved
     returns)

@@ -10,44 +10,44 @@ use Rattle.lookup.proofs.RowBytes.{few_applications, application_small}
 use Rattle.visible.proofs.is_applied.Statement.{statement}
 use Rattle.visible.proofs.is_applied.Tie as tie
 
-application-sds-requires : tie.Need-application-sds-requires
-application-sds-requires c κs = (sound_long c.before.requires.0, omega (arith, few_applications c.before.args.base.now, c.before.requires.1))
+application_sds-requires : tie.Need-application_sds-requires
+application_sds-requires c κs = (sound_long c.requires.0, omega (arith, few_applications c.args.base.now, c.requires.1))
 
 lists-requires : tie.Need-lists-requires
-lists-requires c κs = omega (arith, c.application_sds.ensures.is, (application_small c.before.before.requires.0 _ c.before.before.requires.1).0)
+lists-requires c κs = omega (arith, c.application_sds.ensures.is, (application_small c.requires.0 _ c.requires.1).0)
 
-returns : tie.Need-returns
-returns c = fails_first _ (c.before.lists.ensures ∙ ap (bit c.before.before.before.before.args.sdss)
-    c.before.before.application_sds.ensures.is) c.if1.true
+returns-then-not-lists : tie.Need-returns-then-not-lists
+returns-then-not-lists c = fails_first _ (c.lists.ensures ∙ ap (bit c.args.sdss)
+    c.application_sds.ensures.is) c.if-not-lists.true-raw
 
-application-to-requires : tie.Need-application-to-requires
-application-to-requires c κs = (
-  sound_long c.before.before.before.before.requires.0,
+application_to-requires : tie.Need-application_to-requires
+application_to-requires c κs = (
+  sound_long c.requires.0,
   omega
-      (arith, few_applications c.before.before.before.before.args.base.now, c.before.before.before.before.requires.1),
+      (arith, few_applications c.args.base.now, c.requires.1),
 )
 
 test-requires : tie.Need-test-requires
 test-requires c κs = omega (
   arith,
   c.application_to.ensures.is,
-  (application_small c.before.before.before.before.before.requires.0 _
-      c.before.before.before.before.before.requires.1).1.0,
+  (application_small c.requires.0 _
+      c.requires.1).1.0,
 )
 
-returns-2 : tie.Need-returns-2
-returns-2 c =
-    passes_first (c.before.before.before.lists.ensures ∙ ap (bit c.before.before.before.before.before.before.args.sdss)
-    c.before.before.before.before.application_sds.ensures.is) c.before.before.if1.false
-    (c.test.ensures ∙ ap (has c.before.before.before.before.before.before.args.types) c.before.application_to.ensures.is)
+returns : tie.Need-returns
+returns c =
+    passes_first (c.lists.ensures ∙ ap (bit c.args.sdss)
+    c.application_sds.ensures.is) c.if-not-lists.false-raw
+    (c.test.ensures ∙ ap (has c.args.types) c.application_to.ensures.is)
 
-pub is-applied-spec : {M : Type 1} → statement M
-is-applied-spec =
+pub is_applied_spec : {M : Type 1} → statement M
+is_applied_spec =
     tie.close
     (tie.spec
-    application-sds-requires
+    application_sds-requires
     lists-requires
-    returns
-    application-to-requires
+    returns-then-not-lists
+    application_to-requires
     test-requires
-    returns-2)
+    returns)

@@ -11,31 +11,31 @@ use Rattle.lookup.proofs.RowBytes.{few_ends, end_small, side_byte}
 use Rattle.visible.proofs.is_end.Statement.{statement}
 use Rattle.visible.proofs.is_end.Tie as tie
 
-end-sds-requires : tie.Need-end-sds-requires
-end-sds-requires c κs = (sound_long c.before.requires.0, omega (arith, few_ends c.before.args.base.now, c.before.requires.1))
+end_sds-requires : tie.Need-end_sds-requires
+end_sds-requires c κs = (sound_long c.requires.0, omega (arith, few_ends c.args.base.now, c.requires.1))
 
 lists-requires : tie.Need-lists-requires
-lists-requires c κs = omega (arith, c.end_sds.ensures.is, (end_small c.before.before.requires.0 _ c.before.before.requires.1).0)
+lists-requires c κs = omega (arith, c.end_sds.ensures.is, (end_small c.requires.0 _ c.requires.1).0)
 
-returns : tie.Need-returns
-returns c = fails_first _ (c.before.lists.ensures ∙ ap (bit c.before.before.before.before.args.sdss) c.before.before.end_sds.ensures.is)
-    c.if1.true
+returns-then-not-lists : tie.Need-returns-then-not-lists
+returns-then-not-lists c = fails_first _ (c.lists.ensures ∙ ap (bit c.args.sdss) c.end_sds.ensures.is)
+    c.if-not-lists.true-raw
 
-end-side-requires : tie.Need-end-side-requires
-end-side-requires c κs = (
-  sound_long c.before.before.before.before.requires.0,
+end_side-requires : tie.Need-end_side-requires
+end_side-requires c κs = (
+  sound_long c.requires.0,
   omega
-      (arith, few_ends c.before.before.before.before.args.base.now, c.before.before.before.before.requires.1),
+      (arith, few_ends c.args.base.now, c.requires.1),
 )
 
-returns-2 : tie.Need-returns-2
-returns-2 c =
-    passes_first (c.before.before.lists.ensures ∙ ap (bit c.before.before.before.before.before.args.sdss)
-    c.before.before.before.end_sds.ensures.is) c.before.if1.false
-    (ap (λ (x : ℕ). eqb x c.before.before.before.before.before.args.side)
-    (c.end-side.ensures.is ∙ side_byte c.before.before.before.before.before.requires.0 _
-    c.before.before.before.before.before.requires.1))
+returns : tie.Need-returns
+returns c =
+    passes_first (c.lists.ensures ∙ ap (bit c.args.sdss)
+    c.end_sds.ensures.is) c.if-not-lists.false-raw
+    (ap (λ (x : ℕ). eqb x c.args.side)
+    (c.end_side.ensures.is ∙ side_byte c.requires.0 _
+    c.requires.1))
 
-pub is-end-spec : {M : Type 1} → statement M
-is-end-spec =
-    tie.close (tie.spec end-sds-requires lists-requires returns end-side-requires returns-2)
+pub is_end_spec : {M : Type 1} → statement M
+is_end_spec =
+    tie.close (tie.spec end_sds-requires lists-requires returns-then-not-lists end_side-requires returns)

@@ -11,31 +11,31 @@ use Rattle.lookup.proofs.RowBytes.{few_ends, end_small}
 use Rattle.visible.proofs.is_end_at.Statement.{statement}
 use Rattle.visible.proofs.is_end_at.Tie as tie
 
-is-end-requires : tie.Need-is-end-requires
-is-end-requires c κs = search rules
+is_end-requires : tie.Need-is_end-requires
+is_end-requires c κs = search rules
 
-returns : tie.Need-returns
-returns c = fails_first _ c.before.is_end.ensures c.if1.true
+returns-then-not-is_end : tie.Need-returns-then-not-is_end
+returns-then-not-is_end c = fails_first _ c.is_end.ensures c.if-not-is_end.true-raw
 
-end-object-requires : tie.Need-end-object-requires
-end-object-requires c κs = (
-  sound_long c.before.before.before.requires.0,
+end_object-requires : tie.Need-end_object-requires
+end_object-requires c κs = (
+  sound_long c.requires.0,
   omega
-      (arith, few_ends c.before.before.before.args.base.now, c.before.before.before.requires.1),
+      (arith, few_ends c.args.base.now, c.requires.1),
 )
 
 test-requires : tie.Need-test-requires
 test-requires c κs = omega (
   arith,
   c.end_object.ensures.is,
-  (end_small c.before.before.before.before.requires.0 _
-      c.before.before.before.before.requires.1).1.1,
+  (end_small c.requires.0 _
+      c.requires.1).1.1,
 )
 
-returns-2 : tie.Need-returns-2
-returns-2 c = passes_first c.before.before.before.is_end.ensures c.before.before.if1.false
-    (c.test.ensures ∙ ap (has c.before.before.before.before.before.args.types) c.before.end_object.ensures.is)
+returns : tie.Need-returns
+returns c = passes_first c.is_end.ensures c.if-not-is_end.false-raw
+    (c.test.ensures ∙ ap (has c.args.types) c.end_object.ensures.is)
 
-pub is-end-at-spec : {M : Type 1} → statement M
-is-end-at-spec =
-    tie.close (tie.spec is-end-requires returns end-object-requires test-requires returns-2)
+pub is_end_at_spec : {M : Type 1} → statement M
+is_end_at_spec =
+    tie.close (tie.spec is_end-requires returns-then-not-is_end end_object-requires test-requires returns)

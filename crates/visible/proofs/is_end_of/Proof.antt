@@ -11,22 +11,22 @@ use Rattle.lookup.proofs.RowBytes.{few_ends}
 use Rattle.visible.proofs.is_end_of.Statement.{statement}
 use Rattle.visible.proofs.is_end_of.Tie as tie
 
-is-end-requires : tie.Need-is-end-requires
-is-end-requires c κs = search rules
+is_end-requires : tie.Need-is_end-requires
+is_end-requires c κs = search rules
 
-returns : tie.Need-returns
-returns c = fails_first _ c.before.is_end.ensures c.if1.true
+returns-then-not-is_end : tie.Need-returns-then-not-is_end
+returns-then-not-is_end c = fails_first _ c.is_end.ensures c.if-not-is_end.true-raw
 
-end-link-requires : tie.Need-end-link-requires
-end-link-requires c κs = (
-  sound_long c.before.before.before.requires.0,
+end_link-requires : tie.Need-end_link-requires
+end_link-requires c κs = (
+  sound_long c.requires.0,
   omega
-      (arith, few_ends c.before.before.before.args.base.now, c.before.before.before.requires.1),
+      (arith, few_ends c.args.base.now, c.requires.1),
 )
 
-returns-2 : tie.Need-returns-2
-returns-2 c = passes_first c.before.before.is_end.ensures c.before.if1.false
-    (ap (λ (x : ℕ). eqb x c.before.before.before.before.args.link) c.end_link.ensures.is)
+returns : tie.Need-returns
+returns c = passes_first c.is_end.ensures c.if-not-is_end.false-raw
+    (ap (λ (x : ℕ). eqb x c.args.link) c.end_link.ensures.is)
 
-pub is-end-of-spec : {M : Type 1} → statement M
-is-end-of-spec = tie.close (tie.spec is-end-requires returns end-link-requires returns-2)
+pub is_end_of_spec : {M : Type 1} → statement M
+is_end_of_spec = tie.close (tie.spec is_end-requires returns-then-not-is_end end_link-requires returns)

@@ -10,29 +10,29 @@ use Rattle.lookup.proofs.RowBytes.{few_presences, presence_small}
 use Rattle.visible.proofs.is_shown.Statement.{statement}
 use Rattle.visible.proofs.is_shown.Tie as tie
 
-presence-sds-requires : tie.Need-presence-sds-requires
-presence-sds-requires c κs = (sound_long c.before.requires.0, omega (arith, few_presences c.before.args.base.now, c.before.requires.1))
+presence_sds-requires : tie.Need-presence_sds-requires
+presence_sds-requires c κs = (sound_long c.requires.0, omega (arith, few_presences c.args.base.now, c.requires.1))
 
 lists-requires : tie.Need-lists-requires
-lists-requires c κs = omega (arith, c.presence_sds.ensures.is, (presence_small c.before.before.requires.0 _ c.before.before.requires.1).0)
+lists-requires c κs = omega (arith, c.presence_sds.ensures.is, (presence_small c.requires.0 _ c.requires.1).0)
 
-returns : tie.Need-returns
-returns c = fails_first _ (c.before.lists.ensures ∙ ap (bit c.before.before.before.before.args.sdss) c.before.before.presence_sds.ensures.is)
-    c.if1.true
+returns-then-not-lists : tie.Need-returns-then-not-lists
+returns-then-not-lists c = fails_first _ (c.lists.ensures ∙ ap (bit c.args.sdss) c.presence_sds.ensures.is)
+    c.if-not-lists.true-raw
 
-presence-type-requires : tie.Need-presence-type-requires
-presence-type-requires c κs = (
-  sound_long c.before.before.before.before.requires.0,
+presence_type-requires : tie.Need-presence_type-requires
+presence_type-requires c κs = (
+  sound_long c.requires.0,
   omega
-      (arith, few_presences c.before.before.before.before.args.base.now, c.before.before.before.before.requires.1),
+      (arith, few_presences c.args.base.now, c.requires.1),
 )
 
-returns-2 : tie.Need-returns-2
-returns-2 c =
-    passes_first (c.before.before.lists.ensures ∙ ap (bit c.before.before.before.before.before.args.sdss)
-    c.before.before.before.presence_sds.ensures.is) c.before.if1.false
-    (ap (eqb c.before.before.before.before.before.args.t) c.presence_type.ensures.is)
+returns : tie.Need-returns
+returns c =
+    passes_first (c.lists.ensures ∙ ap (bit c.args.sdss)
+    c.presence_sds.ensures.is) c.if-not-lists.false-raw
+    (ap (eqb c.args.t) c.presence_type.ensures.is)
 
-pub is-shown-spec : {M : Type 1} → statement M
-is-shown-spec =
-    tie.close (tie.spec presence-sds-requires lists-requires returns presence-type-requires returns-2)
+pub is_shown_spec : {M : Type 1} → statement M
+is_shown_spec =
+    tie.close (tie.spec presence_sds-requires lists-requires returns-then-not-lists presence_type-requires returns)

@@ -17,60 +17,60 @@ use Rattle.visible.proofs.is_visible.Tie as tie
 abbrev shows : ℕ → ℕ → Presence → Bool
 shows sdss t p = bit sdss p.sds && eqb t p.type
 
-abbrev invariant-loop : tie.invariant-loop
-invariant-loop base sdss t n i₀ i = (i ≤ n) × ((j : ℕ) → j < i → shows sdss t (presence_shown base j) ≡ false)
+abbrev invariant-loop-i : tie.invariant-loop-i
+invariant-loop-i base sdss t n i₀ i = (i ≤ n) × ((j : ℕ) → j < i → shows sdss t (presence_shown base j) ≡ false)
 
-abbrev decreases-loop : tie.decreases-loop
-decreases-loop base sdss t n i₀ i = n - i
+abbrev decreases-loop-i : tie.decreases-loop-i
+decreases-loop-i base sdss t n i₀ i = n - i
 
-count-requires : tie.Need-count-requires invariant-loop decreases-loop
-count-requires c κs = search rules
+count-n-requires : tie.Need-count-n-requires invariant-loop-i decreases-loop-i
+count-n-requires c κs = search rules
 
-loop-holds : tie.Need-loop-init invariant-loop decreases-loop
-loop-holds c = (omega arith, below_none _)
+loop-i-init : tie.Need-loop-i-init invariant-loop-i decreases-loop-i
+loop-i-init c = (omega arith, below_none _)
 
-is-shown-requires : tie.Need-is-shown-requires invariant-loop decreases-loop
-is-shown-requires c κs = (c.before.before.before.before.requires, omega (arith, c.before.before.count.ensures.is, c.loop-test.true))
+is_shown-requires : tie.Need-is_shown-requires invariant-loop-i decreases-loop-i
+is_shown-requires c κs = (c.requires, omega (arith, c.count-n.ensures.is, c.loop-i-test.true))
 
-returns : tie.Need-returns invariant-loop decreases-loop
+returns-then-is_shown : tie.Need-returns-then-is_shown invariant-loop-i decreases-loop-i
 unfolding gathered
-returns c =
-    let x = c.before.before.before.before.before.before.args in
-    some_presence x.base.now (shows x.sdss x.t) c.before.before.before.loop.i
-    (omega (arith, c.before.before.before.before.count.ensures.is, c.before.before.loop-test.true))
-    (sym c.before.is-shown.ensures ∙ c.if1.true)
+returns-then-is_shown c =
+    let x = c.args in
+    some_presence x.base.now (shows x.sdss x.t) c.loop-i.i
+    (omega (arith, c.count-n.ensures.is, c.loop-i-test.true))
+    (sym c.is_shown.ensures ∙ c.if-is_shown.true)
 
-add-i : tie.Need-overflow-add-i invariant-loop decreases-loop
-add-i c = search rules
+overflow_add-i : tie.Need-overflow_add-i invariant-loop-i decreases-loop-i
+overflow_add-i c = search rules
 
-loop-less : tie.Need-loop-smaller invariant-loop decreases-loop
-loop-less c = search rules
+loop-i-smaller : tie.Need-loop-i-smaller invariant-loop-i decreases-loop-i
+loop-i-smaller c = search rules
 
-loop-again : tie.Need-loop-preserved invariant-loop decreases-loop
-loop-again c =
-    let l = c.before.before.before.loop in (
+loop-i-preserved : tie.Need-loop-i-preserved invariant-loop-i decreases-loop-i
+loop-i-preserved c =
+    let l = c.loop-i in (
       omega arith,
-      below_more _ l.i l.invariant.1 (sym c.before.is-shown.ensures ∙ c.if1.false),
+      below_more _ l.i l.invariant.1 (sym c.is_shown.ensures ∙ c.if-is_shown.false),
     )
 
-returns-2 : tie.Need-returns-2 invariant-loop decreases-loop
+returns : tie.Need-returns invariant-loop-i decreases-loop-i
 unfolding gathered
-returns-2 c =
-    let x = c.before.before.before.before.args in
+returns c =
+    let x = c.args in
     no_presence x.base.now (shows x.sdss x.t)
-    (λ j h. c.before.loop.invariant.1 j (omega (arith, c.before.before.count.ensures.is)))
+    (λ j h. c.loop-i.invariant.1 j (omega (arith, c.count-n.ensures.is)))
 
-pub is-visible-spec : {M : Type 1} → statement M
-is-visible-spec =
+pub is_visible_spec : {M : Type 1} → statement M
+is_visible_spec =
     tie.close
     (tie.spec
-    invariant-loop
-    decreases-loop
-    count-requires
-    loop-holds
-    is-shown-requires
-    returns
-    add-i
-    loop-less
-    loop-again
-    returns-2)
+    invariant-loop-i
+    decreases-loop-i
+    count-n-requires
+    loop-i-init
+    is_shown-requires
+    returns-then-is_shown
+    overflow_add-i
+    loop-i-smaller
+    loop-i-preserved
+    returns)

@@ -20,89 +20,88 @@ use Rattle.lookup.proofs.RowBytes.{end_small}
 use Rattle.visible.proofs.links.Statement.{statement}
 use Rattle.visible.proofs.links.Tie as tie
 
-abbrev invariant-loop : tie.invariant-loop
-invariant-loop base sdss side types n r₀ i₀ r i = (i ≤ n) × Gathers i
+abbrev invariant-loop-i : tie.invariant-loop-i
+invariant-loop-i base sdss side types n r₀ i₀ r i = (i ≤ n) × Gathers i
     (λ j. (bit sdss (end_shown base j).sds && eqb (side_code (end_shown base j).side) side) && has types (end_shown base j).object)
     (λ j. get_or base (end_at j + link_offset) 0) (has r)
 
-abbrev decreases-loop : tie.decreases-loop
-decreases-loop base sdss side types n r₀ i₀ r i = n - i
+abbrev decreases-loop-i : tie.decreases-loop-i
+decreases-loop-i base sdss side types n r₀ i₀ r i = n - i
 
-end-count-requires : tie.Need-end-count-requires invariant-loop decreases-loop
-end-count-requires c κs = sound_long c.before.requires
+end_count-n-requires : tie.Need-end_count-n-requires invariant-loop-i decreases-loop-i
+end_count-n-requires c κs = sound_long c.requires
 
-empty-requires : tie.Need-empty-requires invariant-loop decreases-loop
-empty-requires c κs = search rules
+empty-r-requires : tie.Need-empty-r-requires invariant-loop-i decreases-loop-i
+empty-r-requires c κs = search rules
 
-loop-holds : tie.Need-loop-init invariant-loop decreases-loop
-loop-holds c = (omega arith, gathers_none _ _ _ c.empty.ensures)
+loop-i-init : tie.Need-loop-i-init invariant-loop-i decreases-loop-i
+loop-i-init c = (omega arith, gathers_none _ _ _ c.empty-r.ensures)
 
-is-end-at-requires : tie.Need-is-end-at-requires invariant-loop decreases-loop
-is-end-at-requires c κs = (
-  c.before.before.before.before.before.requires,
+is_end_at-requires : tie.Need-is_end_at-requires invariant-loop-i decreases-loop-i
+is_end_at-requires c κs = (
+  c.requires,
   omega
-      (arith, c.before.before.before.end_count.ensures.is, c.loop-test.true),
+      (arith, c.end_count-n.ensures.is, c.loop-i-test.true),
 )
 
-end-link-requires : tie.Need-end-link-requires invariant-loop decreases-loop
-end-link-requires c κs = (
-  sound_long c.before.before.before.before.before.before.before.requires,
+end_link-requires : tie.Need-end_link-requires invariant-loop-i decreases-loop-i
+end_link-requires c κs = (
+  sound_long c.requires,
   omega
-      (arith, c.before.before.before.before.before.end_count.ensures.fits, c.before.before.loop-test.true),
+      (arith, c.end_count-n.ensures.fits, c.loop-i-test.true),
 )
 
-add-requires : tie.Need-add-requires invariant-loop decreases-loop
-add-requires c κs =
+add-r-requires : tie.Need-add-r-requires invariant-loop-i decreases-loop-i
+add-r-requires c κs =
     omega (
       arith,
       c.end_link.ensures.is,
-      (end_small c.before.before.before.before.before.before.before.before.requires
-          c.before.before.before.before.loop.i (omega (
+      (end_small c.requires
+          c.loop-i.i (omega (
             arith,
-            c.before.before.before.before.before.before.end_count.ensures.is,
-            c.before.before.before.loop-test.true,
+            c.end_count-n.ensures.is,
+            c.loop-i-test.true,
           ))).1.0,
     )
 
-add-i : tie.Need-overflow-add-i invariant-loop decreases-loop
-add-i c = search rules
+overflow_add-i : tie.Need-overflow_add-i invariant-loop-i decreases-loop-i
+overflow_add-i c = search rules
 
-loop-less : tie.Need-loop-smaller invariant-loop decreases-loop
-loop-less c = search rules
+loop-i-smaller : tie.Need-loop-i-smaller invariant-loop-i decreases-loop-i
+loop-i-smaller c = search rules
 
-loop-again : tie.Need-loop-preserved invariant-loop decreases-loop
-loop-again c =
-    let l = c.before.before.before.loop in
-    let test = sym c.before.is-end-at.ensures in (
+loop-i-preserved : tie.Need-loop-i-preserved invariant-loop-i decreases-loop-i
+loop-i-preserved c =
+    let l = c.loop-i in
+    let test = sym c.is_end_at.ensures in (
       omega arith,
       ⊎_elim
-          (λ w. gathers_more _ _ l.i (has l.r) l.invariant.1 _ (test ∙ w.0.taken)
-          (λ k. ap (λ (x : TypeSet). has x k) w.3 ∙ w.2.ensures k ∙ ap (λ (x : ℕ). eqb k x || has l.r k) w.1.ensures.is))
-          (λ w. rw w.1 (gathers_skip _ _ l.i (has l.r) l.invariant.1 (test ∙ w.0.left)))
-          c.if1.branch,
+          (λ w. gathers_more _ _ l.i (has l.r) l.invariant.1 _ (test ∙ w.if-is_end_at.true)
+          (λ k. ap (λ (x : TypeSet). has x k) w.r-is ∙ w.add-r.ensures k ∙ ap (λ (x : ℕ). eqb k x || has l.r k) w.end_link.ensures.is))
+          (λ w. rw w.r-is (gathers_skip _ _ l.i (has l.r) l.invariant.1 (test ∙ w.if-is_end_at.false)))
+          c.if-is_end_at.branch-raw,
     )
 
-returns : tie.Need-returns invariant-loop decreases-loop
+returns : tie.Need-returns invariant-loop-i decreases-loop-i
 returns c =
-    let x = c.before.before.before.before.before in
-    let l = c.before.loop in
-    let end : l.i ≡ end_count x.args.base.now = omega (arith, c.before.before.before.end_count.ensures.is) in
-    all_ends x.args.base.now (has l.r) (λ e. (bit x.args.sdss e.sds && eqb (side_code e.side) x.args.side) && has
-    x.args.types e.object) (λ e. e.link) (rw end at l.invariant.1)
+    let l = c.loop-i in
+    let end : l.i ≡ end_count c.args.base.now = omega (arith, c.end_count-n.ensures.is) in
+    all_ends c.args.base.now (has l.r) (λ e. (bit c.args.sdss e.sds && eqb (side_code e.side) c.args.side) && has
+    c.args.types e.object) (λ e. e.link) (rw end at l.invariant.1)
 
-pub links-spec : {M : Type 1} → statement M
-links-spec =
+pub links_spec : {M : Type 1} → statement M
+links_spec =
     tie.close
     (tie.spec
-    invariant-loop
-    decreases-loop
-    end-count-requires
-    empty-requires
-    loop-holds
-    is-end-at-requires
-    end-link-requires
-    add-requires
-    add-i
-    loop-less
-    loop-again
+    invariant-loop-i
+    decreases-loop-i
+    end_count-n-requires
+    empty-r-requires
+    loop-i-init
+    is_end_at-requires
+    end_link-requires
+    add-r-requires
+    overflow_add-i
+    loop-i-smaller
+    loop-i-preserved
     returns)

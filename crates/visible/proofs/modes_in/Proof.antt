@@ -16,88 +16,87 @@ use Rattle.visible.proofs.ModeLaws.{joined_none, joined_shown, joined_passed, jo
 use Rattle.visible.proofs.modes_in.Statement.{statement}
 use Rattle.visible.proofs.modes_in.Tie as tie
 
-abbrev invariant-loop : tie.invariant-loop
-invariant-loop base sdss t n usage₀ definition₀ i₀ usage definition i =
+abbrev invariant-loop-i : tie.invariant-loop-i
+invariant-loop-i base sdss t n usage₀ definition₀ i₀ usage definition i =
     let ps = take i (schema_of base).presences in
     (i ≤ n) × ((usage ≡ joined (bit sdss) t (λ p. p.usage) ps) × (definition ≡ joined (bit sdss) t (λ p. p.definition) ps))
 
-abbrev decreases-loop : tie.decreases-loop
-decreases-loop base sdss t n usage₀ definition₀ i₀ usage definition i = n - i
+abbrev decreases-loop-i : tie.decreases-loop-i
+decreases-loop-i base sdss t n usage₀ definition₀ i₀ usage definition i = n - i
 
-count-requires : tie.Need-count-requires invariant-loop decreases-loop
-count-requires c κs = search rules
+count-n-requires : tie.Need-count-n-requires invariant-loop-i decreases-loop-i
+count-n-requires c κs = search rules
 
-loop-holds : tie.Need-loop-init invariant-loop decreases-loop
-loop-holds c =
-    let x = c.before.before.args in
+loop-i-init : tie.Need-loop-i-init invariant-loop-i decreases-loop-i
+loop-i-init c =
+    let x = c.args in
     (omega arith, (joined_none (bit x.sdss) x.t (λ p. p.usage) x.base.now, joined_none (bit x.sdss) x.t (λ p. p.definition) x.base.now))
 
-is-shown-requires : tie.Need-is-shown-requires invariant-loop decreases-loop
-is-shown-requires c κs = (c.before.before.before.before.requires, omega (arith, c.before.before.count.ensures.is, c.loop-test.true))
+is_shown-requires : tie.Need-is_shown-requires invariant-loop-i decreases-loop-i
+is_shown-requires c κs = (c.requires, omega (arith, c.count-n.ensures.is, c.loop-i-test.true))
 
-presence-usage-requires : tie.Need-presence-usage-requires invariant-loop decreases-loop
-presence-usage-requires c κs = (
-  sound_long c.before.before.before.before.before.before.requires,
-  omega (arith, c.before.before.before.before.count.ensures.fits, c.before.before.loop-test.true),
+presence_usage-usage-requires : tie.Need-presence_usage-usage-requires invariant-loop-i decreases-loop-i
+presence_usage-usage-requires c κs = (
+  sound_long c.requires,
+  omega (arith, c.count-n.ensures.fits, c.loop-i-test.true),
 )
 
-presence-definition-requires : tie.Need-presence-definition-requires invariant-loop decreases-loop
-presence-definition-requires c κs = (
-  sound_long c.before.before.before.before.before.before.before.requires,
-  omega (arith, c.before.before.before.before.before.count.ensures.fits, c.before.before.before.loop-test.true),
+presence_definition-definition-requires : tie.Need-presence_definition-definition-requires invariant-loop-i decreases-loop-i
+presence_definition-definition-requires c κs = (
+  sound_long c.requires,
+  omega (arith, c.count-n.ensures.fits, c.loop-i-test.true),
 )
 
-add-i : tie.Need-overflow-add-i invariant-loop decreases-loop
-add-i c = search rules
+overflow_add-i : tie.Need-overflow_add-i invariant-loop-i decreases-loop-i
+overflow_add-i c = search rules
 
-loop-less : tie.Need-loop-smaller invariant-loop decreases-loop
-loop-less c = search rules
+loop-i-smaller : tie.Need-loop-i-smaller invariant-loop-i decreases-loop-i
+loop-i-smaller c = search rules
 
-loop-again : tie.Need-loop-preserved invariant-loop decreases-loop
-loop-again c =
-    let l = c.before.before.before.loop in
-    let x = c.before.before.before.before.before.before in
-    let b = x.args.base.now in
-    let sdss = bit x.args.sdss in
-    let t = x.args.t in
-    let h : l.i < presence_count b = omega (arith, c.before.before.before.before.count.ensures.is, c.before.before.loop-test.true) in
-    let known = (sound_good x.requires).modes_known (presence_shown b l.i) (presence_there b l.i h) in
-    let shown = c.before.is-shown.ensures in (
-      omega (arith, c.before.before.loop-test.true),
+loop-i-preserved : tie.Need-loop-i-preserved invariant-loop-i decreases-loop-i
+loop-i-preserved c =
+    let l = c.loop-i in
+    let b = c.args.base.now in
+    let sdss = bit c.args.sdss in
+    let t = c.args.t in
+    let h : l.i < presence_count b = omega (arith, c.count-n.ensures.is, c.loop-i-test.true) in
+    let known = (sound_good c.requires).modes_known (presence_shown b l.i) (presence_there b l.i h) in
+    let shown = c.is_shown.ensures in (
+      omega (arith, c.loop-i-test.true),
       ⊎_elim
-          (λ w. let it = sym w.0.taken ∙ shown in (
-            w.3 ∙ ap (bit_or l.usage) w.1.ensures.is ∙ joined_shown sdss t (λ p. p.usage) b l.i h known.usage l.invariant.1.0 it,
-            w.4 ∙ ap (bit_or l.definition) w.2.ensures.is
+          (λ w. let it = sym w.if-is_shown.true ∙ shown in (
+            w.usage-is ∙ ap (bit_or l.usage) w.presence_usage-usage.ensures.is ∙ joined_shown sdss t (λ p. p.usage) b l.i h known.usage l.invariant.1.0 it,
+            w.definition-is ∙ ap (bit_or l.definition) w.presence_definition-definition.ensures.is
                 ∙ joined_shown sdss t (λ p. p.definition) b l.i h known.definition l.invariant.1.1 it,
           ))
-          (λ w. let it = sym w.0.left ∙ shown in (
-            w.1 ∙ joined_passed sdss t (λ p. p.usage) b l.i h known.usage l.invariant.1.0 it,
-            w.2 ∙ joined_passed sdss t (λ p. p.definition) b l.i h known.definition l.invariant.1.1 it,
+          (λ w. let it = sym w.if-is_shown.false ∙ shown in (
+            w.usage-is ∙ joined_passed sdss t (λ p. p.usage) b l.i h known.usage l.invariant.1.0 it,
+            w.definition-is ∙ joined_passed sdss t (λ p. p.definition) b l.i h known.definition l.invariant.1.1 it,
           ))
-          c.if1.branch,
+          c.if-is_shown.branch-raw,
     )
 
-returns : tie.Need-returns invariant-loop decreases-loop
+returns : tie.Need-returns invariant-loop-i decreases-loop-i
 returns c =
-    let x = c.before.before.before.before.args in
-    let l = c.before.loop in
-    let end : l.i ≡ presence_count x.base.now = omega (arith, c.before.before.count.ensures.is) in (
+    let x = c.args in
+    let l = c.loop-i in
+    let end : l.i ≡ presence_count x.base.now = omega (arith, c.count-n.ensures.is) in (
       joined_all (bit x.sdss) x.t (λ p. p.usage) x.base.now l.invariant.1.0 end,
       joined_all (bit x.sdss) x.t (λ p. p.definition) x.base.now l.invariant.1.1 end,
     )
 
-pub modes-in-spec : {M : Type 1} → statement M
-modes-in-spec =
+pub modes_in_spec : {M : Type 1} → statement M
+modes_in_spec =
     tie.close
     (tie.spec
-    invariant-loop
-    decreases-loop
-    count-requires
-    loop-holds
-    is-shown-requires
-    presence-usage-requires
-    presence-definition-requires
-    add-i
-    loop-less
-    loop-again
+    invariant-loop-i
+    decreases-loop-i
+    count-n-requires
+    loop-i-init
+    is_shown-requires
+    presence_usage-usage-requires
+    presence_definition-definition-requires
+    overflow_add-i
+    loop-i-smaller
+    loop-i-preserved
     returns)

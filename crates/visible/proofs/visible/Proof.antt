@@ -19,98 +19,97 @@ use Rattle.lookup.proofs.RowBytes.{presence_small}
 use Rattle.visible.proofs.visible.Statement.{statement}
 use Rattle.visible.proofs.visible.Tie as tie
 
-abbrev invariant-loop : tie.invariant-loop
-invariant-loop base sdss n r₀ i₀ r i = (i ≤ n) × Gathers i (λ j. bit sdss (get_or base (presence_at j) 0)) (λ j. get_or base (presence_at j + type_offset) 0) (has r)
+abbrev invariant-loop-i : tie.invariant-loop-i
+invariant-loop-i base sdss n r₀ i₀ r i = (i ≤ n) × Gathers i (λ j. bit sdss (get_or base (presence_at j) 0)) (λ j. get_or base (presence_at j + type_offset) 0) (has r)
 
-abbrev decreases-loop : tie.decreases-loop
-decreases-loop base sdss n r₀ i₀ r i = n - i
+abbrev decreases-loop-i : tie.decreases-loop-i
+decreases-loop-i base sdss n r₀ i₀ r i = n - i
 
-count-requires : tie.Need-count-requires invariant-loop decreases-loop
-count-requires c κs = c.before.requires
+count-n-requires : tie.Need-count-n-requires invariant-loop-i decreases-loop-i
+count-n-requires c κs = c.requires
 
-empty-requires : tie.Need-empty-requires invariant-loop decreases-loop
-empty-requires c κs = search rules
+empty-r-requires : tie.Need-empty-r-requires invariant-loop-i decreases-loop-i
+empty-r-requires c κs = search rules
 
-loop-holds : tie.Need-loop-init invariant-loop decreases-loop
-loop-holds c = (omega arith, gathers_none _ _ _ c.empty.ensures)
+loop-i-init : tie.Need-loop-i-init invariant-loop-i decreases-loop-i
+loop-i-init c = (omega arith, gathers_none _ _ _ c.empty-r.ensures)
 
-presence-sds-requires : tie.Need-presence-sds-requires invariant-loop decreases-loop
-presence-sds-requires c κs = (
-  sound_long c.before.before.before.before.before.requires,
+presence_sds-requires : tie.Need-presence_sds-requires invariant-loop-i decreases-loop-i
+presence_sds-requires c κs = (
+  sound_long c.requires,
   omega
-      (arith, c.before.before.before.count.ensures.fits, c.loop-test.true),
+      (arith, c.count-n.ensures.fits, c.loop-i-test.true),
 )
 
-lists-requires : tie.Need-lists-requires invariant-loop decreases-loop
+lists-requires : tie.Need-lists-requires invariant-loop-i decreases-loop-i
 lists-requires c κs =
     omega (
       arith,
       c.presence_sds.ensures.is,
-      (presence_small c.before.before.before.before.before.before.requires c.before.before.loop.i
-          (omega (arith, c.before.before.before.before.count.ensures.is, c.before.loop-test.true))).0,
+      (presence_small c.requires c.loop-i.i
+          (omega (arith, c.count-n.ensures.is, c.loop-i-test.true))).0,
     )
 
-presence-type-requires : tie.Need-presence-type-requires invariant-loop decreases-loop
-presence-type-requires c κs = (
-  sound_long c.before.before.before.before.before.before.before.before.requires,
+presence_type-requires : tie.Need-presence_type-requires invariant-loop-i decreases-loop-i
+presence_type-requires c κs = (
+  sound_long c.requires,
   omega
-      (arith, c.before.before.before.before.before.before.count.ensures.fits, c.before.before.before.loop-test.true),
+      (arith, c.count-n.ensures.fits, c.loop-i-test.true),
 )
 
-add-requires : tie.Need-add-requires invariant-loop decreases-loop
-add-requires c κs =
+add-r-requires : tie.Need-add-r-requires invariant-loop-i decreases-loop-i
+add-r-requires c κs =
     omega (
       arith,
       c.presence_type.ensures.is,
-      (presence_small c.before.before.before.before.before.before.before.before.before.requires
-          c.before.before.before.before.before.loop.i
+      (presence_small c.requires
+          c.loop-i.i
           (omega (
             arith,
-            c.before.before.before.before.before.before.before.count.ensures.is,
-            c.before.before.before.before.loop-test.true,
+            c.count-n.ensures.is,
+            c.loop-i-test.true,
           ))).1,
     )
 
-add-i : tie.Need-overflow-add-i invariant-loop decreases-loop
-add-i c = search rules
+overflow_add-i : tie.Need-overflow_add-i invariant-loop-i decreases-loop-i
+overflow_add-i c = search rules
 
-loop-less : tie.Need-loop-smaller invariant-loop decreases-loop
-loop-less c = search rules
+loop-i-smaller : tie.Need-loop-i-smaller invariant-loop-i decreases-loop-i
+loop-i-smaller c = search rules
 
-loop-again : tie.Need-loop-preserved invariant-loop decreases-loop
-loop-again c =
-    let l = c.before.before.before.before.loop in
-    let test = sym (c.before.lists.ensures ∙ ap (bit c.before.before.before.before.before.before.before.before.args.sdss)
-    c.before.before.presence_sds.ensures.is) in (
+loop-i-preserved : tie.Need-loop-i-preserved invariant-loop-i decreases-loop-i
+loop-i-preserved c =
+    let l = c.loop-i in
+    let test = sym (c.lists.ensures ∙ ap (bit c.args.sdss)
+    c.presence_sds.ensures.is) in (
       omega arith,
       ⊎_elim
-          (λ w. gathers_more _ _ l.i (has l.r) l.invariant.1 _ (test ∙ w.0.taken)
-          (λ k. ap (λ (x : TypeSet). has x k) w.3 ∙ w.2.ensures k ∙ ap (λ (x : ℕ). eqb k x || has l.r k) w.1.ensures.is))
-          (λ w. rw w.1 (gathers_skip _ _ l.i (has l.r) l.invariant.1 (test ∙ w.0.left)))
-          c.if1.branch,
+          (λ w. gathers_more _ _ l.i (has l.r) l.invariant.1 _ (test ∙ w.if-lists.true)
+          (λ k. ap (λ (x : TypeSet). has x k) w.r-is ∙ w.add-r.ensures k ∙ ap (λ (x : ℕ). eqb k x || has l.r k) w.presence_type.ensures.is))
+          (λ w. rw w.r-is (gathers_skip _ _ l.i (has l.r) l.invariant.1 (test ∙ w.if-lists.false)))
+          c.if-lists.branch-raw,
     )
 
-returns : tie.Need-returns invariant-loop decreases-loop
+returns : tie.Need-returns invariant-loop-i decreases-loop-i
 returns c =
-    let x = c.before.before.before.before.before in
-    let l = c.before.loop in
-    let end : l.i ≡ presence_count x.args.base.now = omega (arith, c.before.before.before.count.ensures.is) in
-    all_presences x.args.base.now (has l.r) (λ p. bit x.args.sdss p.sds) (λ p. p.type) (rw end at l.invariant.1)
+    let l = c.loop-i in
+    let end : l.i ≡ presence_count c.args.base.now = omega (arith, c.count-n.ensures.is) in
+    all_presences c.args.base.now (has l.r) (λ p. bit c.args.sdss p.sds) (λ p. p.type) (rw end at l.invariant.1)
 
-pub visible-spec : {M : Type 1} → statement M
-visible-spec =
+pub visible_spec : {M : Type 1} → statement M
+visible_spec =
     tie.close
     (tie.spec
-    invariant-loop
-    decreases-loop
-    count-requires
-    empty-requires
-    loop-holds
-    presence-sds-requires
+    invariant-loop-i
+    decreases-loop-i
+    count-n-requires
+    empty-r-requires
+    loop-i-init
+    presence_sds-requires
     lists-requires
-    presence-type-requires
-    add-requires
-    add-i
-    loop-less
-    loop-again
+    presence_type-requires
+    add-r-requires
+    overflow_add-i
+    loop-i-smaller
+    loop-i-preserved
     returns)

@@ -9,42 +9,42 @@ use Rattle.ask_scans.proofs.ListLaws.{list_short, list_put}
 use Rattle.ask_scans.proofs.lists.put.Statement.{statement}
 use Rattle.ask_scans.proofs.lists.put.Tie as tie
 
-count-requires : tie.Need-count-requires
-count-requires c κs = search rules
+count-n-requires : tie.Need-count-n-requires
+count-n-requires c κs = search rules
 
 refused-requires : tie.Need-refused-requires
 refused-requires c κs = search rules
 
-returns : tie.Need-returns
-returns c = list_short _ _ (omega (arith, c.before.if1.true, c.before.before.count.ensures)) c.refused.ensures
+returns-then-out-n : tie.Need-returns-then-out-n
+returns-then-out-n c = list_short _ _ (omega (arith, c.if-out-n.true, c.count-n.ensures)) c.refused.ensures
 
-put-down-requires : tie.Need-put-down-requires
-put-down-requires c κs = omega (arith, c.before.if1.false, c.before.before.count.ensures)
+put_down-requires : tie.Need-put_down-requires
+put_down-requires c κs = omega (arith, c.if-out-n.false, c.count-n.ensures)
 
 done-requires : tie.Need-done-requires
 done-requires c κs = search rules
 
-same_length : tie.Need-same-length
-same_length c = search rules
+shape_of-out : tie.Need-shape_of-out
+shape_of-out c = search rules
 
-returns-2 : tie.Need-returns-2
-returns-2 c =
+returns : tie.Need-returns
+returns c =
     list_put _ _ (omega (
       arith,
-      c.before.before.before.before.before.if1.false,
-      c.before.before.before.before.before.before.count.ensures,
+      c.if-out-n.false,
+      c.count-n.ensures,
     ))
-    (c.done.ensures ∙ ap (λ (n : ℕ). success n 0 0) c.before.before.before.before.before.before.count.ensures)
-    c.before.before.before.put_down.ensures
+    (c.done.ensures ∙ ap (λ (n : ℕ). success n 0 0) c.count-n.ensures)
+    c.put_down.ensures
 
 pub put_spec : {M : Type 1} → statement M
 put_spec =
     tie.close
     (tie.spec
-    count-requires
+    count-n-requires
     refused-requires
-    returns
-    put-down-requires
+    returns-then-out-n
+    put_down-requires
     done-requires
-    same_length
-    returns-2)
+    shape_of-out
+    returns)

@@ -13,130 +13,130 @@ use Rattle.ask_scans.proofs.ListLaws.{three_short, three_put}
 use Rattle.ask_scans.proofs.lists.put_three.Statement.{statement}
 use Rattle.ask_scans.proofs.lists.put_three.Tie as tie
 
-count-requires : tie.Need-count-requires
-count-requires c κs = search rules
+count-l-requires : tie.Need-count-l-requires
+count-l-requires c κs = search rules
 
-count-requires-2 : tie.Need-count-requires-2
-count-requires-2 c κs = search rules
+count-m-requires : tie.Need-count-m-requires
+count-m-requires c κs = search rules
 
-count-requires-3 : tie.Need-count-requires-3
-count-requires-3 c κs = search rules
+count-n-requires : tie.Need-count-n-requires
+count-n-requires c κs = search rules
 
-add-if1 : tie.Need-overflow-add-if1
-add-if1 c =
+overflow_add-l : tie.Need-overflow_add-l
+overflow_add-l c =
     omega (
       arith,
-      c.before.before.count.ensures,
-      c.before.count2.ensures,
-      members_most (has c.before.before.before.before.args.first),
-      members_most (has c.before.before.before.before.args.second),
+      c.count-l.ensures,
+      c.count-m.ensures,
+      members_most (has c.args.first),
+      members_most (has c.args.second),
     )
 
-add-if1-2 : tie.Need-overflow-add-if1-2
-add-if1-2 c =
+overflow_add-l-2 : tie.Need-overflow_add-l-2
+overflow_add-l-2 c =
     omega (
       arith,
-      c.before.before.count.ensures,
-      c.before.count2.ensures,
-      c.count3.ensures,
-      members_most (has c.before.before.before.before.args.first),
-      members_most (has c.before.before.before.before.args.second),
-      members_most (has c.before.before.before.before.args.third),
+      c.count-l.ensures,
+      c.count-m.ensures,
+      c.count-n.ensures,
+      members_most (has c.args.first),
+      members_most (has c.args.second),
+      members_most (has c.args.third),
     )
 
 refused-requires : tie.Need-refused-requires
 refused-requires c κs = search rules
 
-returns : tie.Need-returns
-returns c =
+returns-then-out-l : tie.Need-returns-then-out-l
+returns-then-out-l c =
     three_short _ _ _ _ (omega (
       arith,
-      c.before.if1.true,
-      c.before.before.count3.ensures,
-      c.before.before.before.count2.ensures,
-      c.before.before.before.before.count.ensures,
+      c.if-out-l.true,
+      c.count-n.ensures,
+      c.count-m.ensures,
+      c.count-l.ensures,
     )) c.refused.ensures
 
-put-down-requires : tie.Need-put-down-requires
-put-down-requires c κs = search rules
+put_down-requires : tie.Need-put_down-requires
+put_down-requires c κs = search rules
 
-mul_at : tie.Need-overflow-mul-at
-mul_at c = search rules
+overflow_mul-at : tie.Need-overflow_mul-at
+overflow_mul-at c = search rules
 
-sub-put-down : tie.Need-overflow-sub-put-down
-sub-put-down c = search rules
+slice_bounds-put_down-count : tie.Need-slice_bounds-put_down-count
+slice_bounds-put_down-count c = search rules
 
-part-put-down-start : tie.Need-slice-bounds-put-down-start
-part-put-down-start c = search rules
+slice_bounds-put_down-start : tie.Need-slice_bounds-put_down-start
+slice_bounds-put_down-start c = search rules
 
-part-put-down-end : tie.Need-slice-bounds-put-down-end
-part-put-down-end c = search rules
+slice_bounds-put_down-end : tie.Need-slice_bounds-put_down-end
+slice_bounds-put_down-end c = search rules
 
-put-down-requires-2 : tie.Need-put-down-requires-2
-put-down-requires-2 c κs = search rules
+put_down-requires-2 : tie.Need-put_down-requires-2
+put_down-requires-2 c κs = search rules
 
-mul-end : tie.Need-overflow-mul-end
-mul-end c = search rules
+overflow_mul-end : tie.Need-overflow_mul-end
+overflow_mul-end c = search rules
 
-add-end : tie.Need-overflow-add-end
-add-end c = search rules
+overflow_add-end : tie.Need-overflow_add-end
+overflow_add-end c = search rules
 
-sub-put-down-2 : tie.Need-overflow-sub-put-down-2
-sub-put-down-2 c = search rules
+slice_bounds-put_down-count-2 : tie.Need-slice_bounds-put_down-count-2
+slice_bounds-put_down-count-2 c = search rules
 
-part-put-down-start-2 : tie.Need-slice-bounds-put-down-start-2
-part-put-down-start-2 c = search rules
+slice_bounds-put_down-start-2 : tie.Need-slice_bounds-put_down-start-2
+slice_bounds-put_down-start-2 c = search rules
 
-part-put-down-end-2 : tie.Need-slice-bounds-put-down-end-2
-part-put-down-end-2 c = search rules
+slice_bounds-put_down-end-2 : tie.Need-slice_bounds-put_down-end-2
+slice_bounds-put_down-end-2 c = search rules
 
-put-down-requires-3 : tie.Need-put-down-requires-3
-put-down-requires-3 c κs = search rules
+put_down-requires-3 : tie.Need-put_down-requires-3
+put_down-requires-3 c κs = search rules
 
 done-requires : tie.Need-done-requires
 done-requires c κs = search rules
 
-same_length : tie.Need-same-length
-same_length c = search rules
+shape_of-out : tie.Need-shape_of-out
+shape_of-out c = search rules
 
-returns-2 : tie.Need-returns-2
-returns-2 c =
-    let l = c.before.before.before.before.before.before.before.before.before.before.before.before.before.before.before.before.count.ensures in
-    let m = c.before.before.before.before.before.before.before.before.before.before.before.before.before.before.before.count2.ensures in
-    let n = c.before.before.before.before.before.before.before.before.before.before.before.before.before.before.count3.ensures in
+returns : tie.Need-returns
+returns c =
+    let l = c.count-l.ensures in
+    let m = c.count-m.ensures in
+    let n = c.count-n.ensures in
     let args =
-    c.before.before.before.before.before.before.before.before.before.before.before.before.before.before.before.before.before.before.args in
+    c.args in
     three_put _ _ _ _ (omega
-    (arith, c.before.before.before.before.before.before.before.before.before.before.before.before.before.if1.false, l, m, n))
+    (arith, c.if-out-l.false, l, m, n))
     (c.done.ensures ∙ (λ i. success (l i) (m i) (n i)))
     (put_after _ _ _ _ _ _ (omega (arith, l, m, length-append (members (has args.first)) (members (has args.second))))
     (put_after _ _ _ _ _ _ (omega (arith, l))
-    c.before.before.before.before.before.before.before.before.before.before.before.put_down.ensures
-    c.before.before.before.before.before.before.before.put-down2.ensures) c.before.before.before.put-down3.ensures)
+    c.put_down.ensures
+    c.put_down-2.ensures) c.put_down-3.ensures)
 
-pub put-three-spec : {M : Type 1} → statement M
-put-three-spec =
+pub put_three_spec : {M : Type 1} → statement M
+put_three_spec =
     tie.close
     (tie.spec
-    count-requires
-    count-requires-2
-    count-requires-3
-    add-if1
-    add-if1-2
+    count-l-requires
+    count-m-requires
+    count-n-requires
+    overflow_add-l
+    overflow_add-l-2
     refused-requires
-    returns
-    put-down-requires
-    mul_at
-    sub-put-down
-    part-put-down-start
-    part-put-down-end
-    put-down-requires-2
-    mul-end
-    add-end
-    sub-put-down-2
-    part-put-down-start-2
-    part-put-down-end-2
-    put-down-requires-3
+    returns-then-out-l
+    put_down-requires
+    overflow_mul-at
+    slice_bounds-put_down-count
+    slice_bounds-put_down-start
+    slice_bounds-put_down-end
+    put_down-requires-2
+    overflow_mul-end
+    overflow_add-end
+    slice_bounds-put_down-count-2
+    slice_bounds-put_down-start-2
+    slice_bounds-put_down-end-2
+    put_down-requires-3
     done-requires
-    same_length
-    returns-2)
+    shape_of-out
+    returns)

@@ -11,76 +11,72 @@ use Rattle.ask_scans.proofs.ScanLaws.{child_scan, descendant_scan, parent_scan, 
 use Rattle.ask_scans.proofs.scan.kin.Statement.{statement}
 use Rattle.ask_scans.proofs.scan.kin.Tie as tie
 
-one-requires : tie.Need-one-requires
-one-requires c κs = c.before.requires.1.0
+one-s-requires : tie.Need-one-s-requires
+one-s-requires c κs = c.requires.1.0
 
 visible-requires : tie.Need-visible-requires
-visible-requires c κs = c.before.before.before.requires.0
+visible-requires c κs = c.requires.0
 
-children-of-requires : tie.Need-children-of-requires
-children-of-requires c κs = good_parental c.before.before.before.before.requires.0
+children_of-requires : tie.Need-children_of-requires
+children_of-requires c κs = good_parental c.requires.0
 
 meet-requires : tie.Need-meet-requires
 meet-requires c κs = search rules
 
-returns : tie.Need-returns
-returns c =
-    let start = c.before.before.before.before.before.before in
-    child_scan _ _ start.requires.1.0 c.before.before.before.before.one.ensures _ _ _ _ c.before.before.before.if1.true
-    (λ k. c.meet.ensures k ∙ ap₂ ◌&&◌ (c.before.before.visible.ensures k) (c.before.children_of.ensures k))
+returns-then-code-eq0 : tie.Need-returns-then-code-eq0
+returns-then-code-eq0 c =
+    child_scan _ _ c.requires.1.0 c.one-s.ensures _ _ _ _ c.if-code-eq0.true
+    (λ k. c.meet.ensures k ∙ ap₂ ◌&&◌ (c.visible.ensures k) (c.children_of.ensures k))
 
-with-descendants-requires : tie.Need-with-descendants-requires
-with-descendants-requires c κs = c.before.before.before.before.requires.0
+with_descendants-requires : tie.Need-with_descendants-requires
+with_descendants-requires c κs = c.requires.0
 
 less-requires : tie.Need-less-requires
-less-requires c κs = c.before.before.before.before.before.requires.1.0
+less-requires c κs = c.requires.1.0
 
-returns-2 : tie.Need-returns-2
-returns-2 c =
-    let start = c.before.before.before.before.before.before in
-    let one = c.before.before.before.before.one.ensures in
-    descendant_scan _ _ start.requires.1.0 one _ _ _ _ (sound_good start.requires.0) c.before.before.if2.true
-    (λ k. c.less.ensures k ∙ ap (λ (x : Bool). x && not (eqb k start.args.t)) (c.before.with_descendants.ensures k))
+returns-then-code-eq1 : tie.Need-returns-then-code-eq1
+returns-then-code-eq1 c =
+    let one = c.one-s.ensures in
+    descendant_scan _ _ c.requires.1.0 one _ _ _ _ (sound_good c.requires.0) c.if-code-eq1.true
+    (λ k. c.less.ensures k ∙ ap (λ (x : Bool). x && not (eqb k c.args.t)) (c.with_descendants.ensures k))
 
-parents-of-requires : tie.Need-parents-of-requires
-parents-of-requires c κs = good_parental c.before.before.before.before.before.requires.0
+parents_of-requires : tie.Need-parents_of-requires
+parents_of-requires c κs = good_parental c.requires.0
 
-returns-3 : tie.Need-returns-3
-returns-3 c =
-    let start = c.before.before.before.before.before.before in
-    let one = c.before.before.before.before.one.ensures in
-    parent_scan _ _ start.requires.1.0 one _ _ _ _ (sound_good start.requires.0) start.requires.1.1.1 c.before.if3.true
+returns-then-code-eq2 : tie.Need-returns-then-code-eq2
+returns-then-code-eq2 c =
+    let one = c.one-s.ensures in
+    parent_scan _ _ c.requires.1.0 one _ _ _ _ (sound_good c.requires.0) c.requires.1.1.1 c.if-code-eq2.true
     c.parents_of.ensures
 
-ancestors-of-requires : tie.Need-ancestors-of-requires
-ancestors-of-requires c κs = c.before.before.before.before.before.requires.0
+ancestors_of-requires : tie.Need-ancestors_of-requires
+ancestors_of-requires c κs = c.requires.0
 
-returns-4 : tie.Need-returns-4
-returns-4 c =
-    let last : c.before.before.before.before.before.before.args.code ≡ 3 = omega (
+returns : tie.Need-returns
+returns c =
+    let last : c.args.code ≡ 3 = omega (
       arith,
-      c.before.before.before.before.before.before.requires.1.1.0,
-      c.before.if3.false,
-      c.before.before.if2.false,
-      c.before.before.before.if1.false,
+      c.requires.1.1.0,
+      c.if-code-eq2.false,
+      c.if-code-eq1.false,
+      c.if-code-eq0.false,
     ) in
-    let start = c.before.before.before.before.before.before in
-    let one = c.before.before.before.before.one.ensures in
-    ancestor_scan _ _ start.requires.1.0 one _ _ _ _ (sound_good start.requires.0) start.requires.1.1.1 last c.ancestors_of.ensures
+    let one = c.one-s.ensures in
+    ancestor_scan _ _ c.requires.1.0 one _ _ _ _ (sound_good c.requires.0) c.requires.1.1.1 last c.ancestors_of.ensures
 
-pub kin-spec : {M : Type 1} → statement M
-kin-spec =
+pub kin_spec : {M : Type 1} → statement M
+kin_spec =
     tie.close
     (tie.spec
-    one-requires
+    one-s-requires
     visible-requires
-    children-of-requires
+    children_of-requires
     meet-requires
-    returns
-    with-descendants-requires
+    returns-then-code-eq0
+    with_descendants-requires
     less-requires
-    returns-2
-    parents-of-requires
-    returns-3
-    ancestors-of-requires
-    returns-4)
+    returns-then-code-eq1
+    parents_of-requires
+    returns-then-code-eq2
+    ancestors_of-requires
+    returns)

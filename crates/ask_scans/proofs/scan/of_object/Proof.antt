@@ -6,14 +6,14 @@ use Rattle.ask_scans.proofs.scan.of_object.Tie as tie
 kin-requires : tie.Need-kin-requires
 kin-requires c κs = search rules
 
-returns : tie.Need-returns
-returns c = search rules
+returns-then-code-lt4 : tie.Need-returns-then-code-lt4
+returns-then-code-lt4 c = search rules
 
 had-requires : tie.Need-had-requires
 had-requires c κs = search rules
 
-returns-2 : tie.Need-returns-2
-returns-2 c = search rules
+returns : tie.Need-returns
+returns c = search rules
 
-pub of-object-spec : {M : Type 1} → statement M
-of-object-spec = tie.close (tie.spec kin-requires returns had-requires returns-2)
+pub of_object_spec : {M : Type 1} → statement M
+of_object_spec = tie.close (tie.spec kin-requires returns-then-code-lt4 had-requires returns)

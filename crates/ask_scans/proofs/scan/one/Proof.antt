@@ -6,15 +6,15 @@ use lib.Dec.{eqb}
 use Rattle.ask_scans.proofs.scan.one.Statement.{statement}
 use Rattle.ask_scans.proofs.scan.one.Tie as tie
 
-empty-requires : tie.Need-empty-requires
-empty-requires c κs = search rules
+empty-none-requires : tie.Need-empty-none-requires
+empty-none-requires c κs = search rules
 
 add-requires : tie.Need-add-requires
 add-requires c κs = search rules
 
 returns : tie.Need-returns
-returns c = λ k. c.add.ensures k ∙ ap (λ x. eqb k c.before.before.args.t || x) (c.before.empty.ensures k)
-    ∙ or-false (eqb k c.before.before.args.t)
+returns c = λ k. c.add.ensures k ∙ ap (λ x. eqb k c.args.t || x) (c.empty-none.ensures k)
+    ∙ or-false (eqb k c.args.t)
 
 pub one_spec : {M : Type 1} → statement M
-one_spec = tie.close (tie.spec empty-requires add-requires returns)
+one_spec = tie.close (tie.spec empty-none-requires add-requires returns)

@@ -8,26 +8,26 @@ use Rattle.ask_scans.proofs.ScanLaws.{source_alone, source_all}
 use Rattle.ask_scans.proofs.scan.sources.Statement.{statement}
 use Rattle.ask_scans.proofs.scan.sources.Tie as tie
 
-one-requires : tie.Need-one-requires
-one-requires c κs = c.before.requires.1
+one-s-requires : tie.Need-one-s-requires
+one-s-requires c κs = c.requires.1
 
-returns : tie.Need-returns
-returns c = source_alone _ _ c.before.before.before.requires.1 c.before.one.ensures (schema_of c.before.before.before.args.base.now)
-    c.before.before.before.args.all c.if1.true
+returns-then-not-all : tie.Need-returns-then-not-all
+returns-then-not-all c = source_alone _ _ c.requires.1 c.one-s.ensures (schema_of c.args.base.now)
+    c.args.all c.if-not-all.true-raw
 
-ancestors-of-requires : tie.Need-ancestors-of-requires
-ancestors-of-requires c κs = c.before.before.before.requires.0
+ancestors_of-requires : tie.Need-ancestors_of-requires
+ancestors_of-requires c κs = c.requires.0
 
 join-requires : tie.Need-join-requires
 join-requires c κs = search rules
 
-returns-2 : tie.Need-returns-2
-returns-2 c =
-    source_all _ _ c.before.before.before.before.before.requires.1 c.before.before.before.one.ensures _
-    c.before.before.before.before.before.args.all c.before.before.if1.false (has c.before.ancestors_of.result) _
-    c.before.ancestors_of.ensures
-    (has_past c.before.ancestors_of.result) c.join.ensures
+returns : tie.Need-returns
+returns c =
+    source_all _ _ c.requires.1 c.one-s.ensures _
+    c.args.all c.if-not-all.false-raw (has c.ancestors_of.result) _
+    c.ancestors_of.ensures
+    (has_past c.ancestors_of.result) c.join.ensures
 
-pub sources-spec : {M : Type 1} → statement M
-sources-spec =
-    tie.close (tie.spec one-requires returns ancestors-of-requires join-requires returns-2)
+pub sources_spec : {M : Type 1} → statement M
+sources_spec =
+    tie.close (tie.spec one-s-requires returns-then-not-all ancestors_of-requires join-requires returns)

@@ -5,21 +5,21 @@ use Rattle.ask_scans.proofs.ViewLaws.{kind_link, kind_object}
 use Rattle.ask_scans.proofs.view.is_of_kind.Statement.{statement}
 use Rattle.ask_scans.proofs.view.is_of_kind.Tie as tie
 
-is-kind-requires : tie.Need-is-kind-requires
-is-kind-requires c κs = (c.before.before.requires, (omega arith, omega arith))
+is_kind-requires : tie.Need-is_kind-requires
+is_kind-requires c κs = (c.requires, (omega arith, omega arith))
+
+returns-then-link : tie.Need-returns-then-link
+returns-then-link c =
+    let x = c.args in
+    kind_link x.link _ c.if-link.true (c.is_kind.ensures)
+
+is_kind-requires-2 : tie.Need-is_kind-requires-2
+is_kind-requires-2 c κs = (c.requires, (omega arith, omega arith))
 
 returns : tie.Need-returns
 returns c =
-    let x = c.before.before.before.args in
-    kind_link x.link _ c.before.if1.true (c.is-kind.ensures)
+    let x = c.args in
+    kind_object x.link _ c.if-link.false (c.is_kind-2.ensures)
 
-is-kind-requires-2 : tie.Need-is-kind-requires-2
-is-kind-requires-2 c κs = (c.before.before.requires, (omega arith, omega arith))
-
-returns-2 : tie.Need-returns-2
-returns-2 c =
-    let x = c.before.before.before.args in
-    kind_object x.link _ c.before.if1.false (c.is-kind2.ensures)
-
-pub is-of-kind-spec : {M : Type 1} → statement M
-is-of-kind-spec = tie.close (tie.spec is-kind-requires returns is-kind-requires-2 returns-2)
+pub is_of_kind_spec : {M : Type 1} → statement M
+is_of_kind_spec = tie.close (tie.spec is_kind-requires returns-then-link is_kind-requires-2 returns)

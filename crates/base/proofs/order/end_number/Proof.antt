@@ -6,35 +6,35 @@ use Rattle.base.specs.Rows.{end_at}
 use Rattle.base.proofs.order.end_number.Statement.{statement}
 use Rattle.base.proofs.order.end_number.Tie as tie
 
-end-sds-requires : tie.Need-end-sds-requires
-end-sds-requires c κs = search rules
+end_sds-requires : tie.Need-end_sds-requires
+end_sds-requires c κs = search rules
 
-mul-result : tie.Need-overflow-mul-result
-mul-result c = search rules
+overflow_mul-result : tie.Need-overflow_mul-result
+overflow_mul-result c = search rules
 
-end-link-requires : tie.Need-end-link-requires
-end-link-requires c κs = search rules
+end_link-requires : tie.Need-end_link-requires
+end_link-requires c κs = search rules
 
-add-result : tie.Need-overflow-add-result
-add-result c = search rules
+overflow_add-result : tie.Need-overflow_add-result
+overflow_add-result c = search rules
 
-mul-result-2 : tie.Need-overflow-mul-result-2
-mul-result-2 c = search rules
+overflow_mul-result-2 : tie.Need-overflow_mul-result-2
+overflow_mul-result-2 c = search rules
 
-end-side-requires : tie.Need-end-side-requires
-end-side-requires c κs = search rules
+end_side-requires : tie.Need-end_side-requires
+end_side-requires c κs = search rules
 
-add-result-2 : tie.Need-overflow-add-result-2
-add-result-2 c = search rules
+overflow_add-result-2 : tie.Need-overflow_add-result-2
+overflow_add-result-2 c = search rules
 
-mul-result-3 : tie.Need-overflow-mul-result-3
-mul-result-3 c = search rules
+overflow_mul-result-3 : tie.Need-overflow_mul-result-3
+overflow_mul-result-3 c = search rules
 
-end-object-requires : tie.Need-end-object-requires
-end-object-requires c κs = search rules
+end_object-requires : tie.Need-end_object-requires
+end_object-requires c κs = search rules
 
-add-result-3 : tie.Need-overflow-add-result-3
-add-result-3 c = search rules
+overflow_add-result-3 : tie.Need-overflow_add-result-3
+overflow_add-result-3 c = search rules
 
 returns : tie.Need-returns
 returns c =
@@ -42,24 +42,24 @@ returns c =
     omega (
       arith,
       number_four x.args.base.now (end_at x.args.i) (omega (arith, x.requires.0)),
-      c.before.before.before.end_sds.ensures.is,
-      c.before.before.end_link.ensures.is,
-      c.before.end-side.ensures.is,
+      c.end_sds.ensures.is,
+      c.end_link.ensures.is,
+      c.end_side.ensures.is,
       c.end_object.ensures.is,
     )
 
-pub end-number-spec : {M : Type 1} → statement M
-end-number-spec =
+pub end_number_spec : {M : Type 1} → statement M
+end_number_spec =
     tie.close
     (tie.spec
-    end-sds-requires
-    mul-result
-    end-link-requires
-    add-result
-    mul-result-2
-    end-side-requires
-    add-result-2
-    mul-result-3
-    end-object-requires
-    add-result-3
+    end_sds-requires
+    overflow_mul-result
+    end_link-requires
+    overflow_add-result
+    overflow_mul-result-2
+    end_side-requires
+    overflow_add-result-2
+    overflow_mul-result-3
+    end_object-requires
+    overflow_add-result-3
     returns)

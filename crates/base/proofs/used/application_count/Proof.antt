@@ -9,8 +9,8 @@ filled-requires : tie.Need-filled-requires
 filled-requires c κs = search rules
 
 returns : tie.Need-returns
-returns c = counted c.before.before.args.base.now applications.start applications.width applications.room c.filled.result
+returns c = counted c.args.base.now applications.start applications.width applications.room c.filled.result
     c.filled.ensures
 
-pub application-count-spec : {M : Type 1} → statement M
-application-count-spec = tie.close (tie.spec filled-requires returns)
+pub application_count_spec : {M : Type 1} → statement M
+application_count_spec = tie.close (tie.spec filled-requires returns)

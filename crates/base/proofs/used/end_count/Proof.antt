@@ -9,7 +9,7 @@ filled-requires : tie.Need-filled-requires
 filled-requires c κs = search rules
 
 returns : tie.Need-returns
-returns c = counted c.before.before.args.base.now ends.start ends.width ends.room c.filled.result c.filled.ensures
+returns c = counted c.args.base.now ends.start ends.width ends.room c.filled.result c.filled.ensures
 
-pub end-count-spec : {M : Type 1} → statement M
-end-count-spec = tie.close (tie.spec filled-requires returns)
+pub end_count_spec : {M : Type 1} → statement M
+end_count_spec = tie.close (tie.spec filled-requires returns)

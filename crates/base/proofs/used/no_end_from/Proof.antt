@@ -7,19 +7,19 @@ use Rattle.base.specs.Tables.{at, end, ends}
 use Rattle.base.proofs.used.no_end_from.Statement.{statement}
 use Rattle.base.proofs.used.no_end_from.Tie as tie
 
-mul-is-zero : tie.Need-overflow-mul-is-zero
-mul-is-zero c = search rules
+overflow_mul-n : tie.Need-overflow_mul-n
+overflow_mul-n c = search rules
 
-add-is-zero : tie.Need-overflow-add-is-zero
-add-is-zero c = search rules
+overflow_add-n : tie.Need-overflow_add-n
+overflow_add-n c = search rules
 
-is-zero-requires : tie.Need-is-zero-requires
-is-zero-requires c κs = search rules
+is_zero-requires : tie.Need-is_zero-requires
+is_zero-requires c κs = search rules
 
 returns : tie.Need-returns
 returns c =
-    let x = c.before.before.args in
+    let x = c.args in
     room_zero x.base.now (at ends x.n) (end ends) ((ends.room - x.n) * ends.width) c.is_zero.result (omega arith) c.is_zero.ensures
 
-pub no-end-from-spec : {M : Type 1} → statement M
-no-end-from-spec = tie.close (tie.spec mul-is-zero add-is-zero is-zero-requires returns)
+pub no_end_from_spec : {M : Type 1} → statement M
+no_end_from_spec = tie.close (tie.spec overflow_mul-n overflow_add-n is_zero-requires returns)

@@ -9,7 +9,7 @@ filled-requires : tie.Need-filled-requires
 filled-requires c κs = search rules
 
 returns : tie.Need-returns
-returns c = counted c.before.before.args.base.now presences.start presences.width presences.room c.filled.result c.filled.ensures
+returns c = counted c.args.base.now presences.start presences.width presences.room c.filled.result c.filled.ensures
 
-pub presence-count-spec : {M : Type 1} → statement M
-presence-count-spec = tie.close (tie.spec filled-requires returns)
+pub presence_count_spec : {M : Type 1} → statement M
+presence_count_spec = tie.close (tie.spec filled-requires returns)

@@ -11,33 +11,33 @@ use Rattle.rules.proofs.NameTests.{system_stops, system_passes}
 use Rattle.conditions.proofs.aimed.aimed_at.Statement.{statement}
 use Rattle.conditions.proofs.aimed.aimed_at.Tie as tie
 
-at_2 : (c : tie.Else1) → let x = c.before.before.before.args in Past x.base.now (sds_refusals (schema_of x.base.now) x.sds) 2
-at_2 c = come_first (c.before.is_sound.ensures.holds (not-false _ c.if1.false))
+at_2 : (c : tie.Else-not-is_sound) → let x = c.args in Past x.base.now (sds_refusals (schema_of x.base.now) x.sds) 2
+at_2 c = come_first (c.is_sound.ensures.holds (not-false _ c.if-not-is_sound.false-raw))
 
-at_3 : (c : tie.Else2) → let x = c.before.before.before.before.before.args in Past x.base.now (sds_refusals (schema_of x.base.now) x.sds) 3
+at_3 : (c : tie.Else-not-is_sds) → let x = c.args in Past x.base.now (sds_refusals (schema_of x.base.now) x.sds) 3
 at_3 c =
     let p = at_2 c.before.before in
-    come_next p (known _ (sound_long p.sound) _ (sym c.before.is-sds.ensures ∙ not-false _ c.if2.false))
+    come_next p (known _ (sound_long p.sound) _ (sym c.is_sds.ensures ∙ not-false _ c.if-not-is_sds.false-raw))
 
-is-sound-requires : tie.Need-is-sound-requires
-is-sound-requires c κs = search rules
+is_sound-requires : tie.Need-is_sound-requires
+is_sound-requires c κs = search rules
+
+returns-then-not-is_sound : tie.Need-returns-then-not-is_sound
+returns-then-not-is_sound c = come_spoiled (c.is_sound.ensures.fails (not-true _ c.if-not-is_sound.true-raw)) refl
+
+is_sds-requires : tie.Need-is_sds-requires
+is_sds-requires c κs = sound_long (at_2 c).sound
+
+returns-then-not-is_sds : tie.Need-returns-then-not-is_sds
+returns-then-not-is_sds c =
+    let p = at_2 c.before.before in
+    come_stops p (unknown _ (sound_long p.sound) _ (sym c.is_sds.ensures ∙ not-true _ c.if-not-is_sds.true-raw)) refl
+
+returns-then-sds-eq0 : tie.Need-returns-then-sds-eq0
+returns-then-sds-eq0 c = come_stops (at_3 c.before) (system_stops _ c.if-sds-eq0.true) refl
 
 returns : tie.Need-returns
-returns c = come_spoiled (c.before.is_sound.ensures.fails (not-true _ c.if1.true)) refl
+returns c = come_through (come_next (at_3 c.before) (system_passes _ c.if-sds-eq0.false))
 
-is-sds-requires : tie.Need-is-sds-requires
-is-sds-requires c κs = sound_long (at_2 c).sound
-
-returns-2 : tie.Need-returns-2
-returns-2 c =
-    let p = at_2 c.before.before in
-    come_stops p (unknown _ (sound_long p.sound) _ (sym c.before.is-sds.ensures ∙ not-true _ c.if2.true)) refl
-
-returns-3 : tie.Need-returns-3
-returns-3 c = come_stops (at_3 c.before) (system_stops _ c.if3.true) refl
-
-returns-4 : tie.Need-returns-4
-returns-4 c = come_through (come_next (at_3 c.before) (system_passes _ c.if3.false))
-
-pub aimed-at-spec : {M : Type 1} → statement M
-aimed-at-spec = tie.close (tie.spec is-sound-requires returns is-sds-requires returns-2 returns-3 returns-4)
+pub aimed_at_spec : {M : Type 1} → statement M
+aimed_at_spec = tie.close (tie.spec is_sound-requires returns-then-not-is_sound is_sds-requires returns-then-not-is_sds returns-then-sds-eq0 returns)

@@ -14,48 +14,48 @@ use Rattle.conditions.proofs.AimedLaws.{come_on, neither}
 use Rattle.conditions.proofs.aimed.aimed_two.Statement.{statement}
 use Rattle.conditions.proofs.aimed.aimed_two.Tie as tie
 
-at_4 : (c : tie.Else1) → let x = c.before.before.before.before.before.args in
+at_4 : (c : tie.Else-no-ne0) → let x = c.args in
     Past x.base.now (aim_refusals (schema_of x.base.now) x.sds (malformed x.name.now || malformed x.other.now)) 4
 unfolding all
-at_4 c = come_on c.before.aimed-at.ensures c.if1.false refl _
+at_4 c = come_on c.aimed_at-no.ensures c.if-no-ne0.false refl _
 
-aimed-at-requires : tie.Need-aimed-at-requires
-aimed-at-requires c κs = search rules
+aimed_at-no-requires : tie.Need-aimed_at-no-requires
+aimed_at-no-requires c κs = search rules
+
+returns-then-no-ne0 : tie.Need-returns-then-no-ne0
+returns-then-no-ne0 c = tested_first _ c.aimed_at-no.ensures c.if-no-ne0.true
+
+is_well_formed-requires : tie.Need-is_well_formed-requires
+is_well_formed-requires c κs = search rules
+
+returns-then-not-is_well_formed : tie.Need-returns-then-not-is_well_formed
+returns-then-not-is_well_formed c =
+    come_stops (at_4 c.before.before)
+    (or_left _ _ (malformed_stops _ (sym c.is_well_formed.ensures ∙ not-true _ c.if-not-is_well_formed.true-raw))) refl
+
+is_well_formed-requires-2 : tie.Need-is_well_formed-requires-2
+is_well_formed-requires-2 c κs = search rules
+
+returns-then-not-is_well_formed-2 : tie.Need-returns-then-not-is_well_formed-2
+returns-then-not-is_well_formed-2 c =
+    come_stops (at_4 c.before.before.before.before)
+    (or_right (malformed c.args.name.now) _
+    (malformed_stops _ (sym c.is_well_formed-2.ensures ∙ not-true _ c.if-not-is_well_formed-2.true-raw))) refl
 
 returns : tie.Need-returns
-returns c = tested_first _ c.before.aimed-at.ensures c.if1.true
-
-is-well-formed-requires : tie.Need-is-well-formed-requires
-is-well-formed-requires c κs = search rules
-
-returns-2 : tie.Need-returns-2
-returns-2 c =
-    come_stops (at_4 c.before.before)
-    (or_left _ _ (malformed_stops _ (sym c.before.is-well-formed.ensures ∙ not-true _ c.if2.true))) refl
-
-is-well-formed-requires-2 : tie.Need-is-well-formed-requires-2
-is-well-formed-requires-2 c κs = search rules
-
-returns-3 : tie.Need-returns-3
-returns-3 c =
-    come_stops (at_4 c.before.before.before.before)
-    (or_right (malformed c.before.before.before.before.before.before.before.before.before.args.name.now) _
-    (malformed_stops _ (sym c.before.is-well-formed2.ensures ∙ not-true _ c.if3.true))) refl
-
-returns-4 : tie.Need-returns-4
-returns-4 c =
+returns c =
     come_through (come_next (at_4 c.before.before.before.before) (neither
-    (formed_passes _ (sym c.before.before.before.is-well-formed.ensures ∙ not-false _ c.before.before.if2.false))
-    (formed_passes _ (sym c.before.is-well-formed2.ensures ∙ not-false _ c.if3.false))))
+    (formed_passes _ (sym c.is_well_formed.ensures ∙ not-false _ c.if-not-is_well_formed.false-raw))
+    (formed_passes _ (sym c.is_well_formed-2.ensures ∙ not-false _ c.if-not-is_well_formed-2.false-raw))))
 
-pub aimed-two-spec : {M : Type 1} → statement M
-aimed-two-spec =
+pub aimed_two_spec : {M : Type 1} → statement M
+aimed_two_spec =
     tie.close
     (tie.spec
-    aimed-at-requires
-    returns
-    is-well-formed-requires
-    returns-2
-    is-well-formed-requires-2
-    returns-3
-    returns-4)
+    aimed_at-no-requires
+    returns-then-no-ne0
+    is_well_formed-requires
+    returns-then-not-is_well_formed
+    is_well_formed-requires-2
+    returns-then-not-is_well_formed-2
+    returns)

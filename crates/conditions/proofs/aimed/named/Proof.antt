@@ -9,26 +9,26 @@ use Rattle.conditions.proofs.aimed.named.Tie as tie
 refused-requires : tie.Need-refused-requires
 refused-requires c κs = search rules
 
+returns-then-no-ne0 : tie.Need-returns-then-no-ne0
+returns-then-no-ne0 c = record { after = λ bad t. refused_first _ t c.if-no-ne0.true c.refused.ensures }
+
+type_in-t-requires : tie.Need-type_in-t-requires
+type_in-t-requires c κs = c.requires c.if-no-ne0.false
+
+refused-requires-then-t-eq-TYPES : tie.Need-refused-requires-then-t-eq-TYPES
+refused-requires-then-t-eq-TYPES c κs = search rules
+
+returns-then-t-eq-TYPES : tie.Need-returns-then-t-eq-TYPES
+returns-then-t-eq-TYPES c = record {
+  after = λ bad t. refused_here (come_aimed _ t c.if-no-ne0.false _)
+      (missing c.type_in-t.ensures c.if-t-eq-TYPES.true) c.refused-then-t-eq-TYPES.ensures (omega arith);
+}
+
 returns : tie.Need-returns
-returns c = record { after = λ bad t. refused_first _ t c.before.if1.true c.refused.ensures }
-
-type-in-requires : tie.Need-type-in-requires
-type-in-requires c κs = c.before.before.before.requires c.if1.false
-
-refused-requires-2 : tie.Need-refused-requires-2
-refused-requires-2 c κs = search rules
-
-returns-2 : tie.Need-returns-2
-returns-2 c = record {
-  after = λ bad t. refused_here (come_aimed _ t c.before.before.before.if1.false _)
-      (missing c.before.before.type_in.ensures c.before.if2.true) c.refused2.ensures (omega arith);
+returns c = record {
+  after = λ bad t. let found = c.type_in-t.ensures in
+      passed_by (come_through (come_next (come_aimed _ t c.if-no-ne0.false _) (there found c.if-t-eq-TYPES.false))) (type_found found c.if-t-eq-TYPES.false);
 }
 
-returns-3 : tie.Need-returns-3
-returns-3 c = record {
-  after = λ bad t. let found = c.before.type_in.ensures in
-      passed_by (come_through (come_next (come_aimed _ t c.before.before.if1.false _) (there found c.if2.false))) (type_found found c.if2.false);
-}
-
-pub named-spec : {M : Type 1} → statement M
-named-spec = tie.close (tie.spec refused-requires returns type-in-requires refused-requires-2 returns-2 returns-3)
+pub named_spec : {M : Type 1} → statement M
+named_spec = tie.close (tie.spec refused-requires returns-then-no-ne0 type_in-t-requires refused-requires-then-t-eq-TYPES returns-then-t-eq-TYPES returns)

@@ -10,56 +10,56 @@ use Rattle.conditions.proofs.AimedLaws.{refused_first, refused_here, passed_by, 
 use Rattle.conditions.proofs.aimed.named_two.Statement.{statement}
 use Rattle.conditions.proofs.aimed.named_two.Tie as tie
 
-at_6 : (c : tie.Else1) → let x = c.before.before.before.before.args in
+at_6 : (c : tie.Else-no-ne0) → let x = c.args in
     Past x.base.now (two_refusals (schema_of x.base.now) x.sds x.name.now x.other.now) 6
-at_6 c = come_aimed _ c.before.before.before.before.requires c.if1.false _
+at_6 c = come_aimed _ c.requires c.if-no-ne0.false _
 
 refused-requires : tie.Need-refused-requires
 refused-requires c κs = search rules
 
-returns : tie.Need-returns
-returns c = refused_first _ c.before.before.before.before.before.requires c.before.if1.true c.refused.ensures
+returns-then-no-ne0 : tie.Need-returns-then-no-ne0
+returns-then-no-ne0 c = refused_first _ c.requires c.if-no-ne0.true c.refused.ensures
 
-type-in-requires : tie.Need-type-in-requires
-type-in-requires c κs = (at_6 c).sound
+type_in-one-requires : tie.Need-type_in-one-requires
+type_in-one-requires c κs = (at_6 c).sound
 
-refused-requires-2 : tie.Need-refused-requires-2
-refused-requires-2 c κs = search rules
+refused-requires-then-one-eq-TYPES : tie.Need-refused-requires-then-one-eq-TYPES
+refused-requires-then-one-eq-TYPES c κs = search rules
 
-returns-2 : tie.Need-returns-2
-returns-2 c =
-    refused_here (at_6 c.before.before.before) (or_left _ _ (missing c.before.before.type_in.ensures c.before.if2.true))
-    c.refused2.ensures (omega arith)
+returns-then-one-eq-TYPES : tie.Need-returns-then-one-eq-TYPES
+returns-then-one-eq-TYPES c =
+    refused_here (at_6 c.before.before.before) (or_left _ _ (missing c.type_in-one.ensures c.if-one-eq-TYPES.true))
+    c.refused-then-one-eq-TYPES.ensures (omega arith)
 
-type-in-requires-2 : tie.Need-type-in-requires-2
-type-in-requires-2 c κs = (at_6 c.before.before).sound
+type_in-two-requires : tie.Need-type_in-two-requires
+type_in-two-requires c κs = (at_6 c.before.before).sound
 
-refused-requires-3 : tie.Need-refused-requires-3
-refused-requires-3 c κs = search rules
+refused-requires-then-two-eq-TYPES : tie.Need-refused-requires-then-two-eq-TYPES
+refused-requires-then-two-eq-TYPES c κs = search rules
 
-returns-3 : tie.Need-returns-3
-returns-3 c = let x = c.before.before.before.before.before.before.before.before.before.args in
+returns-then-two-eq-TYPES : tie.Need-returns-then-two-eq-TYPES
+returns-then-two-eq-TYPES c = let x = c.args in
     refused_here (at_6 c.before.before.before.before.before) (or_right (no_such_name (schema_of x.base.now) x.sds x.name.now) _
-    (missing c.before.before.type-in2.ensures c.before.if3.true)) c.refused3.ensures (omega arith)
+    (missing c.type_in-two.ensures c.if-two-eq-TYPES.true)) c.refused-then-two-eq-TYPES.ensures (omega arith)
 
-returns-4 : tie.Need-returns-4
-returns-4 c =
-    let one = c.before.before.before.type_in.ensures in
-    let two = c.before.type-in2.ensures in
+returns : tie.Need-returns
+returns c =
+    let one = c.type_in-one.ensures in
+    let two = c.type_in-two.ensures in
     passed_by
-    (come_through (come_next (at_6 c.before.before.before.before) (neither (there one c.before.before.if2.false) (there two c.if3.false))))
-    (record { one = type_found one c.before.before.if2.false; two = type_found two c.if3.false })
+    (come_through (come_next (at_6 c.before.before.before.before) (neither (there one c.if-one-eq-TYPES.false) (there two c.if-two-eq-TYPES.false))))
+    (record { one = type_found one c.if-one-eq-TYPES.false; two = type_found two c.if-two-eq-TYPES.false })
 
-pub named-two-spec : {M : Type 1} → statement M
-named-two-spec =
+pub named_two_spec : {M : Type 1} → statement M
+named_two_spec =
     tie.close
     (tie.spec
     refused-requires
-    returns
-    type-in-requires
-    refused-requires-2
-    returns-2
-    type-in-requires-2
-    refused-requires-3
-    returns-3
-    returns-4)
+    returns-then-no-ne0
+    type_in-one-requires
+    refused-requires-then-one-eq-TYPES
+    returns-then-one-eq-TYPES
+    type_in-two-requires
+    refused-requires-then-two-eq-TYPES
+    returns-then-two-eq-TYPES
+    returns)

@@ -9,70 +9,69 @@ use Rattle.file_out.proofs.NumberedLaws.{mark, row_counted, row_passed, rows_cou
 use Rattle.file_out.proofs.numbered.count.Statement.{statement}
 use Rattle.file_out.proofs.numbered.count.Tie as tie
 
-abbrev invariant-loop : tie.invariant-loop
-invariant-loop base start width n used₀ k₀ used k = (k ≤ n) × (used ≤ k) × Counting (mark base start width) n k used
+abbrev invariant-loop-k : tie.invariant-loop-k
+invariant-loop-k base start width n used₀ k₀ used k = (k ≤ n) × (used ≤ k) × Counting (mark base start width) n k used
 
-abbrev decreases-loop : tie.decreases-loop
-decreases-loop base start width n used₀ k₀ used k = n - k
+abbrev decreases-loop-k : tie.decreases-loop-k
+decreases-loop-k base start width n used₀ k₀ used k = n - k
 
 -- the row is there
-inside : (c : tie.In-loop invariant-loop decreases-loop)
-    → let x = c.before.before.args in x.start + c.before.loop.k * x.width < length x.base.now
+inside : (c : tie.In-loop-k invariant-loop-k decreases-loop-k)
+    → let x = c.args in x.start + c.loop-k.k * x.width < length x.base.now
 inside c =
-    let x = c.before.before in
-    let h = row_fits x.args.width c.loop-test.true in
-    omega (arith, x.requires.0, x.requires.1)
+    let h = row_fits c.args.width c.loop-k-test.true in
+    omega (arith, c.requires.0, c.requires.1)
 
-loop-holds : tie.Need-loop-init invariant-loop decreases-loop
-loop-holds c = (omega arith, omega arith, counting_none)
+loop-k-init : tie.Need-loop-k-init invariant-loop-k decreases-loop-k
+loop-k-init c = (omega arith, omega arith, counting_none)
 
-mul-if1 : tie.Need-overflow-mul-if1 invariant-loop decreases-loop
-mul-if1 c = omega (arith, inside c)
+overflow_mul-k : tie.Need-overflow_mul-k invariant-loop-k decreases-loop-k
+overflow_mul-k c = omega (arith, inside c)
 
-add-if1 : tie.Need-overflow-add-if1 invariant-loop decreases-loop
-add-if1 c = omega (arith, inside c)
+overflow_add-start : tie.Need-overflow_add-start invariant-loop-k decreases-loop-k
+overflow_add-start c = omega (arith, inside c)
 
-shared-slice-read-if1 : tie.Need-shared-slice-read-if1 invariant-loop decreases-loop
-shared-slice-read-if1 c = inside c.before
+bounds-base-start : tie.Need-bounds-base-start invariant-loop-k decreases-loop-k
+bounds-base-start c = inside c.before
 
-add-used : tie.Need-overflow-add-used invariant-loop decreases-loop
-add-used c = omega (arith, c.before.before.before.loop.invariant.0, c.before.before.before.loop.invariant.1)
+overflow_add-used : tie.Need-overflow_add-used invariant-loop-k decreases-loop-k
+overflow_add-used c = omega (arith, c.loop-k.invariant.0, c.loop-k.invariant.1)
 
-add-k : tie.Need-overflow-add-k invariant-loop decreases-loop
-add-k c = omega (arith, c.before.before.loop-test.true)
+overflow_add-k : tie.Need-overflow_add-k invariant-loop-k decreases-loop-k
+overflow_add-k c = omega (arith, c.loop-k-test.true)
 
-loop-less : tie.Need-loop-smaller invariant-loop decreases-loop
-loop-less c = omega (arith, c.before.before.loop-test.true)
+loop-k-smaller : tie.Need-loop-k-smaller invariant-loop-k decreases-loop-k
+loop-k-smaller c = omega (arith, c.loop-k-test.true)
 
-loop-again : tie.Need-loop-preserved invariant-loop decreases-loop
-loop-again c =
-    let l = c.before.before.before.loop in
-    let h = c.before.before.loop-test.true in (
+loop-k-preserved : tie.Need-loop-k-preserved invariant-loop-k decreases-loop-k
+loop-k-preserved c =
+    let l = c.loop-k in
+    let h = c.loop-k-test.true in (
       omega arith,
-      ⊎_elim (λ w. omega (arith, w.1, l.invariant.1)) (λ w. omega (arith, w.1, l.invariant.1)) c.if1.branch,
+      ⊎_elim (λ w. omega (arith, w.1, l.invariant.1)) (λ w. omega (arith, w.1, l.invariant.1)) c.if-base-start-ne0.branch-raw,
       ⊎_elim
           (λ w. rw w.1 (row_counted _ _ _ l.invariant.2 h w.0.taken))
           (λ w. rw w.1 (row_passed _ _ _ l.invariant.2 h w.0.left))
-          c.if1.branch,
+          c.if-base-start-ne0.branch-raw,
     )
 
-returns : tie.Need-returns invariant-loop decreases-loop
+returns : tie.Need-returns invariant-loop-k decreases-loop-k
 returns c =
-    let l = c.before.loop in
-    record { is = rows_counted _ _ _ l.invariant.2 c.loop-test.false; fits = omega (arith, l.invariant.0, l.invariant.1) }
+    let l = c.loop-k in
+    record { is = rows_counted _ _ _ l.invariant.2 c.loop-k-test.false; fits = omega (arith, l.invariant.0, l.invariant.1) }
 
 pub count_spec : {M : Type 1} → statement M
 count_spec =
     tie.close
     (tie.spec
-    invariant-loop
-    decreases-loop
-    loop-holds
-    mul-if1
-    add-if1
-    shared-slice-read-if1
-    add-used
-    add-k
-    loop-less
-    loop-again
+    invariant-loop-k
+    decreases-loop-k
+    loop-k-init
+    overflow_mul-k
+    overflow_add-start
+    bounds-base-start
+    overflow_add-used
+    overflow_add-k
+    loop-k-smaller
+    loop-k-preserved
     returns)

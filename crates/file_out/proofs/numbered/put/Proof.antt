@@ -13,102 +13,99 @@ use Rattle.file_out.proofs.NumberedLaws.{bytes_at, entries_long, rows_span}
 use Rattle.file_out.proofs.numbered.put.Statement.{statement}
 use Rattle.file_out.proofs.numbered.put.Tie as tie
 
-abbrev invariant-loop : tie.invariant-loop
-invariant-loop base start width n kept out₀ many at₀ k₀ out at k =
+abbrev invariant-loop-k : tie.invariant-loop-k
+invariant-loop-k base start width n kept out₀ many at₀ k₀ out at k =
     (k ≤ n) × Putting (joined (row_entries base start width kept n)) out₀ at₀ out at (span (bytes_at base start width kept) k (n - k))
 
-abbrev decreases-loop : tie.decreases-loop
-decreases-loop base start width n kept out₀ many at₀ k₀ out at k = n - k
+abbrev decreases-loop-k : tie.decreases-loop-k
+decreases-loop-k base start width n kept out₀ many at₀ k₀ out at k = n - k
 
 -- the row is there
-inside : (c : tie.In-loop invariant-loop decreases-loop)
-    → let x = c.before.before.before.before.before.before.before.before.before.args in x.start + c.before.loop.k * x.width + x.width ≤ length x.base.now
+inside : (c : tie.In-loop-k invariant-loop-k decreases-loop-k)
+    → let x = c.args in x.start + c.loop-k.k * x.width + x.width ≤ length x.base.now
 inside c =
-    let x = c.before.before.before.before.before.before.before.before.before in
-    omega (arith, row_fits x.args.width c.loop-test.true, x.requires.0.1)
+    omega (arith, row_fits c.args.width c.loop-k-test.true, c.requires.0.1)
 
 -- the count is that of the entries
-count_is : (c : tie.After-slice-known2 invariant-loop decreases-loop)
-    → let x = c.before.before.before.before.before.before.before.args in
-    c.before.before.before.before.count.result ≡ length (row_entries x.base.now x.start x.width x.kept x.n)
+count_is : (c : tie.After-slice_known-2-1 invariant-loop-k decreases-loop-k)
+    → let x = c.args in
+    c.count-many.result ≡ length (row_entries x.base.now x.start x.width x.kept x.n)
 count_is c =
-    let x = c.before.before.before.before.before.before.before.args in
-    c.before.before.before.before.count.ensures.is ∙ sym (entries_long x.base.now x.start x.width x.kept x.n)
+    let x = c.args in
+    c.count-many.ensures.is ∙ sym (entries_long x.base.now x.start x.width x.kept x.n)
 
-count-requires : tie.Need-count-requires invariant-loop decreases-loop
-count-requires c κs = c.before.before.requires.0
+count-many-requires : tie.Need-count-many-requires invariant-loop-k decreases-loop-k
+count-many-requires c κs = c.requires.0
 
-put-count-requires : tie.Need-put-count-requires invariant-loop decreases-loop
-put-count-requires c κs =
-    let x = c.before.before.before.before.args in
-    let p = c.before.before.before.before.requires in (
-      omega (arith, c.before.count.ensures.fits, p.1.0.1),
+put_count-at-requires : tie.Need-put_count-at-requires invariant-loop-k decreases-loop-k
+put_count-at-requires c κs =
+    let x = c.args in
+    let p = c.requires in (
+      omega (arith, c.count-many.ensures.fits, p.1.0.1),
       omega (arith, p.1.1, section_counted (row_entries x.base.now x.start x.width x.kept x.n)),
     )
 
-loop-holds : tie.Need-loop-init invariant-loop decreases-loop
-loop-holds c =
-    let p = c.before.before.before.before.before.before.before in
-    let x = p.args in (
+loop-k-init : tie.Need-loop-k-init invariant-loop-k decreases-loop-k
+loop-k-init c =
+    let x = c.args in (
       omega arith,
       spans_none (bytes_at x.base.now x.start x.width x.kept) x.n (rows_span x.base.now x.start x.width x.kept x.n)
-          (section_room _ (count_is c) p.requires.1.1 c.before.before.put_count.ensures),
+          (section_room _ (count_is c) c.requires.1.1 c.put_count-at.ensures),
     )
 
-mul-put-row : tie.Need-overflow-mul-put-row invariant-loop decreases-loop
-mul-put-row c = omega (arith, inside c)
+overflow_mul-k : tie.Need-overflow_mul-k invariant-loop-k decreases-loop-k
+overflow_mul-k c = omega (arith, inside c)
 
-add-put-row : tie.Need-overflow-add-put-row invariant-loop decreases-loop
-add-put-row c = omega (arith, inside c)
+overflow_add-start : tie.Need-overflow_add-start invariant-loop-k decreases-loop-k
+overflow_add-start c = omega (arith, inside c)
 
-put-row-requires : tie.Need-put-row-requires invariant-loop decreases-loop
-put-row-requires c κs =
-    let x = c.before.before.before.before.before.before.before.before.before.before in
-    let l = c.before.before.loop in
-    let h = c.before.loop-test.true in
+put_row-at-requires : tie.Need-put_row-at-requires invariant-loop-k decreases-loop-k
+put_row-at-requires c κs =
+    let l = c.loop-k in
+    let h = c.loop-k-test.true in
     let fits = inside c.before in (
-      (omega (arith, x.requires.0.0), omega (arith, x.requires.1.0.0)),
-      (omega (arith, x.requires.1.0.1), spans_room (bytes_at _ _ _ _) x.args.n l.k l.invariant.1 h),
+      (omega (arith, c.requires.0.0), omega (arith, c.requires.1.0.0)),
+      (omega (arith, c.requires.1.0.1), spans_room (bytes_at _ _ _ _) c.args.n l.k l.invariant.1 h),
     )
 
-add-k : tie.Need-overflow-add-k invariant-loop decreases-loop
-add-k c = omega (arith, c.before.before.before.before.loop-test.true)
+overflow_add-k : tie.Need-overflow_add-k invariant-loop-k decreases-loop-k
+overflow_add-k c = omega (arith, c.loop-k-test.true)
 
-loop-less : tie.Need-loop-smaller invariant-loop decreases-loop
-loop-less c = omega (arith, c.before.before.before.before.loop-test.true)
+loop-k-smaller : tie.Need-loop-k-smaller invariant-loop-k decreases-loop-k
+loop-k-smaller c = omega (arith, c.loop-k-test.true)
 
-loop-again : tie.Need-loop-preserved invariant-loop decreases-loop
-loop-again c =
-    let l = c.before.before.before.before.before.loop in
-    let h = c.before.before.before.before.loop-test.true in
-    let row = c.before.before.put-row.ensures in
+loop-k-preserved : tie.Need-loop-k-preserved invariant-loop-k decreases-loop-k
+loop-k-preserved c =
+    let l = c.loop-k in
+    let h = c.loop-k-test.true in
+    let row = c.put_row-at.ensures in
     (omega arith, spans_more _ _ l.k l.invariant.1 h row.long row.is)
 
-same_length : tie.Need-same-length invariant-loop decreases-loop
-same_length c =
-    putting_long c.before.loop.invariant.1
-    ∙ section_same _ (count_is c.before.before) c.before.before.before.before.before.before.before.before.before.requires.1.1 c.before.before.before.before.put_count.ensures
+shape_of-out : tie.Need-shape_of-out invariant-loop-k decreases-loop-k
+shape_of-out c =
+    putting_long c.loop-k.invariant.1
+    ∙ section_same _ (count_is c.before.before) c.requires.1.1 c.put_count-at.ensures
 
-returns : tie.Need-returns invariant-loop decreases-loop
+returns : tie.Need-returns invariant-loop-k decreases-loop-k
 returns c =
-    let (end, is) = spans_done _ _ c.before.loop.k c.before.loop.invariant.1 c.loop-test.false in
-    section_put _ (count_is c.before.before) c.before.before.before.before.before.before.before.before.before.requires.1.1
-    c.before.before.before.before.put_count.ensures end is
+    let (end, is) = spans_done _ _ c.loop-k.k c.loop-k.invariant.1 c.loop-k-test.false in
+    section_put _ (count_is c.before.before) c.requires.1.1
+    c.put_count-at.ensures end is
 
 pub put_spec : {M : Type 1} → statement M
 put_spec =
     tie.close
     (tie.spec
-    invariant-loop
-    decreases-loop
-    count-requires
-    put-count-requires
-    loop-holds
-    mul-put-row
-    add-put-row
-    put-row-requires
-    add-k
-    loop-less
-    loop-again
-    same_length
+    invariant-loop-k
+    decreases-loop-k
+    count-many-requires
+    put_count-at-requires
+    loop-k-init
+    overflow_mul-k
+    overflow_add-start
+    put_row-at-requires
+    overflow_add-k
+    loop-k-smaller
+    loop-k-preserved
+    shape_of-out
     returns)

@@ -13,81 +13,78 @@ use Rattle.file_out.proofs.numbered.put_row.Statement.{statement}
 use Rattle.file_out.proofs.numbered.put_row.Tie as tie
 
 -- both are there
-whole : (c : tie.After-slice-known2)
-    → let x = c.before.before.before.before.before.before.before.before.before.args in
-    PutOn (row_bytes x.base.now x.row x.kept x.k) x.out.now x.at c.before.before.write.new.0 (x.at + 1 + x.kept)
+whole : (c : tie.After-slice_known-2-1)
+    → let x = c.args in
+    PutOn (row_bytes x.base.now x.row x.kept x.k) x.out.now x.at c.write.new.base (x.at + 1 + x.kept)
 whole c =
-    let p = c.before.before.before.before.before.before.before.before.before in
-    let x = p.args in
+    let x = c.args in
     let same = slice_part x.base.now x.row x.kept in
-    row_put x.base.now x.row x.kept x.k x.out.now x.at c.before.before.before.before.before.if1.false p.requires.1.1 same
-    (ap length same ∙ length_part x.base.now x.row x.kept p.requires.0.1) c.before.before.write.ensures
+    row_put x.base.now x.row x.kept x.k x.out.now x.at c.if-base-row-eq0.false c.requires.1.1 same
+    (ap length same ∙ length_part x.base.now x.row x.kept c.requires.0.1) c.write.ensures
 
-shared-slice-read-if1 : tie.Need-shared-slice-read-if1
-shared-slice-read-if1 c = search rules
+bounds-base-row : tie.Need-bounds-base-row
+bounds-base-row c = search rules
 
-returns : tie.Need-returns
-returns c = row_none _ _ _ _ _ _ c.if1.true
+returns-then-base-row-eq0 : tie.Need-returns-then-base-row-eq0
+returns-then-base-row-eq0 c = row_none _ _ _ _ _ _ c.if-base-row-eq0.true
 
-cast-out : tie.Need-overflow-cast-out
-cast-out c = search rules
+overflow_cast-out : tie.Need-overflow_cast-out
+overflow_cast-out c = search rules
 
-slice-write-out : tie.Need-slice-write-out
-slice-write-out c =
-    let p = c.before.before.before.before in
-    let x = p.args in
-    let room = row_room x.base.now x.row x.kept x.k x.out.now x.at c.if1.false p.requires.1.1 in
+bounds-out-at : tie.Need-bounds-out-at
+bounds-out-at c =
+    let x = c.args in
+    let room = row_room x.base.now x.row x.kept x.k x.out.now x.at c.if-base-row-eq0.false c.requires.1.1 in
     omega arith
 
-add-end : tie.Need-overflow-add-end
-add-end c = search rules
+overflow_add-end : tie.Need-overflow_add-end
+overflow_add-end c = search rules
 
-add-write : tie.Need-overflow-add-write
-add-write c = search rules
+overflow_add-at : tie.Need-overflow_add-at
+overflow_add-at c = search rules
 
-sub-write : tie.Need-overflow-sub-write
-sub-write c = search rules
+slice_bounds-write-count : tie.Need-slice_bounds-write-count
+slice_bounds-write-count c = search rules
 
-part-write-start : tie.Need-slice-bounds-write-start
-part-write-start c = search rules
+slice_bounds-write-start : tie.Need-slice_bounds-write-start
+slice_bounds-write-start c = search rules
 
-part-write-end : tie.Need-slice-bounds-write-end
-part-write-end c = search rules
+slice_bounds-write-end : tie.Need-slice_bounds-write-end
+slice_bounds-write-end c = search rules
 
 write-requires : tie.Need-write-requires
 write-requires c κs =
-    let p = c.before.before.before.before.before.before in
-    let x = p.args in
-    let room = row_room x.base.now x.row x.kept x.k x.out.now x.at c.before.before.if1.false p.requires.1.1 in
+    let x = c.args in
+    let room = row_room x.base.now x.row x.kept x.k x.out.now x.at c.if-base-row-eq0.false c.requires.1.1 in
     omega (arith, ap length (slice_part x.base.now x.row x.kept), length-set x.out.now x.at x.k)
 
-add-result : tie.Need-overflow-add-result
-add-result c = search rules
+overflow_add-result : tie.Need-overflow_add-result
+overflow_add-result c = search rules
 
-add-result-2 : tie.Need-overflow-add-result-2
-add-result-2 c = search rules
+overflow_add-result-2 : tie.Need-overflow_add-result-2
+overflow_add-result-2 c = search rules
 
-same_length : tie.Need-same-length
-same_length c = put_long (whole c) c.before.before.before.before.before.before.before.before.before.requires.1.1
+shape_of-out : tie.Need-shape_of-out
+shape_of-out c = put_long (whole c) c.requires.1.1
 
-returns-2 : tie.Need-returns-2
-returns-2 c = whole c
+returns : tie.Need-returns
+returns c = whole c
 
-pub put-row-spec : {M : Type 1} → statement M
-put-row-spec =
+pub put_row_spec : {M : Type 1} → statement M
+put_row_spec =
     tie.close
     (tie.spec
-    shared-slice-read-if1
-    returns
-    cast-out
-    slice-write-out
-    add-end
-    add-write
-    sub-write
-    part-write-start
-    part-write-end
+    bounds-base-row
+    returns-then-base-row-eq0
+    overflow_cast-out
+    bounds-out-at
+    overflow_add-end
+    overflow_add-at
+    slice_bounds-write-count
+    slice_bounds-write-start
+    slice_bounds-write-end
     write-requires
-    add-result
-    add-result-2
-    same_length
-    returns-2)
+    overflow_add-result
+    overflow_add-result-2
+    shape_of-out
+    returns)

@@ -11,75 +11,71 @@ use Rattle.file_out.proofs.ParentLaws.{bytes_of, parent_room, parent_put, parent
 use Rattle.file_out.proofs.parents.put_of.Statement.{statement}
 use Rattle.file_out.proofs.parents.put_of.Tie as tie
 
-abbrev invariant-loop : tie.invariant-loop
-invariant-loop base t out₀ from n at₀ i₀ out at i =
+abbrev invariant-loop-i : tie.invariant-loop-i
+invariant-loop-i base t out₀ from n at₀ i₀ out at i =
     (i ≤ n) × Putting (bytes_of t (parents (schema_of base) t)) out₀ from out at (bytes_of t (drop i (parents (schema_of base) t)))
 
-abbrev decreases-loop : tie.decreases-loop
-decreases-loop base t out₀ from n at₀ i₀ out at i = n - i
+abbrev decreases-loop-i : tie.decreases-loop-i
+decreases-loop-i base t out₀ from n at₀ i₀ out at i = n - i
 
 -- there is another parent
-more : (c : tie.In-loop invariant-loop decreases-loop) → let x = c.before.before.before.before.before.args in c.before.loop.i < length (parents (schema_of x.base.now) x.t)
+more : (c : tie.In-loop-i invariant-loop-i decreases-loop-i) → let x = c.args in c.loop-i.i < length (parents (schema_of x.base.now) x.t)
 more c =
-    let x = c.before.before.before.before.before in
-    omega (arith, c.loop-test.true, c.before.before.parent_count.ensures.is, parents_long x.requires.0 x.args.t x.requires.1.0)
+    omega (arith, c.loop-i-test.true, c.parent_count-n.ensures.is, parents_long c.requires.0 c.args.t c.requires.1.0)
 
-parent-count-requires : tie.Need-parent-count-requires invariant-loop decreases-loop
-parent-count-requires c κs = (sound_long c.before.before.requires.0, c.before.before.requires.1.0)
+parent_count-n-requires : tie.Need-parent_count-n-requires invariant-loop-i decreases-loop-i
+parent_count-n-requires c κs = (sound_long c.requires.0, c.requires.1.0)
 
-loop-holds : tie.Need-loop-init invariant-loop decreases-loop
-loop-holds c = (omega arith, putting_none c.before.before.before.requires.1.1)
+loop-i-init : tie.Need-loop-i-init invariant-loop-i decreases-loop-i
+loop-i-init c = (omega arith, putting_none c.requires.1.1)
 
-parent-requires : tie.Need-parent-requires invariant-loop decreases-loop
+parent-requires : tie.Need-parent-requires invariant-loop-i decreases-loop-i
 parent-requires c κs =
-    let x = c.before.before.before.before.before in
-    let few = few_parents x.requires.0 x.args.t x.requires.1.0 in
-    (sound_long x.requires.0, (x.requires.1.0, omega (arith, c.loop-test.true, c.before.before.parent_count.ensures.is)))
+    let few = few_parents c.requires.0 c.args.t c.requires.1.0 in
+    (sound_long c.requires.0, (c.requires.1.0, omega (arith, c.loop-i-test.true, c.parent_count-n.ensures.is)))
 
-put-two-requires : tie.Need-put-two-requires invariant-loop decreases-loop
-put-two-requires c κs =
-    let child = c.before.before.before.before.before.before.before.requires.1.0 in
-    let parent = c.before.parent.ensures.small in
-    ((omega arith, omega arith), parent_room _ _ _ c.before.before.before.loop.invariant.1 (more c.before.before))
+put_two-at-requires : tie.Need-put_two-at-requires invariant-loop-i decreases-loop-i
+put_two-at-requires c κs =
+    let child = c.requires.1.0 in
+    let parent = c.parent.ensures.small in
+    ((omega arith, omega arith), parent_room _ _ _ c.loop-i.invariant.1 (more c.before.before))
 
-add-i : tie.Need-overflow-add-i invariant-loop decreases-loop
-add-i c = omega (arith, c.before.before.before.before.before.loop-test.true)
+overflow_add-i : tie.Need-overflow_add-i invariant-loop-i decreases-loop-i
+overflow_add-i c = omega (arith, c.loop-i-test.true)
 
-loop-less : tie.Need-loop-smaller invariant-loop decreases-loop
-loop-less c = omega (arith, c.before.before.before.before.before.loop-test.true)
+loop-i-smaller : tie.Need-loop-i-smaller invariant-loop-i decreases-loop-i
+loop-i-smaller c = omega (arith, c.loop-i-test.true)
 
-loop-again : tie.Need-loop-preserved invariant-loop decreases-loop
-loop-again c =
-    let x = c.before.before.before.before.before.before.before.before.before.before in
-    let l = c.before.before.before.before.before.before.loop in
-    let h : l.i < c.before.before.before.before.before.before.before.parent_count.result = c.before.before.before.before.before.loop-test.true in
-    let byte = parent_byte x.requires.0 x.args.t x.requires.1.0 l.i (omega (arith, c.before.before.before.before.before.before.before.parent_count.ensures.is)) in (
+loop-i-preserved : tie.Need-loop-i-preserved invariant-loop-i decreases-loop-i
+loop-i-preserved c =
+    let l = c.loop-i in
+    let h : l.i < c.parent_count-n.result = c.loop-i-test.true in
+    let byte = parent_byte c.requires.0 c.args.t c.requires.1.0 l.i (omega (arith, c.parent_count-n.ensures.is)) in (
       omega arith,
-      parent_put _ _ _ l.invariant.1 (more c.before.before.before.before.before) (byte ∙ sym c.before.before.before.before.parent.ensures.is)
-          c.before.before.put_two.ensures,
+      parent_put _ _ _ l.invariant.1 (more c.before.before.before.before.before) (byte ∙ sym c.parent.ensures.is)
+          c.put_two-at.ensures,
     )
 
-same_length : tie.Need-same-length invariant-loop decreases-loop
-same_length c = putting_long c.before.loop.invariant.1
+shape_of-out : tie.Need-shape_of-out invariant-loop-i decreases-loop-i
+shape_of-out c = putting_long c.loop-i.invariant.1
 
-returns : tie.Need-returns invariant-loop decreases-loop
+returns : tie.Need-returns invariant-loop-i decreases-loop-i
 returns c =
-    let x = c.before.before.before.before.before in
-    parents_put x.args.t (parents (schema_of x.args.base.now) x.args.t) c.before.loop.i c.before.loop.invariant.1
-    (omega (arith, c.loop-test.false, c.before.before.parent_count.ensures.is, parents_long x.requires.0 x.args.t x.requires.1.0))
+    parents_put c.args.t (parents (schema_of c.args.base.now) c.args.t) c.loop-i.i c.loop-i.invariant.1
+    (omega (arith, c.loop-i-test.false, c.parent_count-n.ensures.is, parents_long c.requires.0 c.args.t c.requires.1.0))
 
-pub put-of-spec : {M : Type 1} → statement M
-put-of-spec =
+pub put_of_spec : {M : Type 1} → statement M
+put_of_spec =
     tie.close
     (tie.spec
-    invariant-loop
-    decreases-loop
-    parent-count-requires
-    loop-holds
+    invariant-loop-i
+    decreases-loop-i
+    parent_count-n-requires
+    loop-i-init
     parent-requires
-    put-two-requires
-    add-i
-    loop-less
-    loop-again
-    same_length
+    put_two-at-requires
+    overflow_add-i
+    loop-i-smaller
+    loop-i-preserved
+    shape_of-out
     returns)

@@ -4,11 +4,11 @@ use Rattle.file_out.proofs.CopiedLaws.{applications_counted}
 use Rattle.file_out.proofs.tables.applications.Statement.{statement}
 use Rattle.file_out.proofs.tables.applications.Tie as tie
 
-applications-halved-requires : tie.Need-applications-halved-requires
-applications-halved-requires c κs = sound_long c.before.requires
+applications_halved-requires : tie.Need-applications_halved-requires
+applications_halved-requires c κs = sound_long c.requires
 
 returns : tie.Need-returns
-returns c = applications_counted c.before.before.requires c.applications-halved.ensures
+returns c = applications_counted c.requires c.applications_halved.ensures
 
-pub applications-spec : {M : Type 1} → statement M
-applications-spec = tie.close (tie.spec applications-halved-requires returns)
+pub applications_spec : {M : Type 1} → statement M
+applications_spec = tie.close (tie.spec applications_halved-requires returns)

@@ -4,11 +4,11 @@ use Rattle.file_out.proofs.CopiedLaws.{ends_counted}
 use Rattle.file_out.proofs.tables.ends.Statement.{statement}
 use Rattle.file_out.proofs.tables.ends.Tie as tie
 
-ends-halved-requires : tie.Need-ends-halved-requires
-ends-halved-requires c κs = sound_long c.before.requires
+ends_halved-requires : tie.Need-ends_halved-requires
+ends_halved-requires c κs = sound_long c.requires
 
 returns : tie.Need-returns
-returns c = ends_counted c.before.before.requires c.ends-halved.ensures
+returns c = ends_counted c.requires c.ends_halved.ensures
 
-pub ends-spec : {M : Type 1} → statement M
-ends-spec = tie.close (tie.spec ends-halved-requires returns)
+pub ends_spec : {M : Type 1} → statement M
+ends_spec = tie.close (tie.spec ends_halved-requires returns)

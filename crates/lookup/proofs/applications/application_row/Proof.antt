@@ -10,57 +10,57 @@ use Rattle.base.specs.Back.{application_shown}
 use Rattle.lookup.proofs.applications.application_row.Statement.{statement}
 use Rattle.lookup.proofs.applications.application_row.Tie as tie
 
-abbrev invariant-loop : tie.invariant-loop
-invariant-loop base d t a n i₀ i = (i ≤ n) × ((k : ℕ) → k < i → is_application d t a (application_shown base k) ≡ false)
+abbrev invariant-loop-i : tie.invariant-loop-i
+invariant-loop-i base d t a n i₀ i = (i ≤ n) × ((k : ℕ) → k < i → is_application d t a (application_shown base k) ≡ false)
 
-abbrev decreases-loop : tie.decreases-loop
-decreases-loop base d t a n i₀ i = n - i
+abbrev decreases-loop-i : tie.decreases-loop-i
+decreases-loop-i base d t a n i₀ i = n - i
 
-application-count-requires : tie.Need-application-count-requires invariant-loop decreases-loop
-application-count-requires c κs = search rules
+application_count-n-requires : tie.Need-application_count-n-requires invariant-loop-i decreases-loop-i
+application_count-n-requires c κs = search rules
 
-loop-holds : tie.Need-loop-init invariant-loop decreases-loop
-loop-holds c = (omega arith, below_none _)
+loop-i-init : tie.Need-loop-i-init invariant-loop-i decreases-loop-i
+loop-i-init c = (omega arith, below_none _)
 
-is-application-requires : tie.Need-is-application-requires invariant-loop decreases-loop
-is-application-requires c κs = (c.before.before.before.before.requires, omega (arith, c.before.before.application_count.ensures.fits, c.loop-test.true))
+is_application-requires : tie.Need-is_application-requires invariant-loop-i decreases-loop-i
+is_application-requires c κs = (c.requires, omega (arith, c.application_count-n.ensures.fits, c.loop-i-test.true))
 
-returns : tie.Need-returns invariant-loop decreases-loop
+returns-then-is_application : tie.Need-returns-then-is_application invariant-loop-i decreases-loop-i
+returns-then-is_application c =
+    record {
+      fits = omega (arith, c.loop-i.invariant.0, c.application_count-n.ensures.is);
+      others = c.loop-i.invariant.1;
+      found = λ h. sym c.is_application.ensures ∙ c.if-is_application.true;
+    }
+
+overflow_add-i : tie.Need-overflow_add-i invariant-loop-i decreases-loop-i
+overflow_add-i c = search rules
+
+loop-i-smaller : tie.Need-loop-i-smaller invariant-loop-i decreases-loop-i
+loop-i-smaller c = search rules
+
+loop-i-preserved : tie.Need-loop-i-preserved invariant-loop-i decreases-loop-i
+loop-i-preserved c = (omega arith, below_more _ _ c.loop-i.invariant.1 (sym c.is_application.ensures ∙ c.if-is_application.false))
+
+returns : tie.Need-returns invariant-loop-i decreases-loop-i
 returns c =
     record {
-      fits = omega (arith, c.before.before.before.loop.invariant.0, c.before.before.before.before.application_count.ensures.is);
-      others = c.before.before.before.loop.invariant.1;
-      found = λ h. sym c.before.is_application.ensures ∙ c.if1.true;
+      fits = omega (arith, c.loop-i.invariant.0, c.application_count-n.ensures.is);
+      others = c.loop-i.invariant.1;
+      found = λ h. absurd (omega (arith, c.loop-i-test.false, c.application_count-n.ensures.is));
     }
 
-add-i : tie.Need-overflow-add-i invariant-loop decreases-loop
-add-i c = search rules
-
-loop-less : tie.Need-loop-smaller invariant-loop decreases-loop
-loop-less c = search rules
-
-loop-again : tie.Need-loop-preserved invariant-loop decreases-loop
-loop-again c = (omega arith, below_more _ _ c.before.before.before.loop.invariant.1 (sym c.before.is_application.ensures ∙ c.if1.false))
-
-returns-2 : tie.Need-returns-2 invariant-loop decreases-loop
-returns-2 c =
-    record {
-      fits = omega (arith, c.before.loop.invariant.0, c.before.before.application_count.ensures.is);
-      others = c.before.loop.invariant.1;
-      found = λ h. absurd (omega (arith, c.loop-test.false, c.before.before.application_count.ensures.is));
-    }
-
-pub application-row-spec : {M : Type 1} → statement M
-application-row-spec =
+pub application_row_spec : {M : Type 1} → statement M
+application_row_spec =
     tie.close
     (tie.spec
-    invariant-loop
-    decreases-loop
-    application-count-requires
-    loop-holds
-    is-application-requires
-    returns
-    add-i
-    loop-less
-    loop-again
-    returns-2)
+    invariant-loop-i
+    decreases-loop-i
+    application_count-n-requires
+    loop-i-init
+    is_application-requires
+    returns-then-is_application
+    overflow_add-i
+    loop-i-smaller
+    loop-i-preserved
+    returns)

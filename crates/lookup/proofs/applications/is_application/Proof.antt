@@ -5,35 +5,35 @@ use Rattle.rules.proofs.Bools.{differs, agrees, last_one}
 use Rattle.lookup.proofs.applications.is_application.Statement.{statement}
 use Rattle.lookup.proofs.applications.is_application.Tie as tie
 
-application-sds-requires : tie.Need-application-sds-requires
-application-sds-requires c κs = search rules
+application_sds-requires : tie.Need-application_sds-requires
+application_sds-requires c κs = search rules
+
+returns-then-application_sds-d : tie.Need-returns-then-application_sds-d
+returns-then-application_sds-d c = differs _ _ c.application_sds.ensures.is c.if-application_sds-d.true
+
+application_to-requires : tie.Need-application_to-requires
+application_to-requires c κs = search rules
+
+returns-then-application_to-t : tie.Need-returns-then-application_to-t
+returns-then-application_to-t c =
+    agrees _ c.application_sds.ensures.is c.if-application_sds-d.false
+    (differs _ _ c.application_to.ensures.is c.if-application_to-t.true)
+
+application_attribute-requires : tie.Need-application_attribute-requires
+application_attribute-requires c κs = search rules
 
 returns : tie.Need-returns
-returns c = differs _ _ c.before.application_sds.ensures.is c.if1.true
+returns c =
+    agrees _ c.application_sds.ensures.is c.if-application_sds-d.false
+    (agrees _ c.application_to.ensures.is c.if-application_to-t.false (last_one _ c.application_attribute.ensures.is))
 
-application-to-requires : tie.Need-application-to-requires
-application-to-requires c κs = search rules
-
-returns-2 : tie.Need-returns-2
-returns-2 c =
-    agrees _ c.before.before.before.application_sds.ensures.is c.before.before.if1.false
-    (differs _ _ c.before.application_to.ensures.is c.if2.true)
-
-application-attribute-requires : tie.Need-application-attribute-requires
-application-attribute-requires c κs = search rules
-
-returns-3 : tie.Need-returns-3
-returns-3 c =
-    agrees _ c.before.before.before.before.application_sds.ensures.is c.before.before.before.if1.false
-    (agrees _ c.before.before.application_to.ensures.is c.before.if2.false (last_one _ c.application_attribute.ensures.is))
-
-pub is-application-spec : {M : Type 1} → statement M
-is-application-spec =
+pub is_application_spec : {M : Type 1} → statement M
+is_application_spec =
     tie.close
     (tie.spec
-    application-sds-requires
-    returns
-    application-to-requires
-    returns-2
-    application-attribute-requires
-    returns-3)
+    application_sds-requires
+    returns-then-application_sds-d
+    application_to-requires
+    returns-then-application_to-t
+    application_attribute-requires
+    returns)

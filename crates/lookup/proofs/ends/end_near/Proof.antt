@@ -4,54 +4,54 @@ use Rattle.lookup.proofs.EndLaws.{end_found_at, end_found_none}
 use Rattle.lookup.proofs.ends.end_near.Statement.{statement}
 use Rattle.lookup.proofs.ends.end_near.Tie as tie
 
-is-end-requires : tie.Need-is-end-requires
-is-end-requires c κs = search rules
+is_end-requires : tie.Need-is_end-requires
+is_end-requires c κs = search rules
+
+returns-then-is_end : tie.Need-returns-then-is_end
+returns-then-is_end c = end_found_at (c.is_end.ensures.holds c.if-is_end.true)
+
+overflow_cast-key : tie.Need-overflow_cast-key
+overflow_cast-key c = search rules
+
+overflow_cast-key-2 : tie.Need-overflow_cast-key-2
+overflow_cast-key-2 c = search rules
+
+overflow_cast-key-3 : tie.Need-overflow_cast-key-3
+overflow_cast-key-3 c = search rules
+
+overflow_cast-key-4 : tie.Need-overflow_cast-key-4
+overflow_cast-key-4 c = search rules
+
+slice_bounds-place-end : tie.Need-slice_bounds-place-end
+slice_bounds-place-end c = search rules
+
+place-at-requires : tie.Need-place-at-requires
+place-at-requires c κs = search rules
+
+is_end-requires-2 : tie.Need-is_end-requires-2
+is_end-requires-2 c κs = search rules
+
+returns-then-is_end-2 : tie.Need-returns-then-is_end-2
+returns-then-is_end-2 c = end_found_at (c.is_end-2.ensures.holds c.if-is_end-2.true)
 
 returns : tie.Need-returns
-returns c = end_found_at (c.before.is_end.ensures.holds c.if1.true)
-
-cast-t12 : tie.Need-overflow-cast-t12
-cast-t12 c = search rules
-
-cast-t14 : tie.Need-overflow-cast-t14
-cast-t14 c = search rules
-
-cast-t16 : tie.Need-overflow-cast-t16
-cast-t16 c = search rules
-
-cast-t18 : tie.Need-overflow-cast-t18
-cast-t18 c = search rules
-
-slice-aggregate-place : tie.Need-slice-aggregate-place
-slice-aggregate-place c = search rules
-
-place-requires : tie.Need-place-requires
-place-requires c κs = search rules
-
-is-end-requires-2 : tie.Need-is-end-requires-2
-is-end-requires-2 c κs = search rules
-
-returns-2 : tie.Need-returns-2
-returns-2 c = end_found_at (c.before.is-end2.ensures.holds c.if2.true)
-
-returns-3 : tie.Need-returns-3
-returns-3 c =
+returns c =
     let x = c.before.before.before.before.before.before.before in
-    end_found_none x.requires.0.0 x.requires.0.1 x.requires.1.1 x.requires.1.0 c.before.before.place.ensures
-    (c.before.is-end2.ensures.fails c.if2.false)
+    end_found_none x.requires.0.0 x.requires.0.1 x.requires.1.1 x.requires.1.0 c.place-at.ensures
+    (c.is_end-2.ensures.fails c.if-is_end-2.false)
 
-pub end-near-spec : {M : Type 1} → statement M
-end-near-spec =
+pub end_near_spec : {M : Type 1} → statement M
+end_near_spec =
     tie.close
     (tie.spec
-    is-end-requires
-    returns
-    cast-t12
-    cast-t14
-    cast-t16
-    cast-t18
-    slice-aggregate-place
-    place-requires
-    is-end-requires-2
-    returns-2
-    returns-3)
+    is_end-requires
+    returns-then-is_end
+    overflow_cast-key
+    overflow_cast-key-2
+    overflow_cast-key-3
+    overflow_cast-key-4
+    slice_bounds-place-end
+    place-at-requires
+    is_end-requires-2
+    returns-then-is_end-2
+    returns)

@@ -9,30 +9,30 @@ use Rattle.lookup.proofs.NamedLaws.{row_elsewhere, row_there}
 use Rattle.lookup.proofs.named.is_named.Statement.{statement}
 use Rattle.lookup.proofs.named.is_named.Tie as tie
 
-presence-sds-requires : tie.Need-presence-sds-requires
-presence-sds-requires c κs = search rules
+presence_sds-requires : tie.Need-presence_sds-requires
+presence_sds-requires c κs = search rules
+
+returns-then-presence_sds-d : tie.Need-returns-then-presence_sds-d
+returns-then-presence_sds-d c =
+    let x = c.before.before.before.before in
+    row_elsewhere (presence_shown x.args.base.now x.args.i) x.args.d x.args.name.now
+    (λ e. c.if-presence_sds-d.true (c.presence_sds.ensures.is ∙ e))
+
+local_name-requires : tie.Need-local_name-requires
+local_name-requires c κs = search rules
+
+is_same-requires : tie.Need-is_same-requires
+is_same-requires c κs = search rules
 
 returns : tie.Need-returns
 returns c =
-    let x = c.before.before.before.before in
-    row_elsewhere (presence_shown x.args.base.now x.args.i) x.args.d x.args.name.now
-    (λ e. c.if1.true (c.before.presence_sds.ensures.is ∙ e))
-
-local-name-requires : tie.Need-local-name-requires
-local-name-requires c κs = search rules
-
-is-same-requires : tie.Need-is-same-requires
-is-same-requires c κs = search rules
-
-returns-2 : tie.Need-returns-2
-returns-2 c =
     let x = c.before.before.before.before.before.before in
     let n = x.args.name.now in
-    c.is_same.ensures ∙ ap (λ (m : List ℕ). same_name m n) c.before.local_name.ensures
+    c.is_same.ensures ∙ ap (λ (m : List ℕ). same_name m n) c.local_name.ensures
     ∙ row_there (presence_shown x.args.base.now x.args.i) x.args.d n
-    (sym c.before.before.before.presence_sds.ensures.is ∙ c.before.before.if1.false)
+    (sym c.presence_sds.ensures.is ∙ c.if-presence_sds-d.false)
 
-pub is-named-spec : {M : Type 1} → statement M
-is-named-spec =
+pub is_named_spec : {M : Type 1} → statement M
+is_named_spec =
     tie.close
-    (tie.spec presence-sds-requires returns local-name-requires is-same-requires returns-2)
+    (tie.spec presence_sds-requires returns-then-presence_sds-d local_name-requires is_same-requires returns)

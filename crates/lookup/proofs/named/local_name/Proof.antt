@@ -8,35 +8,35 @@ use Rattle.rules.specs.Read.{strip}
 use Rattle.lookup.proofs.named.local_name.Statement.{statement}
 use Rattle.lookup.proofs.named.local_name.Tie as tie
 
-presence-field-requires : tie.Need-presence-field-requires
-presence-field-requires c κs = search rules
+presence_field-field-requires : tie.Need-presence_field-field-requires
+presence_field-field-requires c κs = search rules
 
-name-length-requires : tie.Need-name-length-requires
-name-length-requires c κs = search rules
+name_length-n-requires : tie.Need-name_length-n-requires
+name_length-n-requires c κs = search rules
 
-sub-result : tie.Need-overflow-sub-result
-sub-result c = search rules
+slice_bounds-result-count : tie.Need-slice_bounds-result-count
+slice_bounds-result-count c = search rules
 
-part-result-start : tie.Need-slice-bounds-result-start
-part-result-start c = search rules
+slice_bounds-result-start : tie.Need-slice_bounds-result-start
+slice_bounds-result-start c = search rules
 
-part-result-end : tie.Need-slice-bounds-result-end
-part-result-end c = search rules
+slice_bounds-result-end : tie.Need-slice_bounds-result-end
+slice_bounds-result-end c = search rules
 
 returns : tie.Need-returns
 returns c =
-    let f = c.before.before.presence-field.result.now in
-    let n = c.before.name-length in
+    let f = c.presence_field-field.result.now in
+    let n = c.name_length-n in
     let whole : n.result - 0 ≡ n.result = omega arith in
-    ap (λ (k : ℕ). take k f) whole ∙ n.ensures.name ∙ ap strip c.before.before.presence-field.ensures
+    ap (λ (k : ℕ). take k f) whole ∙ n.ensures.name ∙ ap strip c.presence_field-field.ensures
 
-pub local-name-spec : {M : Type 1} → statement M
-local-name-spec =
+pub local_name_spec : {M : Type 1} → statement M
+local_name_spec =
     tie.close
     (tie.spec
-    presence-field-requires
-    name-length-requires
-    sub-result
-    part-result-start
-    part-result-end
+    presence_field-field-requires
+    name_length-n-requires
+    slice_bounds-result-count
+    slice_bounds-result-start
+    slice_bounds-result-end
     returns)

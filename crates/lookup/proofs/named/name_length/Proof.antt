@@ -6,14 +6,14 @@ use Rattle.rules.specs.Read.{strip}
 use Rattle.lookup.proofs.named.name_length.Statement.{statement}
 use Rattle.lookup.proofs.named.name_length.Tie as tie
 
-presence-field-requires : tie.Need-presence-field-requires
-presence-field-requires c κs = search rules
+presence_field-requires : tie.Need-presence_field-requires
+presence_field-requires c κs = search rules
 
-name-length-requires : tie.Need-name-length-requires
-name-length-requires c κs = search rules
+name_length-requires : tie.Need-name_length-requires
+name_length-requires c κs = search rules
 
 returns : tie.Need-returns
-returns c = c.name-length.ensures.long ∙ ap (λ f. length (strip f)) c.before.presence-field.ensures
+returns c = c.name_length.ensures.long ∙ ap (λ f. length (strip f)) c.presence_field.ensures
 
-pub name-length-spec : {M : Type 1} → statement M
-name-length-spec = tie.close (tie.spec presence-field-requires name-length-requires returns)
+pub name_length_spec : {M : Type 1} → statement M
+name_length_spec = tie.close (tie.spec presence_field-requires name_length-requires returns)

@@ -10,57 +10,57 @@ use Rattle.base.specs.Back.{presence_shown}
 use Rattle.lookup.proofs.named.row_named.Statement.{statement}
 use Rattle.lookup.proofs.named.row_named.Tie as tie
 
-abbrev invariant-loop : tie.invariant-loop
-invariant-loop base d name rows row₀ row = (row ≤ rows) × ((k : ℕ) → k < row → holds_name d name (presence_shown base k) ≡ false)
+abbrev invariant-loop-row : tie.invariant-loop-row
+invariant-loop-row base d name rows row₀ row = (row ≤ rows) × ((k : ℕ) → k < row → holds_name d name (presence_shown base k) ≡ false)
 
-abbrev decreases-loop : tie.decreases-loop
-decreases-loop base d name rows row₀ row = rows - row
+abbrev decreases-loop-row : tie.decreases-loop-row
+decreases-loop-row base d name rows row₀ row = rows - row
 
-presence-count-requires : tie.Need-presence-count-requires invariant-loop decreases-loop
-presence-count-requires c κs = search rules
+presence_count-rows-requires : tie.Need-presence_count-rows-requires invariant-loop-row decreases-loop-row
+presence_count-rows-requires c κs = search rules
 
-loop-holds : tie.Need-loop-init invariant-loop decreases-loop
-loop-holds c = (omega arith, below_none _)
+loop-row-init : tie.Need-loop-row-init invariant-loop-row decreases-loop-row
+loop-row-init c = (omega arith, below_none _)
 
-is-named-requires : tie.Need-is-named-requires invariant-loop decreases-loop
-is-named-requires c κs = (c.before.before.before.before.before.requires, omega (arith, c.before.before.presence_count.ensures.fits, c.loop-test.true))
+is_named-requires : tie.Need-is_named-requires invariant-loop-row decreases-loop-row
+is_named-requires c κs = (c.requires, omega (arith, c.presence_count-rows.ensures.fits, c.loop-row-test.true))
 
-returns : tie.Need-returns invariant-loop decreases-loop
+returns-then-is_named : tie.Need-returns-then-is_named invariant-loop-row decreases-loop-row
+returns-then-is_named c =
+    record {
+      fits = omega (arith, c.loop-row.invariant.0, c.presence_count-rows.ensures.is);
+      others = c.loop-row.invariant.1;
+      found = λ h. sym c.is_named.ensures ∙ c.if-is_named.true;
+    }
+
+overflow_add-row : tie.Need-overflow_add-row invariant-loop-row decreases-loop-row
+overflow_add-row c = search rules
+
+loop-row-smaller : tie.Need-loop-row-smaller invariant-loop-row decreases-loop-row
+loop-row-smaller c = search rules
+
+loop-row-preserved : tie.Need-loop-row-preserved invariant-loop-row decreases-loop-row
+loop-row-preserved c = (omega arith, below_more _ _ c.loop-row.invariant.1 (sym c.is_named.ensures ∙ c.if-is_named.false))
+
+returns : tie.Need-returns invariant-loop-row decreases-loop-row
 returns c =
     record {
-      fits = omega (arith, c.before.before.before.loop.invariant.0, c.before.before.before.before.presence_count.ensures.is);
-      others = c.before.before.before.loop.invariant.1;
-      found = λ h. sym c.before.is-named.ensures ∙ c.if1.true;
+      fits = omega (arith, c.loop-row.invariant.0, c.presence_count-rows.ensures.is);
+      others = c.loop-row.invariant.1;
+      found = λ h. absurd (omega (arith, c.loop-row-test.false, c.presence_count-rows.ensures.is));
     }
 
-add_row : tie.Need-overflow-add-row invariant-loop decreases-loop
-add_row c = search rules
-
-loop-less : tie.Need-loop-smaller invariant-loop decreases-loop
-loop-less c = search rules
-
-loop-again : tie.Need-loop-preserved invariant-loop decreases-loop
-loop-again c = (omega arith, below_more _ _ c.before.before.before.loop.invariant.1 (sym c.before.is-named.ensures ∙ c.if1.false))
-
-returns-2 : tie.Need-returns-2 invariant-loop decreases-loop
-returns-2 c =
-    record {
-      fits = omega (arith, c.before.loop.invariant.0, c.before.before.presence_count.ensures.is);
-      others = c.before.loop.invariant.1;
-      found = λ h. absurd (omega (arith, c.loop-test.false, c.before.before.presence_count.ensures.is));
-    }
-
-pub row-named-spec : {M : Type 1} → statement M
-row-named-spec =
+pub row_named_spec : {M : Type 1} → statement M
+row_named_spec =
     tie.close
     (tie.spec
-    invariant-loop
-    decreases-loop
-    presence-count-requires
-    loop-holds
-    is-named-requires
-    returns
-    add_row
-    loop-less
-    loop-again
-    returns-2)
+    invariant-loop-row
+    decreases-loop-row
+    presence_count-rows-requires
+    loop-row-init
+    is_named-requires
+    returns-then-is_named
+    overflow_add-row
+    loop-row-smaller
+    loop-row-preserved
+    returns)

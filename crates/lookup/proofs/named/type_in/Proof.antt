@@ -7,26 +7,26 @@ use Rattle.lookup.proofs.NamedLaws.{named_here, named_not_here}
 use Rattle.lookup.proofs.named.type_in.Statement.{statement}
 use Rattle.lookup.proofs.named.type_in.Tie as tie
 
-presence-count-requires : tie.Need-presence-count-requires
-presence-count-requires c κs = sound_long c.before.before.requires
+presence_count-rows-requires : tie.Need-presence_count-rows-requires
+presence_count-rows-requires c κs = sound_long c.requires
 
-row-named-requires : tie.Need-row-named-requires
-row-named-requires c κs = sound_long c.before.before.before.requires
+row_named-row-requires : tie.Need-row_named-row-requires
+row_named-row-requires c κs = sound_long c.requires
+
+returns-then-rows-row : tie.Need-returns-then-rows-row
+returns-then-rows-row c = named_not_here c.row_named-row.ensures (omega (arith, c.if-rows-row.true, c.presence_count-rows.ensures.is))
+
+presence_type-requires : tie.Need-presence_type-requires
+presence_type-requires c κs =
+    (sound_long c.requires, omega (arith, c.if-rows-row.false, c.presence_count-rows.ensures.fits))
 
 returns : tie.Need-returns
-returns c = named_not_here c.before.row_named.ensures (omega (arith, c.if1.true, c.before.before.presence_count.ensures.is))
-
-presence-type-requires : tie.Need-presence-type-requires
-presence-type-requires c κs =
-    (sound_long c.before.before.before.before.before.requires, omega (arith, c.if1.false, c.before.before.presence_count.ensures.fits))
-
-returns-2 : tie.Need-returns-2
-returns-2 c =
-    named_here c.before.before.row_named.ensures (sound_good c.before.before.before.before.before.before.requires)
-    (omega (arith, c.before.if1.false, c.before.before.before.presence_count.ensures.is)) _
+returns c =
+    named_here c.row_named-row.ensures (sound_good c.requires)
+    (omega (arith, c.if-rows-row.false, c.presence_count-rows.ensures.is)) _
     c.presence_type.ensures.is
 
-pub type-in-spec : {M : Type 1} → statement M
-type-in-spec =
+pub type_in_spec : {M : Type 1} → statement M
+type_in_spec =
     tie.close
-    (tie.spec presence-count-requires row-named-requires returns presence-type-requires returns-2)
+    (tie.spec presence_count-rows-requires row_named-row-requires returns-then-rows-row presence_type-requires returns)

@@ -4,11 +4,11 @@ use Rattle.lookup.proofs.RowBytes.{presences_counted}
 use Rattle.lookup.proofs.presences.count.Statement.{statement}
 use Rattle.lookup.proofs.presences.count.Tie as tie
 
-presences-halved-requires : tie.Need-presences-halved-requires
-presences-halved-requires c κs = sound_long c.before.requires
+presences_halved-requires : tie.Need-presences_halved-requires
+presences_halved-requires c κs = sound_long c.requires
 
 returns : tie.Need-returns
-returns c = presences_counted c.before.before.requires c.presences-halved.ensures
+returns c = presences_counted c.requires c.presences_halved.ensures
 
 pub count_spec : {M : Type 1} → statement M
-count_spec = tie.close (tie.spec presences-halved-requires returns)
+count_spec = tie.close (tie.spec presences_halved-requires returns)

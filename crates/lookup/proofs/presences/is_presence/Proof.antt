@@ -6,23 +6,23 @@ use Rattle.rows.proofs.Decides.{decides_no}
 use Rattle.lookup.proofs.presences.is_presence.Statement.{statement}
 use Rattle.lookup.proofs.presences.is_presence.Tie as tie
 
-presence-sds-requires : tie.Need-presence-sds-requires
-presence-sds-requires c κs = search rules
+presence_sds-requires : tie.Need-presence_sds-requires
+presence_sds-requires c κs = search rules
+
+returns-then-presence_sds-d : tie.Need-returns-then-presence_sds-d
+returns-then-presence_sds-d c = decides_no (λ w. c.if-presence_sds-d.true (c.presence_sds.ensures.is ∙ w.0))
+
+presence_type-requires : tie.Need-presence_type-requires
+presence_type-requires c κs = search rules
 
 returns : tie.Need-returns
-returns c = decides_no (λ w. c.if1.true (c.before.presence_sds.ensures.is ∙ w.0))
-
-presence-type-requires : tie.Need-presence-type-requires
-presence-type-requires c κs = search rules
-
-returns-2 : tie.Need-returns-2
-returns-2 c =
+returns c =
     let x = c.before.before.before.before in
     record {
-      holds = λ e. (sym c.before.before.presence_sds.ensures.is ∙ c.before.if1.false, sym c.presence_type.ensures.is ∙ eqb-true _ x.args.t e);
+      holds = λ e. (sym c.presence_sds.ensures.is ∙ c.if-presence_sds-d.false, sym c.presence_type.ensures.is ∙ eqb-true _ x.args.t e);
       fails = λ e w. eqb-false _ x.args.t e (c.presence_type.ensures.is ∙ w.1);
     }
 
-pub is-presence-spec : {M : Type 1} → statement M
-is-presence-spec =
-    tie.close (tie.spec presence-sds-requires returns presence-type-requires returns-2)
+pub is_presence_spec : {M : Type 1} → statement M
+is_presence_spec =
+    tie.close (tie.spec presence_sds-requires returns-then-presence_sds-d presence_type-requires returns)

@@ -7,57 +7,57 @@ use Rattle.lookup.specs.Found.{RowOf}
 use Rattle.lookup.proofs.presences.presence_row.Statement.{statement}
 use Rattle.lookup.proofs.presences.presence_row.Tie as tie
 
-abbrev invariant-loop : tie.invariant-loop
-invariant-loop base d t n i₀ i = (i ≤ n) × ((k : ℕ) → k < i → RowOf base k d t → ⊥)
+abbrev invariant-loop-i : tie.invariant-loop-i
+invariant-loop-i base d t n i₀ i = (i ≤ n) × ((k : ℕ) → k < i → RowOf base k d t → ⊥)
 
-abbrev decreases-loop : tie.decreases-loop
-decreases-loop base d t n i₀ i = n - i
+abbrev decreases-loop-i : tie.decreases-loop-i
+decreases-loop-i base d t n i₀ i = n - i
 
-presence-count-requires : tie.Need-presence-count-requires invariant-loop decreases-loop
-presence-count-requires c κs = search rules
+presence_count-n-requires : tie.Need-presence_count-n-requires invariant-loop-i decreases-loop-i
+presence_count-n-requires c κs = search rules
 
-loop-holds : tie.Need-loop-init invariant-loop decreases-loop
-loop-holds c = (omega arith, below_none _)
+loop-i-init : tie.Need-loop-i-init invariant-loop-i decreases-loop-i
+loop-i-init c = (omega arith, below_none _)
 
-is-presence-requires : tie.Need-is-presence-requires invariant-loop decreases-loop
-is-presence-requires c κs = (c.before.before.before.before.requires, omega (arith, c.before.before.presence_count.ensures.fits, c.loop-test.true))
+is_presence-requires : tie.Need-is_presence-requires invariant-loop-i decreases-loop-i
+is_presence-requires c κs = (c.requires, omega (arith, c.presence_count-n.ensures.fits, c.loop-i-test.true))
 
-returns : tie.Need-returns invariant-loop decreases-loop
+returns-then-is_presence : tie.Need-returns-then-is_presence invariant-loop-i decreases-loop-i
+returns-then-is_presence c =
+    record {
+      fits = omega (arith, c.loop-i.invariant.0, c.presence_count-n.ensures.is);
+      others = c.loop-i.invariant.1;
+      found = λ h. c.is_presence.ensures.holds c.if-is_presence.true;
+    }
+
+overflow_add-i : tie.Need-overflow_add-i invariant-loop-i decreases-loop-i
+overflow_add-i c = search rules
+
+loop-i-smaller : tie.Need-loop-i-smaller invariant-loop-i decreases-loop-i
+loop-i-smaller c = search rules
+
+loop-i-preserved : tie.Need-loop-i-preserved invariant-loop-i decreases-loop-i
+loop-i-preserved c = (omega arith, below_more _ _ c.loop-i.invariant.1 (c.is_presence.ensures.fails c.if-is_presence.false))
+
+returns : tie.Need-returns invariant-loop-i decreases-loop-i
 returns c =
     record {
-      fits = omega (arith, c.before.before.before.loop.invariant.0, c.before.before.before.before.presence_count.ensures.is);
-      others = c.before.before.before.loop.invariant.1;
-      found = λ h. c.before.is-presence.ensures.holds c.if1.true;
+      fits = omega (arith, c.loop-i.invariant.0, c.presence_count-n.ensures.is);
+      others = c.loop-i.invariant.1;
+      found = λ h. absurd (omega (arith, c.loop-i-test.false, c.presence_count-n.ensures.is));
     }
 
-add-i : tie.Need-overflow-add-i invariant-loop decreases-loop
-add-i c = search rules
-
-loop-less : tie.Need-loop-smaller invariant-loop decreases-loop
-loop-less c = search rules
-
-loop-again : tie.Need-loop-preserved invariant-loop decreases-loop
-loop-again c = (omega arith, below_more _ _ c.before.before.before.loop.invariant.1 (c.before.is-presence.ensures.fails c.if1.false))
-
-returns-2 : tie.Need-returns-2 invariant-loop decreases-loop
-returns-2 c =
-    record {
-      fits = omega (arith, c.before.loop.invariant.0, c.before.before.presence_count.ensures.is);
-      others = c.before.loop.invariant.1;
-      found = λ h. absurd (omega (arith, c.loop-test.false, c.before.before.presence_count.ensures.is));
-    }
-
-pub presence-row-spec : {M : Type 1} → statement M
-presence-row-spec =
+pub presence_row_spec : {M : Type 1} → statement M
+presence_row_spec =
     tie.close
     (tie.spec
-    invariant-loop
-    decreases-loop
-    presence-count-requires
-    loop-holds
-    is-presence-requires
-    returns
-    add-i
-    loop-less
-    loop-again
-    returns-2)
+    invariant-loop-i
+    decreases-loop-i
+    presence_count-n-requires
+    loop-i-init
+    is_presence-requires
+    returns-then-is_presence
+    overflow_add-i
+    loop-i-smaller
+    loop-i-preserved
+    returns)

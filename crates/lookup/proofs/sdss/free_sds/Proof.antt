@@ -11,49 +11,49 @@ use Rattle.base.specs.Back.{schema_of}
 use Rattle.lookup.proofs.sdss.free_sds.Statement.{statement}
 use Rattle.lookup.proofs.sdss.free_sds.Tie as tie
 
-abbrev invariant-loop : tie.invariant-loop
-invariant-loop base d₀ d = (d ≤ 16) × ((k : ℕ) → k < d → used_sds (schema_of base) k ≡ true)
+abbrev invariant-loop-d : tie.invariant-loop-d
+invariant-loop-d base d₀ d = (d ≤ 16) × ((k : ℕ) → k < d → used_sds (schema_of base) k ≡ true)
 
-abbrev decreases-loop : tie.decreases-loop
-decreases-loop base d₀ d = 16 - d
+abbrev decreases-loop-d : tie.decreases-loop-d
+decreases-loop-d base d₀ d = 16 - d
 
-loop-holds : tie.Need-loop-init invariant-loop decreases-loop
-loop-holds c = (omega arith, below_none _)
+loop-d-init : tie.Need-loop-d-init invariant-loop-d decreases-loop-d
+loop-d-init c = (omega arith, below_none _)
 
-is-sds-requires : tie.Need-is-sds-requires invariant-loop decreases-loop
-is-sds-requires c κs = search rules
+is_sds-requires : tie.Need-is_sds-requires invariant-loop-d decreases-loop-d
+is_sds-requires c κs = search rules
 
-returns : tie.Need-returns invariant-loop decreases-loop
+returns-then-not-is_sds : tie.Need-returns-then-not-is_sds invariant-loop-d decreases-loop-d
+returns-then-not-is_sds c =
+    let at = c.before.before.before in
+    record { fits = at.loop-d.invariant.0; used = at.loop-d.invariant.1; free = λ h. sym c.is_sds.ensures ∙ not-true _ c.if-not-is_sds.true-raw }
+
+overflow_add-d : tie.Need-overflow_add-d invariant-loop-d decreases-loop-d
+overflow_add-d c = search rules
+
+loop-d-smaller : tie.Need-loop-d-smaller invariant-loop-d decreases-loop-d
+loop-d-smaller c = search rules
+
+loop-d-preserved : tie.Need-loop-d-preserved invariant-loop-d decreases-loop-d
+loop-d-preserved c =
+    let at = c.before.before.before in
+    (omega arith, below_more _ _ at.loop-d.invariant.1 (sym c.is_sds.ensures ∙ not-false _ c.if-not-is_sds.false-raw))
+
+returns : tie.Need-returns invariant-loop-d decreases-loop-d
 returns c =
-    let at = c.before.before.before in
-    record { fits = at.loop.invariant.0; used = at.loop.invariant.1; free = λ h. sym c.before.is-sds.ensures ∙ not-true _ c.if1.true }
-
-add-d : tie.Need-overflow-add-d invariant-loop decreases-loop
-add-d c = search rules
-
-loop-less : tie.Need-loop-smaller invariant-loop decreases-loop
-loop-less c = search rules
-
-loop-again : tie.Need-loop-preserved invariant-loop decreases-loop
-loop-again c =
-    let at = c.before.before.before in
-    (omega arith, below_more _ _ at.loop.invariant.1 (sym c.before.is-sds.ensures ∙ not-false _ c.if1.false))
-
-returns-2 : tie.Need-returns-2 invariant-loop decreases-loop
-returns-2 c =
     let at = c.before in
-    record { fits = at.loop.invariant.0; used = at.loop.invariant.1; free = λ h. absurd (omega arith) }
+    record { fits = at.loop-d.invariant.0; used = at.loop-d.invariant.1; free = λ h. absurd (omega arith) }
 
-pub free-sds-spec : {M : Type 1} → statement M
-free-sds-spec =
+pub free_sds_spec : {M : Type 1} → statement M
+free_sds_spec =
     tie.close
     (tie.spec
-    invariant-loop
-    decreases-loop
-    loop-holds
-    is-sds-requires
-    returns
-    add-d
-    loop-less
-    loop-again
-    returns-2)
+    invariant-loop-d
+    decreases-loop-d
+    loop-d-init
+    is_sds-requires
+    returns-then-not-is_sds
+    overflow_add-d
+    loop-d-smaller
+    loop-d-preserved
+    returns)

@@ -13,58 +13,58 @@ use Rattle.lookup.proofs.SdsShown.{taken_at, taken_nowhere}
 use Rattle.lookup.proofs.sdss.has_sds_named.Statement.{statement}
 use Rattle.lookup.proofs.sdss.has_sds_named.Tie as tie
 
-abbrev invariant-loop : tie.invariant-loop
-invariant-loop base name d₀ d = (d ≤ 16) × ((k : ℕ) → k < d → same_name (sds_name (schema_of base) k) name ≡ false)
+abbrev invariant-loop-d : tie.invariant-loop-d
+invariant-loop-d base name d₀ d = (d ≤ 16) × ((k : ℕ) → k < d → same_name (sds_name (schema_of base) k) name ≡ false)
 
-abbrev decreases-loop : tie.decreases-loop
-decreases-loop base name d₀ d = 16 - d
+abbrev decreases-loop-d : tie.decreases-loop-d
+decreases-loop-d base name d₀ d = 16 - d
 
-loop-holds : tie.Need-loop-init invariant-loop decreases-loop
-loop-holds c = (omega arith, below_none _)
+loop-d-init : tie.Need-loop-d-init invariant-loop-d decreases-loop-d
+loop-d-init c = (omega arith, below_none _)
 
-sds-name-requires : tie.Need-sds-name-requires invariant-loop decreases-loop
-sds-name-requires c κs = search rules
+sds_name-requires : tie.Need-sds_name-requires invariant-loop-d decreases-loop-d
+sds_name-requires c κs = search rules
 
-is-same-requires : tie.Need-is-same-requires invariant-loop decreases-loop
-is-same-requires c κs = search rules
+is_same-requires : tie.Need-is_same-requires invariant-loop-d decreases-loop-d
+is_same-requires c κs = search rules
 
-returns : tie.Need-returns invariant-loop decreases-loop
-returns c =
+returns-then-is_same : tie.Need-returns-then-is_same invariant-loop-d decreases-loop-d
+returns-then-is_same c =
     let x = c.before.before.before.before.before.before.before in
-    taken_at x.args.base.now c.before.before.before.before.loop.d x.args.name.now _ c.before.before.before.loop-test.true
-    c.before.before.sds_name.ensures x.requires.1 (sym c.before.is_same.ensures ∙ c.if1.true)
+    taken_at x.args.base.now c.loop-d.d x.args.name.now _ c.loop-d-test.true
+    c.sds_name.ensures x.requires.1 (sym c.is_same.ensures ∙ c.if-is_same.true)
 
-add-d : tie.Need-overflow-add-d invariant-loop decreases-loop
-add-d c = search rules
+overflow_add-d : tie.Need-overflow_add-d invariant-loop-d decreases-loop-d
+overflow_add-d c = search rules
 
-loop-less : tie.Need-loop-smaller invariant-loop decreases-loop
-loop-less c = search rules
+loop-d-smaller : tie.Need-loop-d-smaller invariant-loop-d decreases-loop-d
+loop-d-smaller c = search rules
 
-loop-again : tie.Need-loop-preserved invariant-loop decreases-loop
-loop-again c =
+loop-d-preserved : tie.Need-loop-d-preserved invariant-loop-d decreases-loop-d
+loop-d-preserved c =
     let x = c.before.before.before.before.before.before.before in
     let n = x.args.name.now in (
       omega arith,
-      below_more _ _ c.before.before.before.before.loop.invariant.1 (ap (λ (m : List ℕ). same_name m n) (sym
-          c.before.before.sds_name.ensures) ∙ sym c.before.is_same.ensures ∙ c.if1.false),
+      below_more _ _ c.loop-d.invariant.1 (ap (λ (m : List ℕ). same_name m n) (sym
+          c.sds_name.ensures) ∙ sym c.is_same.ensures ∙ c.if-is_same.false),
     )
 
-returns-2 : tie.Need-returns-2 invariant-loop decreases-loop
-returns-2 c =
+returns : tie.Need-returns invariant-loop-d decreases-loop-d
+returns c =
     let x = c.before.before.before.before in
-    taken_nowhere x.args.base.now x.args.name.now (λ d h. c.before.loop.invariant.1 d (omega arith))
+    taken_nowhere x.args.base.now x.args.name.now (λ d h. c.loop-d.invariant.1 d (omega arith))
 
-pub has-sds-named-spec : {M : Type 1} → statement M
-has-sds-named-spec =
+pub has_sds_named_spec : {M : Type 1} → statement M
+has_sds_named_spec =
     tie.close
     (tie.spec
-    invariant-loop
-    decreases-loop
-    loop-holds
-    sds-name-requires
-    is-same-requires
-    returns
-    add-d
-    loop-less
-    loop-again
-    returns-2)
+    invariant-loop-d
+    decreases-loop-d
+    loop-d-init
+    sds_name-requires
+    is_same-requires
+    returns-then-is_same
+    overflow_add-d
+    loop-d-smaller
+    loop-d-preserved
+    returns)

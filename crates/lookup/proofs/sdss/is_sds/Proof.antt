@@ -10,29 +10,29 @@ use Rattle.lookup.proofs.SdsShown.{used_first, used_past}
 use Rattle.lookup.proofs.sdss.is_sds.Statement.{statement}
 use Rattle.lookup.proofs.sdss.is_sds.Tie as tie
 
-returns : tie.Need-returns
-returns c =
+returns-then-d-ge-SDSS : tie.Need-returns-then-d-ge-SDSS
+returns-then-d-ge-SDSS c =
     let x = c.before.before in
-    used_past x.args.base.now x.requires x.args.d c.if1.true
+    used_past x.args.base.now x.requires x.args.d c.if-d-ge-SDSS.true
 
-sds-field-requires : tie.Need-sds-field-requires
-sds-field-requires c κs = search rules
+sds_field-field-requires : tie.Need-sds_field-field-requires
+sds_field-field-requires c κs = search rules
 
-shared-slice-read-result : tie.Need-shared-slice-read-result
-shared-slice-read-result c =
+bounds-field-0 : tie.Need-bounds-field-0
+bounds-field-0 c =
     let x = c.before.before.before.before in
     omega (
       arith,
       x.requires,
-      ap length c.before.sds-field.ensures,
+      ap length c.sds_field-field.ensures,
       length_part x.args.base.now (sds_at x.args.d) limits.name (omega
-          (arith, x.requires, c.before.before.if1.false)),
+          (arith, x.requires, c.if-d-ge-SDSS.false)),
     )
 
-returns-2 : tie.Need-returns-2
-returns-2 c =
+returns : tie.Need-returns
+returns c =
     let x = c.before.before.before.before in
-    used_first x.args.base.now x.requires x.args.d c.before.before.if1.false c.before.sds-field.result.now c.before.sds-field.ensures
+    used_first x.args.base.now x.requires x.args.d c.if-d-ge-SDSS.false c.sds_field-field.result.now c.sds_field-field.ensures
 
-pub is-sds-spec : {M : Type 1} → statement M
-is-sds-spec = tie.close (tie.spec returns sds-field-requires shared-slice-read-result returns-2)
+pub is_sds_spec : {M : Type 1} → statement M
+is_sds_spec = tie.close (tie.spec returns-then-d-ge-SDSS sds_field-field-requires bounds-field-0 returns)

@@ -9,36 +9,36 @@ use Rattle.base.proofs.Shown.{sds_is}
 use Rattle.lookup.proofs.sdss.sds_name.Statement.{statement}
 use Rattle.lookup.proofs.sdss.sds_name.Tie as tie
 
-sds-field-requires : tie.Need-sds-field-requires
-sds-field-requires c κs = search rules
+sds_field-field-requires : tie.Need-sds_field-field-requires
+sds_field-field-requires c κs = search rules
 
-name-length-requires : tie.Need-name-length-requires
-name-length-requires c κs = search rules
+name_length-n-requires : tie.Need-name_length-n-requires
+name_length-n-requires c κs = search rules
 
-sub-result : tie.Need-overflow-sub-result
-sub-result c = search rules
+slice_bounds-result-count : tie.Need-slice_bounds-result-count
+slice_bounds-result-count c = search rules
 
-part-result-start : tie.Need-slice-bounds-result-start
-part-result-start c = search rules
+slice_bounds-result-start : tie.Need-slice_bounds-result-start
+slice_bounds-result-start c = search rules
 
-part-result-end : tie.Need-slice-bounds-result-end
-part-result-end c = search rules
+slice_bounds-result-end : tie.Need-slice_bounds-result-end
+slice_bounds-result-end c = search rules
 
 returns : tie.Need-returns
 returns c =
     let x = c.before.before.before.before in
-    let f = c.before.before.sds-field.result.now in
-    let whole : c.before.name-length.result - 0 ≡ c.before.name-length.result = omega arith in
-    ap (λ (k : ℕ). take k f) whole ∙ c.before.name-length.ensures.name ∙ ap strip c.before.before.sds-field.ensures ∙ sym (sds_is
+    let f = c.sds_field-field.result.now in
+    let whole : c.name_length-n.result - 0 ≡ c.name_length-n.result = omega arith in
+    ap (λ (k : ℕ). take k f) whole ∙ c.name_length-n.ensures.name ∙ ap strip c.sds_field-field.ensures ∙ sym (sds_is
     x.args.base.now x.args.d x.requires.1)
 
-pub sds-name-spec : {M : Type 1} → statement M
-sds-name-spec =
+pub sds_name_spec : {M : Type 1} → statement M
+sds_name_spec =
     tie.close
     (tie.spec
-    sds-field-requires
-    name-length-requires
-    sub-result
-    part-result-start
-    part-result-end
+    sds_field-field-requires
+    name_length-n-requires
+    slice_bounds-result-count
+    slice_bounds-result-start
+    slice_bounds-result-end
     returns)

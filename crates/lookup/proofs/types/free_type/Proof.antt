@@ -12,62 +12,62 @@ use Rattle.lookup.proofs.KindBytes.{used_byte}
 use Rattle.lookup.proofs.types.free_type.Statement.{statement}
 use Rattle.lookup.proofs.types.free_type.Tie as tie
 
-abbrev invariant-loop : tie.invariant-loop
-invariant-loop base from t₀ t = (from ≤ t) × ((k : ℕ) → k < t → from ≤ k → is_used (kind_of (schema_of base) k) ≡ true)
+abbrev invariant-loop-t : tie.invariant-loop-t
+invariant-loop-t base from t₀ t = (from ≤ t) × ((k : ℕ) → k < t → from ≤ k → is_used (kind_of (schema_of base) k) ≡ true)
 
-abbrev decreases-loop : tie.decreases-loop
-decreases-loop base from t₀ t = 128 - t
+abbrev decreases-loop-t : tie.decreases-loop-t
+decreases-loop-t base from t₀ t = 128 - t
 
-loop-holds : tie.Need-loop-init invariant-loop decreases-loop
-loop-holds c = (omega arith, λ k u l. absurd (omega arith))
+loop-t-init : tie.Need-loop-t-init invariant-loop-t decreases-loop-t
+loop-t-init c = (omega arith, λ k u l. absurd (omega arith))
 
-kind-requires : tie.Need-kind-requires invariant-loop decreases-loop
-kind-requires c κs = (sound_long c.before.before.before.requires, omega arith)
+kind-requires : tie.Need-kind-requires invariant-loop-t decreases-loop-t
+kind-requires c κs = (sound_long c.requires, omega arith)
 
-returns : tie.Need-returns invariant-loop decreases-loop
-returns c =
-    let l = c.before.before.before.loop in
-    let k = c.before.kind in
+returns-then-kind-eq-UNUSED : tie.Need-returns-then-kind-eq-UNUSED invariant-loop-t decreases-loop-t
+returns-then-kind-eq-UNUSED c =
+    let l = c.loop-t in
+    let k = c.kind in
     record {
       fits = omega arith;
       used = λ t h u. l.invariant.1 t u h;
       free = λ h. (
         l.invariant.0,
-        sym (used_byte c.before.before.before.before.before.requires l.t k.result h k.ensures.is) ∙ ap not
-            (eq-eqb k.result 0 c.if1.true),
+        sym (used_byte c.requires l.t k.result h k.ensures.is) ∙ ap not
+            (eq-eqb k.result 0 c.if-kind-eq-UNUSED.true),
       );
     }
 
-add-t : tie.Need-overflow-add-t invariant-loop decreases-loop
-add-t c = omega arith
+overflow_add-t : tie.Need-overflow_add-t invariant-loop-t decreases-loop-t
+overflow_add-t c = omega arith
 
-loop-less : tie.Need-loop-smaller invariant-loop decreases-loop
-loop-less c = omega arith
+loop-t-smaller : tie.Need-loop-t-smaller invariant-loop-t decreases-loop-t
+loop-t-smaller c = omega arith
 
-loop-again : tie.Need-loop-preserved invariant-loop decreases-loop
-loop-again c =
-    let l = c.before.before.before.loop in
-    let k = c.before.kind in (
+loop-t-preserved : tie.Need-loop-t-preserved invariant-loop-t decreases-loop-t
+loop-t-preserved c =
+    let l = c.loop-t in
+    let k = c.kind in (
       omega arith,
       below_more _ _ l.invariant.1
-          (λ h. sym (used_byte c.before.before.before.before.before.requires l.t k.result (omega arith) k.ensures.is) ∙ ap not
-          (ne_eqb k.result 0 c.if1.false)),
+          (λ h. sym (used_byte c.requires l.t k.result (omega arith) k.ensures.is) ∙ ap not
+          (ne_eqb k.result 0 c.if-kind-eq-UNUSED.false)),
     )
 
-returns-2 : tie.Need-returns-2 invariant-loop decreases-loop
-returns-2 c =
-    record { fits = omega arith; used = λ t h u. c.before.loop.invariant.1 t (omega arith) h; free = λ h. absurd (omega arith) }
+returns : tie.Need-returns invariant-loop-t decreases-loop-t
+returns c =
+    record { fits = omega arith; used = λ t h u. c.loop-t.invariant.1 t (omega arith) h; free = λ h. absurd (omega arith) }
 
-pub free-type-spec : {M : Type 1} → statement M
-free-type-spec =
+pub free_type_spec : {M : Type 1} → statement M
+free_type_spec =
     tie.close
     (tie.spec
-    invariant-loop
-    decreases-loop
-    loop-holds
+    invariant-loop-t
+    decreases-loop-t
+    loop-t-init
     kind-requires
-    returns
-    add-t
-    loop-less
-    loop-again
-    returns-2)
+    returns-then-kind-eq-UNUSED
+    overflow_add-t
+    loop-t-smaller
+    loop-t-preserved
+    returns)

@@ -15,85 +15,81 @@ use Rattle.lookup.proofs.NamedLaws.{bears_none, bears_it, type_is, type_below}
 use Rattle.working.proofs.find.type_named.Statement.{statement}
 use Rattle.working.proofs.find.type_named.Tie as tie
 
-abbrev invariant-loop : tie.invariant-loop
-invariant-loop base schema name rows i₀ i = (i ≤ length schema) × ((k : ℕ) → k < i → bears (schema_of base) (get_or schema k 0) name ≡ false)
+abbrev invariant-loop-i : tie.invariant-loop-i
+invariant-loop-i base schema name rows i₀ i = (i ≤ length schema) × ((k : ℕ) → k < i → bears (schema_of base) (get_or schema k 0) name ≡ false)
 
-abbrev decreases-loop : tie.decreases-loop
-decreases-loop base schema name rows i₀ i = length schema - i
+abbrev decreases-loop-i : tie.decreases-loop-i
+decreases-loop-i base schema name rows i₀ i = length schema - i
 
-presence-count-requires : tie.Need-presence-count-requires invariant-loop decreases-loop
-presence-count-requires c κs = sound_long c.before.before.before.requires
+presence_count-rows-requires : tie.Need-presence_count-rows-requires invariant-loop-i decreases-loop-i
+presence_count-rows-requires c κs = sound_long c.requires
 
-loop-holds : tie.Need-loop-init invariant-loop decreases-loop
-loop-holds c = (omega arith, below_none _)
+loop-i-init : tie.Need-loop-i-init invariant-loop-i decreases-loop-i
+loop-i-init c = (omega arith, below_none _)
 
-shared-slice-read-wide : tie.Need-shared-slice-read-wide invariant-loop decreases-loop
-shared-slice-read-wide c = search rules
+bounds-schema-i : tie.Need-bounds-schema-i invariant-loop-i decreases-loop-i
+bounds-schema-i c = search rules
 
-wide-requires : tie.Need-wide-requires invariant-loop decreases-loop
+wide-requires : tie.Need-wide-requires invariant-loop-i decreases-loop-i
 wide-requires c κs = search rules
 
-row-named-requires : tie.Need-row-named-requires invariant-loop decreases-loop
-row-named-requires c κs = sound_long c.before.before.before.before.before.before.before.before.requires
+row_named-row-requires : tie.Need-row_named-row-requires invariant-loop-i decreases-loop-i
+row_named-row-requires c κs = sound_long c.requires
 
-presence-type-requires : tie.Need-presence-type-requires invariant-loop decreases-loop
-presence-type-requires c κs =
-    let rows = c.before.before.before.before.before.before in
-    (sound_long rows.before.before.before.before.requires, omega (arith, c.if1.true, rows.presence_count.ensures.fits))
+presence_type-requires : tie.Need-presence_type-requires invariant-loop-i decreases-loop-i
+presence_type-requires c κs =
+    (sound_long c.requires, omega (arith, c.if-row-rows.true, c.presence_count-rows.ensures.fits))
 
-returns : tie.Need-returns invariant-loop decreases-loop
-returns c =
-    let x = c.before.before.before.before.before.before.before.before.before.before.before in
-    let b = x.args.base.now in
-    let n = x.args.name.now in
-    let l = c.before.before.before.before.before.before.loop in
-    let row = c.before.before.row_named.ensures in
-    let d = c.before.before.before.wide.ensures.0 in
-    let good = sound_good x.requires in
-    let there : c.before.before.row_named.result < presence_count b
-    = omega (arith, c.before.if1.true, c.before.before.before.before.before.before.before.presence_count.ensures.is) in
-    named_first (schema_of b) x.args.schema.now n l.i _ c.before.before.before.before.before.loop-test.true l.invariant.1
+returns-then-row-rows : tie.Need-returns-then-row-rows invariant-loop-i decreases-loop-i
+returns-then-row-rows c =
+    let b = c.args.base.now in
+    let n = c.args.name.now in
+    let l = c.loop-i in
+    let row = c.row_named-row.ensures in
+    let d = c.wide.ensures.0 in
+    let good = sound_good c.requires in
+    let there : c.row_named-row.result < presence_count b
+    = omega (arith, c.if-row-rows.true, c.presence_count-rows.ensures.is) in
+    named_first (schema_of b) c.args.schema.now n l.i _ c.loop-i-test.true l.invariant.1
     (ap (λ (e : ℕ). bears (schema_of b) e n) (sym d) ∙ bears_it row there)
     (omega (arith, type_below b good _ there, c.presence_type.ensures.is))
     (c.presence_type.ensures.is ∙ type_is row there ∙ ap (λ (e : ℕ). type_named (schema_of b) e n) d)
 
-add-i : tie.Need-overflow-add-i invariant-loop decreases-loop
-add-i c = search rules
+overflow_add-i : tie.Need-overflow_add-i invariant-loop-i decreases-loop-i
+overflow_add-i c = search rules
 
-loop-less : tie.Need-loop-smaller invariant-loop decreases-loop
-loop-less c = search rules
+loop-i-smaller : tie.Need-loop-i-smaller invariant-loop-i decreases-loop-i
+loop-i-smaller c = search rules
 
-loop-again : tie.Need-loop-preserved invariant-loop decreases-loop
-loop-again c =
-    let x = c.before.before.before.before.before.before.before.before.before.before in
-    let b = x.args.base.now in
-    let n = x.args.name.now in (
+loop-i-preserved : tie.Need-loop-i-preserved invariant-loop-i decreases-loop-i
+loop-i-preserved c =
+    let b = c.args.base.now in
+    let n = c.args.name.now in (
       omega arith,
-      below_more _ _ c.before.before.before.before.before.loop.invariant.1
-          (ap (λ (e : ℕ). bears (schema_of b) e n) (sym c.before.before.wide.ensures.0)
-          ∙ bears_none c.before.row_named.ensures
-          (omega (arith, c.if1.false, c.before.before.before.before.before.before.presence_count.ensures.is))),
+      below_more _ _ c.loop-i.invariant.1
+          (ap (λ (e : ℕ). bears (schema_of b) e n) (sym c.wide.ensures.0)
+          ∙ bears_none c.row_named-row.ensures
+          (omega (arith, c.if-row-rows.false, c.presence_count-rows.ensures.is))),
     )
 
-returns-2 : tie.Need-returns-2 invariant-loop decreases-loop
-returns-2 c =
-    let x = c.before.before.before.before.before.before in
-    named_nowhere (schema_of x.args.base.now) x.args.schema.now x.args.name.now (λ k h. c.before.loop.invariant.1 k (omega arith))
+returns : tie.Need-returns invariant-loop-i decreases-loop-i
+returns c =
+    named_nowhere (schema_of c.args.base.now) c.args.schema.now c.args.name.now (λ k h. c.loop-i.invariant.1 k (omega arith))
 
-pub type-named-spec : {M : Type 1} → statement M
-type-named-spec =
+pub type_named_spec : {M : Type 1} → statement M
+type_named_spec =
     tie.close
     (tie.spec
-    invariant-loop
-    decreases-loop
-    presence-count-requires
-    loop-holds
-    shared-slice-read-wide
+    invariant-loop-i
+    decreases-loop-i
+    presence_count-rows-requires
+    loop-i-init
+    bounds-schema-i
     wide-requires
-    row-named-requires
-    presence-type-requires
-    returns
-    add-i
-    loop-less
-    loop-again
-    returns-2)
+    row_named-row-requires
+    presence_type-requires
+    returns-then-row-rows
+    overflow_add-i
+    loop-i-smaller
+    loop-i-preserved
+    returns)

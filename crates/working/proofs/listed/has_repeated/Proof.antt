@@ -11,74 +11,72 @@ use Rattle.working.proofs.ListedLaws.{Met, met_none, met_twice, met_more, met_al
 use Rattle.working.proofs.listed.has_repeated.Statement.{statement}
 use Rattle.working.proofs.listed.has_repeated.Tie as tie
 
-abbrev invariant-loop : tie.invariant-loop
-invariant-loop schema met₀ at₀ met at = (at ≤ length schema) × Met schema at (has met)
+abbrev invariant-loop-at : tie.invariant-loop-at
+invariant-loop-at schema met₀ at₀ met at = (at ≤ length schema) × Met schema at (has met)
 
-abbrev decreases-loop : tie.decreases-loop
-decreases-loop schema met₀ at₀ met at = length schema - at
+abbrev decreases-loop-at : tie.decreases-loop-at
+decreases-loop-at schema met₀ at₀ met at = length schema - at
 
-empty-requires : tie.Need-empty-requires invariant-loop decreases-loop
-empty-requires c κs = search rules
+empty-met-requires : tie.Need-empty-met-requires invariant-loop-at decreases-loop-at
+empty-met-requires c κs = search rules
 
-loop-holds : tie.Need-loop-init invariant-loop decreases-loop
-loop-holds c = (omega arith, met_none _ c.empty.ensures)
+loop-at-init : tie.Need-loop-at-init invariant-loop-at decreases-loop-at
+loop-at-init c = (omega arith, met_none _ c.empty-met.ensures)
 
-shared-slice-read-wide : tie.Need-shared-slice-read-wide invariant-loop decreases-loop
-shared-slice-read-wide c = search rules
+bounds-schema-at : tie.Need-bounds-schema-at invariant-loop-at decreases-loop-at
+bounds-schema-at c = search rules
 
-wide-requires : tie.Need-wide-requires invariant-loop decreases-loop
-wide-requires c κs = search rules
+wide-d-requires : tie.Need-wide-d-requires invariant-loop-at decreases-loop-at
+wide-d-requires c κs = search rules
 
-test-requires : tie.Need-test-requires invariant-loop decreases-loop
+test-requires : tie.Need-test-requires invariant-loop-at decreases-loop-at
 test-requires c κs =
-    let l = c.before.before.before in
-    omega (arith, c.wide.ensures.0, l.before.before.before.requires l.loop.at c.before.before.loop-test.true)
+    omega (arith, c.wide-d.ensures.0, c.requires c.loop-at.at c.loop-at-test.true)
 
-returns : tie.Need-returns invariant-loop decreases-loop
-returns c =
-    let l = c.before.before.before.before.before.loop in
-    sym (met_twice l.invariant.1 c.before.before.before.before.loop-test.true
-    (ap (has l.met) (sym c.before.before.wide.ensures.0) ∙ sym c.before.test.ensures ∙ c.if1.true))
+returns-then-test : tie.Need-returns-then-test invariant-loop-at decreases-loop-at
+returns-then-test c =
+    let l = c.loop-at in
+    sym (met_twice l.invariant.1 c.loop-at-test.true
+    (ap (has l.met) (sym c.wide-d.ensures.0) ∙ sym c.test.ensures ∙ c.if-test.true))
 
-add-requires : tie.Need-add-requires invariant-loop decreases-loop
-add-requires c κs =
-    let l = c.before.before.before.before.before in
-    omega (arith, c.before.before.wide.ensures.0, l.before.before.before.requires l.loop.at c.before.before.before.before.loop-test.true)
+add-met-requires : tie.Need-add-met-requires invariant-loop-at decreases-loop-at
+add-met-requires c κs =
+    omega (arith, c.wide-d.ensures.0, c.requires c.loop-at.at c.loop-at-test.true)
 
-add_at : tie.Need-overflow-add-at invariant-loop decreases-loop
-add_at c = search rules
+overflow_add-at : tie.Need-overflow_add-at invariant-loop-at decreases-loop-at
+overflow_add-at c = search rules
 
-loop-less : tie.Need-loop-smaller invariant-loop decreases-loop
-loop-less c = search rules
+loop-at-smaller : tie.Need-loop-at-smaller invariant-loop-at decreases-loop-at
+loop-at-smaller c = search rules
 
-loop-again : tie.Need-loop-preserved invariant-loop decreases-loop
-loop-again c =
-    let l = c.before.before.before.before.before.before.loop in
+loop-at-preserved : tie.Need-loop-at-preserved invariant-loop-at decreases-loop-at
+loop-at-preserved c =
+    let l = c.loop-at in
     let m = has l.met in
-    let d = sym c.before.before.before.wide.ensures.0 in (
+    let d = sym c.wide-d.ensures.0 in (
       omega arith,
-      met_more l.invariant.1 _ c.before.before.before.before.before.loop-test.true
-          (ap m d ∙ sym c.before.before.test.ensures ∙ c.before.if1.false)
-          (λ k. c.add.ensures k ∙ ap (λ (x : ℕ). eqb k x || m k) (sym d)),
+      met_more l.invariant.1 _ c.loop-at-test.true
+          (ap m d ∙ sym c.test.ensures ∙ c.if-test.false)
+          (λ k. c.add-met.ensures k ∙ ap (λ (x : ℕ). eqb k x || m k) (sym d)),
     )
 
-returns-2 : tie.Need-returns-2 invariant-loop decreases-loop
-returns-2 c = sym (met_all c.before.loop.invariant.1 (omega arith))
+returns : tie.Need-returns invariant-loop-at decreases-loop-at
+returns c = sym (met_all c.loop-at.invariant.1 (omega arith))
 
-pub has-repeated-spec : {M : Type 1} → statement M
-has-repeated-spec =
+pub has_repeated_spec : {M : Type 1} → statement M
+has_repeated_spec =
     tie.close
     (tie.spec
-    invariant-loop
-    decreases-loop
-    empty-requires
-    loop-holds
-    shared-slice-read-wide
-    wide-requires
+    invariant-loop-at
+    decreases-loop-at
+    empty-met-requires
+    loop-at-init
+    bounds-schema-at
+    wide-d-requires
     test-requires
-    returns
-    add-requires
-    add_at
-    loop-less
-    loop-again
-    returns-2)
+    returns-then-test
+    add-met-requires
+    overflow_add-at
+    loop-at-smaller
+    loop-at-preserved
+    returns)

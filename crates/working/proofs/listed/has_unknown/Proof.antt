@@ -15,66 +15,63 @@ use Rattle.rules.proofs.01-Lists.{any_there, any_nowhere}
 use Rattle.working.proofs.listed.has_unknown.Statement.{statement}
 use Rattle.working.proofs.listed.has_unknown.Tie as tie
 
-abbrev invariant-loop : tie.invariant-loop
-invariant-loop base schema i₀ i = (i ≤ length schema) × ((k : ℕ) → k < i → unknown_sds (schema_of base) (get_or schema k 0) ≡ false)
+abbrev invariant-loop-i : tie.invariant-loop-i
+invariant-loop-i base schema i₀ i = (i ≤ length schema) × ((k : ℕ) → k < i → unknown_sds (schema_of base) (get_or schema k 0) ≡ false)
 
-abbrev decreases-loop : tie.decreases-loop
-decreases-loop base schema i₀ i = length schema - i
+abbrev decreases-loop-i : tie.decreases-loop-i
+decreases-loop-i base schema i₀ i = length schema - i
 
-loop-holds : tie.Need-loop-init invariant-loop decreases-loop
-loop-holds c = (omega arith, below_none _)
+loop-i-init : tie.Need-loop-i-init invariant-loop-i decreases-loop-i
+loop-i-init c = (omega arith, below_none _)
 
-shared-slice-read-wide : tie.Need-shared-slice-read-wide invariant-loop decreases-loop
-shared-slice-read-wide c = search rules
+bounds-schema-i : tie.Need-bounds-schema-i invariant-loop-i decreases-loop-i
+bounds-schema-i c = search rules
 
-wide-requires : tie.Need-wide-requires invariant-loop decreases-loop
+wide-requires : tie.Need-wide-requires invariant-loop-i decreases-loop-i
 wide-requires c κs = search rules
 
-is-sds-requires : tie.Need-is-sds-requires invariant-loop decreases-loop
-is-sds-requires c κs = search rules
+is_sds-requires : tie.Need-is_sds-requires invariant-loop-i decreases-loop-i
+is_sds-requires c κs = search rules
 
-returns : tie.Need-returns invariant-loop decreases-loop
-returns c =
-    let x = c.before.before.before.before.before.before.before.before in
-    let s = schema_of x.args.base.now in
-    sym (any_there (unknown_sds s) x.args.schema.now c.before.before.before.before.before.loop.i
-    c.before.before.before.before.loop-test.true
-    (unknown x.args.base.now x.requires _
-    (ap (used_sds s) (sym c.before.before.wide.ensures.0) ∙ sym c.before.is-sds.ensures ∙ not-true _ c.if1.true)))
+returns-then-not-is_sds : tie.Need-returns-then-not-is_sds invariant-loop-i decreases-loop-i
+returns-then-not-is_sds c =
+    let s = schema_of c.args.base.now in
+    sym (any_there (unknown_sds s) c.args.schema.now c.loop-i.i
+    c.loop-i-test.true
+    (unknown c.args.base.now c.requires _
+    (ap (used_sds s) (sym c.wide.ensures.0) ∙ sym c.is_sds.ensures ∙ not-true _ c.if-not-is_sds.true-raw)))
 
-add-i : tie.Need-overflow-add-i invariant-loop decreases-loop
-add-i c = search rules
+overflow_add-i : tie.Need-overflow_add-i invariant-loop-i decreases-loop-i
+overflow_add-i c = search rules
 
-loop-less : tie.Need-loop-smaller invariant-loop decreases-loop
-loop-less c = search rules
+loop-i-smaller : tie.Need-loop-i-smaller invariant-loop-i decreases-loop-i
+loop-i-smaller c = search rules
 
-loop-again : tie.Need-loop-preserved invariant-loop decreases-loop
-loop-again c =
-    let x = c.before.before.before.before.before.before.before.before in
-    let s = schema_of x.args.base.now in (
+loop-i-preserved : tie.Need-loop-i-preserved invariant-loop-i decreases-loop-i
+loop-i-preserved c =
+    let s = schema_of c.args.base.now in (
       omega arith,
-      below_more _ _ c.before.before.before.before.before.loop.invariant.1
-          (known x.args.base.now x.requires _
-          (ap (used_sds s) (sym c.before.before.wide.ensures.0) ∙ sym c.before.is-sds.ensures ∙ not-false _ c.if1.false)),
+      below_more _ _ c.loop-i.invariant.1
+          (known c.args.base.now c.requires _
+          (ap (used_sds s) (sym c.wide.ensures.0) ∙ sym c.is_sds.ensures ∙ not-false _ c.if-not-is_sds.false-raw)),
     )
 
-returns-2 : tie.Need-returns-2 invariant-loop decreases-loop
-returns-2 c =
-    let x = c.before.before.before.before in
-    sym (any_nowhere (unknown_sds (schema_of x.args.base.now)) x.args.schema.now (λ i h. c.before.loop.invariant.1 i (omega arith)))
+returns : tie.Need-returns invariant-loop-i decreases-loop-i
+returns c =
+    sym (any_nowhere (unknown_sds (schema_of c.args.base.now)) c.args.schema.now (λ i h. c.loop-i.invariant.1 i (omega arith)))
 
-pub has-unknown-spec : {M : Type 1} → statement M
-has-unknown-spec =
+pub has_unknown_spec : {M : Type 1} → statement M
+has_unknown_spec =
     tie.close
     (tie.spec
-    invariant-loop
-    decreases-loop
-    loop-holds
-    shared-slice-read-wide
+    invariant-loop-i
+    decreases-loop-i
+    loop-i-init
+    bounds-schema-i
     wide-requires
-    is-sds-requires
-    returns
-    add-i
-    loop-less
-    loop-again
-    returns-2)
+    is_sds-requires
+    returns-then-not-is_sds
+    overflow_add-i
+    loop-i-smaller
+    loop-i-preserved
+    returns)

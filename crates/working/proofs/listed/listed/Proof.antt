@@ -12,62 +12,62 @@ use Rattle.working.proofs.ListedLaws.{Gathered, gathered_none, gathered_more, ga
 use Rattle.working.proofs.listed.listed.Statement.{statement}
 use Rattle.working.proofs.listed.listed.Tie as tie
 
-abbrev invariant-loop : tie.invariant-loop
-invariant-loop schema sdss₀ i₀ sdss i = (i ≤ length schema) × Gathered schema i (bit sdss)
+abbrev invariant-loop-i : tie.invariant-loop-i
+invariant-loop-i schema sdss₀ i₀ sdss i = (i ≤ length schema) × Gathered schema i (bit sdss)
 
-abbrev decreases-loop : tie.decreases-loop
-decreases-loop schema sdss₀ i₀ sdss i = length schema - i
+abbrev decreases-loop-i : tie.decreases-loop-i
+decreases-loop-i schema sdss₀ i₀ sdss i = length schema - i
 
-loop-holds : tie.Need-loop-init invariant-loop decreases-loop
-loop-holds c = (omega arith, gathered_none _ bit_zero)
+loop-i-init : tie.Need-loop-i-init invariant-loop-i decreases-loop-i
+loop-i-init c = (omega arith, gathered_none _ bit_zero)
 
-shared-slice-read-wide : tie.Need-shared-slice-read-wide invariant-loop decreases-loop
-shared-slice-read-wide c = search rules
+bounds-schema-i : tie.Need-bounds-schema-i invariant-loop-i decreases-loop-i
+bounds-schema-i c = search rules
 
-wide-requires : tie.Need-wide-requires invariant-loop decreases-loop
+wide-requires : tie.Need-wide-requires invariant-loop-i decreases-loop-i
 wide-requires c κs = search rules
 
 -- each number is that of a bit
-small : (c : tie.After-wide invariant-loop decreases-loop) → c.wide.result < 16
+small : (c : tie.After-wide invariant-loop-i decreases-loop-i) → c.wide.result < 16
 small c =
-    omega (arith, c.wide.ensures.0, c.before.before.before.before.before.requires c.before.before.before.loop.i c.before.before.loop-test.true)
+    omega (arith, c.wide.ensures.0, c.requires c.loop-i.i c.loop-i-test.true)
 
-cast-sdss : tie.Need-overflow-cast-sdss invariant-loop decreases-loop
-cast-sdss c = search rules
+overflow_cast-sdss : tie.Need-overflow_cast-sdss invariant-loop-i decreases-loop-i
+overflow_cast-sdss c = search rules
 
-shl-sdss : tie.Need-overflow-shl-sdss invariant-loop decreases-loop
-shl-sdss c = small c
+overflow_shl-sdss : tie.Need-overflow_shl-sdss invariant-loop-i decreases-loop-i
+overflow_shl-sdss c = small c
 
-add-i : tie.Need-overflow-add-i invariant-loop decreases-loop
-add-i c = search rules
+overflow_add-i : tie.Need-overflow_add-i invariant-loop-i decreases-loop-i
+overflow_add-i c = search rules
 
-loop-less : tie.Need-loop-smaller invariant-loop decreases-loop
-loop-less c = search rules
+loop-i-smaller : tie.Need-loop-i-smaller invariant-loop-i decreases-loop-i
+loop-i-smaller c = search rules
 
-loop-again : tie.Need-loop-preserved invariant-loop decreases-loop
-loop-again c =
-    let l = c.before.before.before.loop in (
+loop-i-preserved : tie.Need-loop-i-preserved invariant-loop-i decreases-loop-i
+loop-i-preserved c =
+    let l = c.loop-i in (
       omega arith,
-      gathered_more l.invariant.1 _ c.before.before.loop-test.true
+      gathered_more l.invariant.1 _ c.loop-i-test.true
           (λ k. bit_set 16 l.sdss c.wide.result k (small c) ∙ or_comm (bit l.sdss k) (eqb k c.wide.result)
           ∙ ap (λ (x : ℕ). eqb k x || bit l.sdss k) c.wide.ensures.0),
     )
 
-returns : tie.Need-returns invariant-loop decreases-loop
-returns c = gathered_all c.before.loop.invariant.1 (omega arith)
+returns : tie.Need-returns invariant-loop-i decreases-loop-i
+returns c = gathered_all c.loop-i.invariant.1 (omega arith)
 
-pub listed-spec : {M : Type 1} → statement M
-listed-spec =
+pub listed_spec : {M : Type 1} → statement M
+listed_spec =
     tie.close
     (tie.spec
-    invariant-loop
-    decreases-loop
-    loop-holds
-    shared-slice-read-wide
+    invariant-loop-i
+    decreases-loop-i
+    loop-i-init
+    bounds-schema-i
     wide-requires
-    cast-sdss
-    shl-sdss
-    add-i
-    loop-less
-    loop-again
+    overflow_cast-sdss
+    overflow_shl-sdss
+    overflow_add-i
+    loop-i-smaller
+    loop-i-preserved
     returns)

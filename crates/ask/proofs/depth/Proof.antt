@@ -14,32 +14,32 @@ use Rattle.ask.proofs.CallLaws.{depth_left}
 use Rattle.ask.proofs.depth.Statement.{statement}
 use Rattle.ask.proofs.depth.Tie as tie
 
-of-requires : tie.Need-of-requires
-of-requires c κs = search rules
+of-view-requires : tie.Need-of-view-requires
+of-view-requires c κs = search rules
 
 refused-requires : tie.Need-refused-requires
 refused-requires c κs = search rules
 
-returns : tie.Need-returns
-returns c = let x = c.before.before.before.before.before.before.args in answered_stops _ c.before.before.before.of.ensures.told
-    c.before.if1.true
+returns-then-view-ne0 : tie.Need-returns-then-view-ne0
+returns-then-view-ne0 c = let x = c.args in answered_stops _ c.of-view.ensures.told
+    c.if-view-ne0.true
     (depth_left x.schema.now x.t (schema_of x.base.now)) c.refused.ensures
 
 depth-requires : tie.Need-depth-requires
-depth-requires c κs = let th = c.before.before.of.ensures.through c.if1.false in (th.sound, th.kind)
+depth-requires c κs = let th = c.of-view.ensures.through c.if-view-ne0.false in (th.sound, th.kind)
 
 done-requires : tie.Need-done-requires
 done-requires c κs = search rules
 
-returns-2 : tie.Need-returns-2
-returns-2 c =
-    let x = c.before.before.before.before.before.before.before.args in
-    let v = c.before.before.before.before.of.ensures in
-    let z = c.before.before.if1.false in
+returns : tie.Need-returns
+returns c =
+    let x = c.args in
+    let v = c.of-view.ensures in
+    let z = c.if-view-ne0.false in
     answered_as (v.through z).sound (ends (viewed_passes v [] (depth_left x.schema.now x.t (schema_of x.base.now)) z))
-    (c.done.ensures ∙ ap (λ (n : ℕ). success n 0 0) c.before.depth.ensures)
+    (c.done.ensures ∙ ap (λ (n : ℕ). success n 0 0) c.depth.ensures)
 
-pub depth-spec : {M : Type 1} → statement M
-depth-spec =
+pub depth_spec : {M : Type 1} → statement M
+depth_spec =
     tie.close
-    (tie.spec of-requires refused-requires returns depth-requires done-requires returns-2)
+    (tie.spec of-view-requires refused-requires returns-then-view-ne0 depth-requires done-requires returns)

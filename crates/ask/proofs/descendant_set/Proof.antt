@@ -15,19 +15,19 @@ use Rattle.ask.proofs.CallLaws.{descendant_left, descendants_seen, set_answer}
 use Rattle.ask.proofs.descendant_set.Statement.{statement}
 use Rattle.ask.proofs.descendant_set.Tie as tie
 
-of-requires : tie.Need-of-requires
-of-requires c κs = search rules
+of-view-requires : tie.Need-of-view-requires
+of-view-requires c κs = search rules
 
 refused-requires : tie.Need-refused-requires
 refused-requires c κs = search rules
 
-returns : tie.Need-returns
-returns c = let x = c.before.before.before.before.before.before.args in answered_stops _ c.before.before.before.of.ensures.told
-    c.before.if1.true
+returns-then-view-ne0 : tie.Need-returns-then-view-ne0
+returns-then-view-ne0 c = let x = c.args in answered_stops _ c.of-view.ensures.told
+    c.if-view-ne0.true
     (descendant_left x.schema.now x.t (schema_of x.base.now)) c.refused.ensures
 
-of-object-requires : tie.Need-of-object-requires
-of-object-requires c κs = let th = c.before.before.of.ensures.through c.if1.false in (th.sound, (th.below, (omega arith, th.held)))
+of_object-set-requires : tie.Need-of_object-set-requires
+of_object-set-requires c κs = let th = c.of-view.ensures.through c.if-view-ne0.false in (th.sound, (th.below, (omega arith, th.held)))
 
 count-requires : tie.Need-count-requires
 count-requires c κs = search rules
@@ -35,24 +35,24 @@ count-requires c κs = search rules
 done-requires : tie.Need-done-requires
 done-requires c κs = search rules
 
-returns-2 : tie.Need-returns-2
-returns-2 c =
-    let x = c.before.before.before.before.before.before.before.before.args in
-    let v = c.before.before.before.before.before.of.ensures in
-    let z = c.before.before.before.if1.false in
+returns : tie.Need-returns
+returns c =
+    let x = c.args in
+    let v = c.of-view.ensures in
+    let z = c.if-view-ne0.false in
     answered_as (v.through z).sound (ends (viewed_passes v [] (descendant_left x.schema.now x.t (schema_of x.base.now)) z))
-    (c.done.ensures ∙ ap (success _ _) c.before.count.ensures
+    (c.done.ensures ∙ ap (success _ _) c.count.ensures
     ∙ set_answer _ (visible_descendant x.schema.now x.t (schema_of x.base.now)) (search rules) (search rules)
-    (descendants_seen (v.through z) _ c.before.before.of-object.ensures))
+    (descendants_seen (v.through z) _ c.of_object-set.ensures))
 
-pub descendant-set-spec : {M : Type 1} → statement M
-descendant-set-spec =
+pub descendant_set_spec : {M : Type 1} → statement M
+descendant_set_spec =
     tie.close
     (tie.spec
-    of-requires
+    of-view-requires
     refused-requires
-    returns
-    of-object-requires
+    returns-then-view-ne0
+    of_object-set-requires
     count-requires
     done-requires
-    returns-2)
+    returns)

@@ -17,110 +17,110 @@ use Rattle.ask.proofs.FindLaws.{find_effect, find_left, well_named, ill_named, n
 use Rattle.ask.proofs.find.Statement.{statement}
 use Rattle.ask.proofs.find.Tie as tie
 
-sound_1 : (c : tie.Else1) → Sound c.before.before.before.before.before.args.base.now
-sound_1 c = c.before.is_sound.ensures.holds (not-false _ c.if1.false)
+sound_1 : (c : tie.Else-not-is_sound) → Sound c.args.base.now
+sound_1 c = c.is_sound.ensures.holds (not-false _ c.if-not-is_sound.false-raw)
 
-left_2 : (c : tie.Else2) → let x = c.before.before.before.before.before.before.before.args in Left
+left_2 : (c : tie.Else-has_unknown) → let x = c.args in Left
     (find x.schema.now x.name.now (schema_of x.base.now))
     (onward 4 (find_refusals x.schema.now x.name.now (schema_of x.base.now)))
     (find_effect x.schema.now x.name.now (schema_of x.base.now))
-left_2 c = passes (find_left _ _ _) (sym c.before.has-unknown.ensures ∙ c.if2.false)
+left_2 c = passes (find_left _ _ _) (sym c.has_unknown.ensures ∙ c.if-has_unknown.false)
 
-left_3 : (c : tie.Else3) → let x = c.before.before.before.before.before.before.before.before.before.args in Left
+left_3 : (c : tie.Else-not-is_well_formed) → let x = c.args in Left
     (find x.schema.now x.name.now (schema_of x.base.now))
     (onward 6 (find_refusals x.schema.now x.name.now (schema_of x.base.now)))
     (find_effect x.schema.now x.name.now (schema_of x.base.now))
-left_3 c = passes (left_2 c.before.before) (well_named _ (sym c.before.is-well-formed.ensures ∙ not-false _ c.if3.false))
+left_3 c = passes (left_2 c.before.before) (well_named _ (sym c.is_well_formed.ensures ∙ not-false _ c.if-not-is_well_formed.false-raw))
 
 -- a type was found
-some : (c : tie.Else4) → let x = c.before.before.before.before.before.before.before.before.before.before.before.args in no_name_listed
+some : (c : tie.Else-t-eq-TYPES) → let x = c.args in no_name_listed
     (schema_of x.base.now) x.schema.now x.name.now ≡ false
-some c = named c.before.type_named.ensures c.if4.false
+some c = named c.type_named-t.ensures c.if-t-eq-TYPES.false
 
-left_4 : (c : tie.Else4) → let x = c.before.before.before.before.before.before.before.before.before.before.before.args in Left
+left_4 : (c : tie.Else-t-eq-TYPES) → let x = c.args in Left
     (find x.schema.now x.name.now (schema_of x.base.now))
     (onward 8 (find_refusals x.schema.now x.name.now (schema_of x.base.now)))
     (find_effect x.schema.now x.name.now (schema_of x.base.now))
 left_4 c = passes (left_3 c.before.before) (some c)
 
-is-sound-requires : tie.Need-is-sound-requires
-is-sound-requires c κs = search rules
+is_sound-requires : tie.Need-is_sound-requires
+is_sound-requires c κs = search rules
 
 refused-requires : tie.Need-refused-requires
 refused-requires c κs = search rules
 
-returns : tie.Need-returns
-returns c = answered_spoiled (c.before.before.is_sound.ensures.fails (not-true _ c.before.if1.true)) c.refused.ensures
+returns-then-not-is_sound : tie.Need-returns-then-not-is_sound
+returns-then-not-is_sound c = answered_spoiled (c.is_sound.ensures.fails (not-true _ c.if-not-is_sound.true-raw)) c.refused.ensures
 
-has-unknown-requires : tie.Need-has-unknown-requires
-has-unknown-requires c κs = sound_long (sound_1 c)
+has_unknown-requires : tie.Need-has_unknown-requires
+has_unknown-requires c κs = sound_long (sound_1 c)
 
-refused-requires-2 : tie.Need-refused-requires-2
-refused-requires-2 c κs = search rules
+refused-requires-then-has_unknown : tie.Need-refused-requires-then-has_unknown
+refused-requires-then-has_unknown c κs = search rules
 
-returns-2 : tie.Need-returns-2
-returns-2 c = answered_as (sound_1 c.before.before.before)
-    (stops (find_left _ _ _) (sym c.before.before.has-unknown.ensures ∙ c.before.if2.true)) c.refused2.ensures
+returns-then-has_unknown : tie.Need-returns-then-has_unknown
+returns-then-has_unknown c = answered_as (sound_1 c.before.before.before)
+    (stops (find_left _ _ _) (sym c.has_unknown.ensures ∙ c.if-has_unknown.true)) c.refused-then-has_unknown.ensures
 
-is-well-formed-requires : tie.Need-is-well-formed-requires
-is-well-formed-requires c κs = search rules
+is_well_formed-requires : tie.Need-is_well_formed-requires
+is_well_formed-requires c κs = search rules
 
-refused-requires-3 : tie.Need-refused-requires-3
-refused-requires-3 c κs = search rules
+refused-requires-then-not-is_well_formed : tie.Need-refused-requires-then-not-is_well_formed
+refused-requires-then-not-is_well_formed c κs = search rules
 
-returns-3 : tie.Need-returns-3
-returns-3 c = answered_as (sound_1 c.before.before.before.before.before)
-    (stops (left_2 c.before.before.before) (ill_named _ (sym c.before.before.is-well-formed.ensures ∙ not-true _ c.before.if3.true)))
-    c.refused3.ensures
+returns-then-not-is_well_formed : tie.Need-returns-then-not-is_well_formed
+returns-then-not-is_well_formed c = answered_as (sound_1 c.before.before.before.before.before)
+    (stops (left_2 c.before.before.before) (ill_named _ (sym c.is_well_formed.ensures ∙ not-true _ c.if-not-is_well_formed.true-raw)))
+    c.refused-then-not-is_well_formed.ensures
 
-type-named-requires : tie.Need-type-named-requires
-type-named-requires c κs = sound_1 c.before.before.before.before
+type_named-t-requires : tie.Need-type_named-t-requires
+type_named-t-requires c κs = sound_1 c.before.before.before.before
 
-refused-requires-4 : tie.Need-refused-requires-4
-refused-requires-4 c κs = search rules
+refused-requires-then-t-eq-TYPES : tie.Need-refused-requires-then-t-eq-TYPES
+refused-requires-then-t-eq-TYPES c κs = search rules
 
-returns-4 : tie.Need-returns-4
-returns-4 c = answered_as (sound_1 c.before.before.before.before.before.before.before)
-    (stops (left_3 c.before.before.before) (nameless c.before.before.type_named.ensures c.before.if4.true)) c.refused4.ensures
+returns-then-t-eq-TYPES : tie.Need-returns-then-t-eq-TYPES
+returns-then-t-eq-TYPES c = answered_as (sound_1 c.before.before.before.before.before.before.before)
+    (stops (left_3 c.before.before.before) (nameless c.type_named-t.ensures c.if-t-eq-TYPES.true)) c.refused-then-t-eq-TYPES.ensures
 
-has-repeated-requires : tie.Need-has-repeated-requires
-has-repeated-requires c κs = listed_small (sound_1 c.before.before.before.before.before.before) _
-    (sym c.before.before.before.before.before.has-unknown.ensures ∙ c.before.before.before.before.if2.false)
+has_repeated-requires : tie.Need-has_repeated-requires
+has_repeated-requires c κs = listed_small (sound_1 c.before.before.before.before.before.before) _
+    (sym c.has_unknown.ensures ∙ c.if-has_unknown.false)
 
-refused-requires-5 : tie.Need-refused-requires-5
-refused-requires-5 c κs = search rules
+refused-requires-then-has_repeated : tie.Need-refused-requires-then-has_repeated
+refused-requires-then-has_repeated c κs = search rules
 
-returns-5 : tie.Need-returns-5
-returns-5 c = answered_as (sound_1 c.before.before.before.before.before.before.before.before.before)
-    (stops (left_4 c.before.before.before) (sym c.before.before.has-repeated.ensures ∙ c.before.if5.true)) c.refused5.ensures
+returns-then-has_repeated : tie.Need-returns-then-has_repeated
+returns-then-has_repeated c = answered_as (sound_1 c.before.before.before.before.before.before.before.before.before)
+    (stops (left_4 c.before.before.before) (sym c.has_repeated.ensures ∙ c.if-has_repeated.true)) c.refused-then-has_repeated.ensures
 
 done-requires : tie.Need-done-requires
 done-requires c κs = search rules
 
-returns-6 : tie.Need-returns-6
-returns-6 c =
+returns : tie.Need-returns
+returns c =
     answered_as (sound_1 c.before.before.before.before.before.before.before.before.before)
-    (ends (passes (left_4 c.before.before.before) (sym c.before.before.has-repeated.ensures ∙ c.before.if5.false)))
-    (c.done.ensures ∙ ap (λ (n : ℕ). success n 0 0) (c.before.before.before.before.type_named.ensures.found (some c.before.before.before)).1)
+    (ends (passes (left_4 c.before.before.before) (sym c.has_repeated.ensures ∙ c.if-has_repeated.false)))
+    (c.done.ensures ∙ ap (λ (n : ℕ). success n 0 0) (c.type_named-t.ensures.found (some c.before.before.before)).1)
 
 pub find_spec : {M : Type 1} → statement M
 find_spec =
     tie.close
     (tie.spec
-    is-sound-requires
+    is_sound-requires
     refused-requires
-    returns
-    has-unknown-requires
-    refused-requires-2
-    returns-2
-    is-well-formed-requires
-    refused-requires-3
-    returns-3
-    type-named-requires
-    refused-requires-4
-    returns-4
-    has-repeated-requires
-    refused-requires-5
-    returns-5
+    returns-then-not-is_sound
+    has_unknown-requires
+    refused-requires-then-has_unknown
+    returns-then-has_unknown
+    is_well_formed-requires
+    refused-requires-then-not-is_well_formed
+    returns-then-not-is_well_formed
+    type_named-t-requires
+    refused-requires-then-t-eq-TYPES
+    returns-then-t-eq-TYPES
+    has_repeated-requires
+    refused-requires-then-has_repeated
+    returns-then-has_repeated
     done-requires
-    returns-6)
+    returns)

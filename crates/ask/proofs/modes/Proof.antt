@@ -18,105 +18,105 @@ use Rattle.ask.proofs.ModesLaws.{modes_effect, modes_left, joined_under}
 use Rattle.ask.proofs.modes.Statement.{statement}
 use Rattle.ask.proofs.modes.Tie as tie
 
-sound_1 : (c : tie.Else1) → Sound c.before.before.before.before.args.base.now
-sound_1 c = c.before.is_sound.ensures.holds (not-false _ c.if1.false)
+sound_1 : (c : tie.Else-not-is_sound) → Sound c.args.base.now
+sound_1 c = c.is_sound.ensures.holds (not-false _ c.if-not-is_sound.false-raw)
 
-left_2 : (c : tie.Else2) → let x = c.before.before.before.before.before.before.args in
+left_2 : (c : tie.Else-has_unknown) → let x = c.args in
     Left (modes_of x.schema.now x.t (schema_of x.base.now))
     (onward 6 (modes_refusals x.schema.now x.t (schema_of x.base.now))) (modes_effect x.schema.now x.t (schema_of x.base.now))
-left_2 c = passes (modes_left _ _ _) (sym c.before.has-unknown.ensures ∙ c.if2.false)
+left_2 c = passes (modes_left _ _ _) (sym c.has_unknown.ensures ∙ c.if-has_unknown.false)
 
 -- what is in a listed SDS is visible
-shown : (c : tie.After-is-visible) → let x = c.before.before.before.before.before.before.before.before.args in
-    c.is-visible.result ≡ visible (schema_of x.base.now) x.schema.now x.t
-shown c = c.is-visible.ensures ∙ visible_are _ _ _ c.before.listed.ensures _
+shown : (c : tie.After-is_visible) → let x = c.args in
+    c.is_visible.result ≡ visible (schema_of x.base.now) x.schema.now x.t
+shown c = c.is_visible.ensures ∙ visible_are _ _ _ c.listed-listed.ensures _
 
-left_3 : (c : tie.Else3) → let x = c.before.before.before.before.before.before.before.before.before.args in
+left_3 : (c : tie.Else-not-is_visible) → let x = c.args in
     Left (modes_of x.schema.now x.t (schema_of x.base.now))
     (onward 8 (modes_refusals x.schema.now x.t (schema_of x.base.now))) (modes_effect x.schema.now x.t (schema_of x.base.now))
-left_3 c = passes (left_2 c.before.before.before) (seen _ _ _ (shown c.before) c.if3.false)
+left_3 c = passes (left_2 c.before.before.before) (seen _ _ _ (shown c.before) c.if-not-is_visible.false-raw)
 
-is-sound-requires : tie.Need-is-sound-requires
-is-sound-requires c κs = search rules
+is_sound-requires : tie.Need-is_sound-requires
+is_sound-requires c κs = search rules
 
 refused-requires : tie.Need-refused-requires
 refused-requires c κs = search rules
 
-returns : tie.Need-returns
-returns c = answered_spoiled (c.before.before.is_sound.ensures.fails (not-true _ c.before.if1.true)) c.refused.ensures
+returns-then-not-is_sound : tie.Need-returns-then-not-is_sound
+returns-then-not-is_sound c = answered_spoiled (c.is_sound.ensures.fails (not-true _ c.if-not-is_sound.true-raw)) c.refused.ensures
 
-has-unknown-requires : tie.Need-has-unknown-requires
-has-unknown-requires c κs = sound_long (sound_1 c)
+has_unknown-requires : tie.Need-has_unknown-requires
+has_unknown-requires c κs = sound_long (sound_1 c)
 
-refused-requires-2 : tie.Need-refused-requires-2
-refused-requires-2 c κs = search rules
+refused-requires-then-has_unknown : tie.Need-refused-requires-then-has_unknown
+refused-requires-then-has_unknown c κs = search rules
 
-returns-2 : tie.Need-returns-2
-returns-2 c =
+returns-then-has_unknown : tie.Need-returns-then-has_unknown
+returns-then-has_unknown c =
     answered_as (sound_1 c.before.before.before)
-    (stops (modes_left _ _ _) (sym c.before.before.has-unknown.ensures ∙ c.before.if2.true)) c.refused2.ensures
+    (stops (modes_left _ _ _) (sym c.has_unknown.ensures ∙ c.if-has_unknown.true)) c.refused-then-has_unknown.ensures
 
-listed-requires : tie.Need-listed-requires
-listed-requires c κs = listed_sds (sound_1 c.before.before) _ (sym c.before.has-unknown.ensures ∙ c.if2.false)
+listed-listed-requires : tie.Need-listed-listed-requires
+listed-listed-requires c κs = listed_sds (sound_1 c.before.before) _ (sym c.has_unknown.ensures ∙ c.if-has_unknown.false)
 
-is-visible-requires : tie.Need-is-visible-requires
-is-visible-requires c κs = sound_1 c.before.before.before
+is_visible-requires : tie.Need-is_visible-requires
+is_visible-requires c κs = sound_1 c.before.before.before
 
-refused-requires-3 : tie.Need-refused-requires-3
-refused-requires-3 c κs = search rules
+refused-requires-then-not-is_visible : tie.Need-refused-requires-then-not-is_visible
+refused-requires-then-not-is_visible c κs = search rules
 
-returns-3 : tie.Need-returns-3
-returns-3 c =
+returns-then-not-is_visible : tie.Need-returns-then-not-is_visible
+returns-then-not-is_visible c =
     answered_as (sound_1 c.before.before.before.before.before.before)
-    (stops (left_2 c.before.before.before.before) (not_seen _ _ _ (shown c.before.before) c.before.if3.true)) c.refused3.ensures
+    (stops (left_2 c.before.before.before.before) (not_seen _ _ _ (shown c.before.before) c.if-not-is_visible.true-raw)) c.refused-then-not-is_visible.ensures
 
-has-repeated-requires : tie.Need-has-repeated-requires
-has-repeated-requires c κs =
+has_repeated-requires : tie.Need-has_repeated-requires
+has_repeated-requires c κs =
     let known = c.before.before.before in
-    listed_small (sound_1 known.before.before) _ (sym known.before.has-unknown.ensures ∙ known.if2.false)
+    listed_small (sound_1 known.before.before) _ (sym known.has_unknown.ensures ∙ known.if-has_unknown.false)
 
-refused-requires-4 : tie.Need-refused-requires-4
-refused-requires-4 c κs = search rules
+refused-requires-then-has_repeated : tie.Need-refused-requires-then-has_repeated
+refused-requires-then-has_repeated c κs = search rules
 
-returns-4 : tie.Need-returns-4
-returns-4 c =
+returns-then-has_repeated : tie.Need-returns-then-has_repeated
+returns-then-has_repeated c =
     answered_as (sound_1 c.before.before.before.before.before.before.before.before)
-    (stops (left_3 c.before.before.before) (sym c.before.before.has-repeated.ensures ∙ c.before.if4.true)) c.refused4.ensures
+    (stops (left_3 c.before.before.before) (sym c.has_repeated.ensures ∙ c.if-has_repeated.true)) c.refused-then-has_repeated.ensures
 
-modes-in-requires : tie.Need-modes-in-requires
-modes-in-requires c κs = sound_1 c.before.before.before.before.before.before.before
+modes_in-modes-requires : tie.Need-modes_in-modes-requires
+modes_in-modes-requires c κs = sound_1 c.before.before.before.before.before.before.before
 
 done-requires : tie.Need-done-requires
 done-requires c κs = search rules
 
-returns-5 : tie.Need-returns-5
-returns-5 c =
-    let x = c.before.before.before.before.before.before.before.before.before.before.before.before.before.args in
-    let listed = c.before.before.before.before.before.before.listed in
+returns : tie.Need-returns
+returns c =
+    let x = c.args in
+    let listed = c.listed-listed in
     let under = joined_under (bit listed.result) x.schema.now listed.ensures in
     answered_as (sound_1 c.before.before.before.before.before.before.before.before.before)
-    (ends (passes (left_3 c.before.before.before.before) (sym c.before.before.before.has-repeated.ensures ∙ c.before.before.if4.false)))
+    (ends (passes (left_3 c.before.before.before.before) (sym c.has_repeated.ensures ∙ c.if-has_repeated.false)))
     (c.done.ensures
-    ∙ (λ i. success ((c.before.modes-in.ensures.0 ∙ under (λ p. p.usage) x.t (schema_of x.base.now)) i)
-    ((c.before.modes-in.ensures.1 ∙ under (λ p. p.definition) x.t (schema_of x.base.now)) i) 0))
+    ∙ (λ i. success ((c.modes_in-modes.ensures.0 ∙ under (λ p. p.usage) x.t (schema_of x.base.now)) i)
+    ((c.modes_in-modes.ensures.1 ∙ under (λ p. p.definition) x.t (schema_of x.base.now)) i) 0))
 
-pub modes-spec : {M : Type 1} → statement M
-modes-spec =
+pub modes_spec : {M : Type 1} → statement M
+modes_spec =
     tie.close
     (tie.spec
-    is-sound-requires
+    is_sound-requires
     refused-requires
-    returns
-    has-unknown-requires
-    refused-requires-2
-    returns-2
-    listed-requires
-    is-visible-requires
-    refused-requires-3
-    returns-3
-    has-repeated-requires
-    refused-requires-4
-    returns-4
-    modes-in-requires
+    returns-then-not-is_sound
+    has_unknown-requires
+    refused-requires-then-has_unknown
+    returns-then-has_unknown
+    listed-listed-requires
+    is_visible-requires
+    refused-requires-then-not-is_visible
+    returns-then-not-is_visible
+    has_repeated-requires
+    refused-requires-then-has_repeated
+    returns-then-has_repeated
+    modes_in-modes-requires
     done-requires
-    returns-5)
+    returns)

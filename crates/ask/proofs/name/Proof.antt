@@ -6,33 +6,30 @@ use Rattle.ask.proofs.Laws.{within, handed}
 use Rattle.ask.proofs.name.Statement.{statement}
 use Rattle.ask.proofs.name.Tie as tie
 
-name-place-requires : tie.Need-name-place-requires
-name-place-requires c κs = search rules
+name_place-place-requires : tie.Need-name_place-place-requires
+name_place-place-requires c κs = search rules
 
-add-end : tie.Need-overflow-add-end
-add-end c =
-    let x = c.before.before.before in
-    let w = within x.args.sds x.args.t c.before.name-place.ensures in
-    omega (arith, w, c.before.before.before.well_formed)
+overflow_add-end : tie.Need-overflow_add-end
+overflow_add-end c =
+    let w = within c.args.sds c.args.t c.name_place-place.ensures in
+    omega (arith, w, c.well_formed)
 
-sub-result : tie.Need-overflow-sub-result
-sub-result c = search rules
+slice_bounds-result-count : tie.Need-slice_bounds-result-count
+slice_bounds-result-count c = search rules
 
-part-result-start : tie.Need-slice-bounds-result-start
-part-result-start c = search rules
+slice_bounds-result-start : tie.Need-slice_bounds-result-start
+slice_bounds-result-start c = search rules
 
-part-result-end : tie.Need-slice-bounds-result-end
-part-result-end c =
-    let x = c.before.before.before in
-    let w = within x.args.sds x.args.t c.before.name-place.ensures in
+slice_bounds-result-end : tie.Need-slice_bounds-result-end
+slice_bounds-result-end c =
+    let w = within c.args.sds c.args.t c.name_place-place.ensures in
     omega (arith, w)
 
 returns : tie.Need-returns
 returns c =
-    let x = c.before.before.before.before in
-    handed x.args.sds x.args.t c.before.before.name-place.ensures
+    handed c.args.sds c.args.t c.name_place-place.ensures
 
-pub name-spec : {M : Type 1} → statement M
-name-spec =
+pub name_spec : {M : Type 1} → statement M
+name_spec =
     tie.close
-    (tie.spec name-place-requires add-end sub-result part-result-start part-result-end returns)
+    (tie.spec name_place-place-requires overflow_add-end slice_bounds-result-count slice_bounds-result-start slice_bounds-result-end returns)

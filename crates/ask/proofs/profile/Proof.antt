@@ -10,50 +10,50 @@ use Rattle.ask.proofs.CallLaws.{profile_left, room_test, object_list, listed_thr
 use Rattle.ask.proofs.profile.Statement.{statement}
 use Rattle.ask.proofs.profile.Tie as tie
 
-of-requires : tie.Need-of-requires
-of-requires c κs = search rules
+of-view-requires : tie.Need-of-view-requires
+of-view-requires c κs = search rules
 
 refused-requires : tie.Need-refused-requires
 refused-requires c κs = search rules
 
-returns : tie.Need-returns
-returns c =
-    let x = c.before.before.before.before.before.before.before.args in
-    listed_stops _ c.before.before.before.of.ensures.told c.before.if1.true
+returns-then-view-ne0 : tie.Need-returns-then-view-ne0
+returns-then-view-ne0 c =
+    let x = c.args in
+    listed_stops _ c.of-view.ensures.told c.if-view-ne0.true
     (profile_left x.schema.now x.t (room x.out.now) (schema_of x.base.now)) c.refused.ensures
 
-of-profile-requires : tie.Need-of-profile-requires
-of-profile-requires c κs = let th = c.before.before.of.ensures.through c.if1.false in (th.sound, (th.below, th.held))
+of_profile-lists-requires : tie.Need-of_profile-lists-requires
+of_profile-lists-requires c κs = let th = c.of-view.ensures.through c.if-view-ne0.false in (th.sound, (th.below, th.held))
 
-put-three-requires : tie.Need-put-three-requires
-put-three-requires c κs = search rules
+put_three-requires : tie.Need-put_three-requires
+put_three-requires c κs = search rules
 
-same_length : tie.Need-same-length
-same_length c = search rules
+shape_of-out : tie.Need-shape_of-out
+shape_of-out c = search rules
 
-returns-2 : tie.Need-returns-2
+returns : tie.Need-returns
 unfolding profile_list
-returns-2 c =
-    let x = c.before.before.before.before.before.before.before.before.before.before.before.args in
-    let v = c.before.before.before.before.before.before.before.of.ensures in
-    let z = c.before.before.before.before.before.if1.false in
+returns c =
+    let x = c.args in
+    let v = c.of-view.ensures in
+    let z = c.if-view-ne0.false in
     let th = v.through z in
-    let lists = c.before.before.before.before.of-profile.ensures in
+    let lists = c.of_profile-lists.ensures in
     listed_three th.sound
     (object_list th _ 3 lists.ancestors)
     (object_list th _ 5 lists.attributes)
-    (object_list th _ 7 lists.links) c.before.before.put_three.ensures
+    (object_list th _ 7 lists.links) c.put_three.ensures
     (viewed_passes v (room_test (room x.out.now) (profile_list x.schema.now x.t (schema_of x.base.now)))
     (profile_left x.schema.now x.t (room x.out.now) (schema_of x.base.now)) z)
 
-pub profile-spec : {M : Type 1} → statement M
-profile-spec =
+pub profile_spec : {M : Type 1} → statement M
+profile_spec =
     tie.close
     (tie.spec
-    of-requires
+    of-view-requires
     refused-requires
-    returns
-    of-profile-requires
-    put-three-requires
-    same_length
-    returns-2)
+    returns-then-view-ne0
+    of_profile-lists-requires
+    put_three-requires
+    shape_of-out
+    returns)

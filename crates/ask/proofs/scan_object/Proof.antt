@@ -11,48 +11,48 @@ use Rattle.ask.proofs.CallLaws.{scan_object_left, room_test, object_list, listed
 use Rattle.ask.proofs.scan_object.Statement.{statement}
 use Rattle.ask.proofs.scan_object.Tie as tie
 
-of-requires : tie.Need-of-requires
-of-requires c κs = search rules
+of-view-requires : tie.Need-of-view-requires
+of-view-requires c κs = search rules
 
 refused-requires : tie.Need-refused-requires
 refused-requires c κs = search rules
 
-returns : tie.Need-returns
-returns c =
-    let x = c.before.before.before.before.before.before.before.args in
-    listed_stops _ c.before.before.before.of.ensures.told c.before.if1.true
+returns-then-view-ne0 : tie.Need-returns-then-view-ne0
+returns-then-view-ne0 c =
+    let x = c.args in
+    listed_stops _ c.of-view.ensures.told c.if-view-ne0.true
     (scan_object_left x.schema.now x.t x.code (room x.out.now) (schema_of x.base.now)) c.refused.ensures
 
-of-object-requires : tie.Need-of-object-requires
-of-object-requires c κs =
-    let v = c.before.before.of.ensures in
-    let th = v.through c.if1.false in
-    (th.sound, (th.below, (ltb-true c.before.before.before.before.before.before.args.code 10 (v.code_known c.if1.false), th.held)))
+of_object-set-requires : tie.Need-of_object-set-requires
+of_object-set-requires c κs =
+    let v = c.of-view.ensures in
+    let th = v.through c.if-view-ne0.false in
+    (th.sound, (th.below, (ltb-true c.args.code 10 (v.code_known c.if-view-ne0.false), th.held)))
 
 put-requires : tie.Need-put-requires
 put-requires c κs = search rules
 
-same_length : tie.Need-same-length
-same_length c = search rules
+shape_of-out : tie.Need-shape_of-out
+shape_of-out c = search rules
 
-returns-2 : tie.Need-returns-2
-returns-2 c =
-    let x = c.before.before.before.before.before.before.before.before.before.before.before.args in
-    let v = c.before.before.before.before.before.before.before.of.ensures in
-    let z = c.before.before.before.before.before.if1.false in
+returns : tie.Need-returns
+returns c =
+    let x = c.args in
+    let v = c.of-view.ensures in
+    let z = c.if-view-ne0.false in
     let l = object_scan_list x.schema.now x.t x.code (schema_of x.base.now) in
     listed_put (v.through z).sound _ l (object_list (v.through z) _ x.code
-    c.before.before.before.before.of-object.ensures) c.before.before.put.ensures
+    c.of_object-set.ensures) c.put.ensures
     (viewed_passes v (room_test (room x.out.now) l) (scan_object_left x.schema.now x.t x.code (room x.out.now) (schema_of x.base.now)) z)
 
-pub scan-object-spec : {M : Type 1} → statement M
-scan-object-spec =
+pub scan_object_spec : {M : Type 1} → statement M
+scan_object_spec =
     tie.close
     (tie.spec
-    of-requires
+    of-view-requires
     refused-requires
-    returns
-    of-object-requires
+    returns-then-view-ne0
+    of_object-set-requires
     put-requires
-    same_length
-    returns-2)
+    shape_of-out
+    returns)

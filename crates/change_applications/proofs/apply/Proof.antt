@@ -26,80 +26,80 @@ abbrev Ways : List ℕ → ℕ → Name → Name → ℕ → Type 0
 Ways b d a n k =
     let s = schema_of b in Left (apply d a n s) (drop k (apply_rest d a n s)) (done 0 0 0 (with_application d (type_named s d n) (type_named s d a) s))
 
-aim_1 : (c : tie.Else1) → let x = c.before.before.before.before.before.before.before.before.before.args in Aimed x.base.now x.sds
-aim_1 c = aimed_well _ c.before.before.tested.ensures.told c.if1.false
+aim_1 : (c : tie.Else-asked-ne0) → let x = c.args in Aimed x.base.now x.sds
+aim_1 c = aimed_well _ c.tested-asked.ensures.told c.if-asked-ne0.false
 
-both_1 : (c : tie.Else1) → let x = c.before.before.before.before.before.before.before.before.before.args in
-    let told = c.before.before.tested.result in Both x.base.now x.sds x.attribute.now x.to.now told.one told.two
-both_1 c = c.before.before.tested.ensures.so c.if1.false
+both_1 : (c : tie.Else-asked-ne0) → let x = c.args in
+    let told = c.tested-asked.result in Both x.base.now x.sds x.attribute.now x.to.now told.one told.two
+both_1 c = c.tested-asked.ensures.so c.if-asked-ne0.false
 
-left_1 : (c : tie.Else1) → let x = c.before.before.before.before.before.before.before.before.before.args in
+left_1 : (c : tie.Else-asked-ne0) → let x = c.args in
     Ways x.base.now x.sds x.attribute.now x.to.now 0
 unfolding all
-left_1 c = begun_passes _ c.before.before.tested.ensures.told c.if1.false refl (apply_left _ _ _ _)
+left_1 c = begun_passes _ c.tested-asked.ensures.told c.if-asked-ne0.false refl (apply_left _ _ _ _)
 
-left_2 : (c : tie.Else2) → let x = c.before.before.before.before.before.before.before.before.before.before.before.before.args in
+left_2 : (c : tie.Else-is_applied) → let x = c.args in
     Ways x.base.now x.sds x.attribute.now x.to.now 1
-left_2 c = passes (left_1 c.before.before.before) (sym (same_applied (both_1 c.before.before.before) c.before.is-applied.ensures) ∙ c.if2.false)
+left_2 c = passes (left_1 c.before.before) (sym (same_applied (both_1 c.before.before) c.is_applied.ensures) ∙ c.if-is_applied.false)
 
-left_3 : (c : tie.Else3) → let x = c.before.before.before.before.before.before.before.before.before.before.before.before.before.before.before.args in Ways x.base.now x.sds x.attribute.now x.to.now 2
-left_3 c = passes (left_2 c.before.before.before) (room _ c.before.application_count.ensures c.if3.false)
+left_3 : (c : tie.Else-application_count-ge-APPLICATIONS) → let x = c.args in Ways x.base.now x.sds x.attribute.now x.to.now 2
+left_3 c = passes (left_2 c.before.before) (room _ c.application_count.ensures c.if-application_count-ge-APPLICATIONS.false)
 
-aimed-two-requires : tie.Need-aimed-two-requires
-aimed-two-requires c κs = search rules
+aimed_two-no-requires : tie.Need-aimed_two-no-requires
+aimed_two-no-requires c κs = search rules
 
-tested-requires : tie.Need-tested-requires
-tested-requires c κs = c.before.aimed-two.ensures
+tested-asked-requires : tie.Need-tested-asked-requires
+tested-asked-requires c κs = c.aimed_two-no.ensures
 
 refused-requires : tie.Need-refused-requires
 refused-requires c κs = search rules
 
-same_length : tie.Need-same-length
-same_length c = search rules
+shape_of-base-then-asked-ne0 : tie.Need-shape_of-base-then-asked-ne0
+shape_of-base-then-asked-ne0 c = search rules
 
-returns : tie.Need-returns
-returns c = begun_stops _ c.before.before.before.tested.ensures.told c.before.if1.true (apply_left _ _ _ _) c.refused.ensures
+returns-then-asked-ne0 : tie.Need-returns-then-asked-ne0
+returns-then-asked-ne0 c = begun_stops _ c.tested-asked.ensures.told c.if-asked-ne0.true (apply_left _ _ _ _) c.refused.ensures
 
-is-applied-requires : tie.Need-is-applied-requires
-is-applied-requires c κs = sound_long (aim_1 c.before).sound
+is_applied-requires : tie.Need-is_applied-requires
+is_applied-requires c κs = sound_long (aim_1 c).sound
 
-refused-requires-2 : tie.Need-refused-requires-2
-refused-requires-2 c κs = search rules
+refused-requires-then-is_applied : tie.Need-refused-requires-then-is_applied
+refused-requires-then-is_applied c κs = search rules
 
-same-length-2 : tie.Need-same-length-2
-same-length-2 c = search rules
+shape_of-base-then-is_applied : tie.Need-shape_of-base-then-is_applied
+shape_of-base-then-is_applied c = search rules
 
-returns-2 : tie.Need-returns-2
-returns-2 c =
-    let y = both_1 c.before.before.before.before in
-    kept_refused (aim_1 c.before.before.before.before).sound (stops (left_1 c.before.before.before.before)
-    (sym (same_applied y c.before.before.is-applied.ensures) ∙ c.before.if2.true)) c.refused2.ensures
+returns-then-is_applied : tie.Need-returns-then-is_applied
+returns-then-is_applied c =
+    let y = both_1 c.before.before.before in
+    kept_refused (aim_1 c.before.before.before).sound (stops (left_1 c.before.before.before)
+    (sym (same_applied y c.is_applied.ensures) ∙ c.if-is_applied.true)) c.refused-then-is_applied.ensures
 
-application-count-requires : tie.Need-application-count-requires
-application-count-requires c κs = sound_long (aim_1 c.before.before.before.before).sound
+application_count-requires : tie.Need-application_count-requires
+application_count-requires c κs = sound_long (aim_1 c.before.before).sound
 
-refused-requires-3 : tie.Need-refused-requires-3
-refused-requires-3 c κs = search rules
+refused-requires-then-application_count-ge-APPLICATIONS : tie.Need-refused-requires-then-application_count-ge-APPLICATIONS
+refused-requires-then-application_count-ge-APPLICATIONS c κs = search rules
 
-same-length-3 : tie.Need-same-length-3
-same-length-3 c = search rules
+shape_of-base-then-application_count-ge-APPLICATIONS : tie.Need-shape_of-base-then-application_count-ge-APPLICATIONS
+shape_of-base-then-application_count-ge-APPLICATIONS c = search rules
 
-returns-3 : tie.Need-returns-3
-returns-3 c = kept_refused (aim_1 c.before.before.before.before.before.before.before).sound
-    (stops (left_2 c.before.before.before.before) (full _ c.before.before.application_count.ensures c.before.if3.true))
-    c.refused3.ensures
+returns-then-application_count-ge-APPLICATIONS : tie.Need-returns-then-application_count-ge-APPLICATIONS
+returns-then-application_count-ge-APPLICATIONS c = kept_refused (aim_1 c.before.before.before.before.before).sound
+    (stops (left_2 c.before.before.before) (full _ c.application_count.ensures c.if-application_count-ge-APPLICATIONS.true))
+    c.refused-then-application_count-ge-APPLICATIONS.ensures
 
-put-application-requires : tie.Need-put-application-requires
-put-application-requires c κs =
-    let first = c.before.before.before.before.before.before.before in
+put_application-requires : tie.Need-put_application-requires
+put_application-requires c κs =
+    let first = c.before.before.before.before.before in
     let aim = aim_1 first in
     let y = both_1 first in (
       sound_stored aim.sound,
       (
         (aim.outside, (omega (arith, aim.below), (omega (arith, y.two.below), omega (arith, y.one.below)))),
         (
-          room_left _ c.before.before.application_count.ensures c.before.if3.false,
-          sym c.before.before.before.before.before.is-applied.ensures ∙ c.before.before.before.before.if2.false,
+          room_left _ c.application_count.ensures c.if-application_count-ge-APPLICATIONS.false,
+          sym c.is_applied.ensures ∙ c.if-is_applied.false,
         ),
       ),
     )
@@ -107,33 +107,33 @@ put-application-requires c κs =
 done-requires : tie.Need-done-requires
 done-requires c κs = search rules
 
-same-length-4 : tie.Need-same-length-4
-same-length-4 c = search rules
+shape_of-base : tie.Need-shape_of-base
+shape_of-base c = search rules
 
-returns-4 : tie.Need-returns-4
-returns-4 c =
-    let first = c.before.before.before.before.before.before.before.before.before.before.before in
+returns : tie.Need-returns
+returns c =
+    let first = c.before.before.before.before.before.before.before.before.before in
     kept_done (aim_1 first).sound (ends (left_3 c.before.before.before.before.before)) c.done.ensures
-    (put_down (both_1 first) c.before.before.before.put-application.ensures)
+    (put_down (both_1 first) c.put_application.ensures)
 
-pub apply-spec : {M : Type 1} → statement M
-apply-spec =
+pub apply_spec : {M : Type 1} → statement M
+apply_spec =
     tie.close
     (tie.spec
-    aimed-two-requires
-    tested-requires
+    aimed_two-no-requires
+    tested-asked-requires
     refused-requires
-    same_length
-    returns
-    is-applied-requires
-    refused-requires-2
-    same-length-2
-    returns-2
-    application-count-requires
-    refused-requires-3
-    same-length-3
-    returns-3
-    put-application-requires
+    shape_of-base-then-asked-ne0
+    returns-then-asked-ne0
+    is_applied-requires
+    refused-requires-then-is_applied
+    shape_of-base-then-is_applied
+    returns-then-is_applied
+    application_count-requires
+    refused-requires-then-application_count-ge-APPLICATIONS
+    shape_of-base-then-application_count-ge-APPLICATIONS
+    returns-then-application_count-ge-APPLICATIONS
+    put_application-requires
     done-requires
-    same-length-4
-    returns-4)
+    shape_of-base
+    returns)

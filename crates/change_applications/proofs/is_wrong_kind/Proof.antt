@@ -4,29 +4,29 @@ use Rattle.change_applications.proofs.ApplyLaws.{wrong_attribute, right_object, 
 use Rattle.change_applications.proofs.is_wrong_kind.Statement.{statement}
 use Rattle.change_applications.proofs.is_wrong_kind.Tie as tie
 
-is-kind-requires : tie.Need-is-kind-requires
-is-kind-requires c κs = (c.before.requires, (omega arith, omega arith))
+is_kind-requires : tie.Need-is_kind-requires
+is_kind-requires c κs = (c.requires, (omega arith, omega arith))
+
+returns-then-not-is_kind : tie.Need-returns-then-not-is_kind
+returns-then-not-is_kind c = let x = c.args in wrong_attribute x.base.now x.a x.t c.is_kind.ensures c.if-not-is_kind.true-raw
+
+is_kind-requires-2 : tie.Need-is_kind-requires-2
+is_kind-requires-2 c κs = (c.requires, (omega arith, omega arith))
+
+returns-then-is_kind : tie.Need-returns-then-is_kind
+returns-then-is_kind c = let x = c.args in right_object x.base.now x.a x.t
+    c.is_kind.ensures c.if-not-is_kind.false-raw c.is_kind-2.ensures c.if-is_kind.true
+
+is_kind-requires-3 : tie.Need-is_kind-requires-3
+is_kind-requires-3 c κs = (c.requires, (omega arith, omega arith))
 
 returns : tie.Need-returns
-returns c = let x = c.before.before.before.args in wrong_attribute x.base.now x.a x.t c.before.is-kind.ensures c.if1.true
+returns c =
+    let x = c.args in
+    link_or_wrong x.base.now x.a x.t c.is_kind.ensures c.if-not-is_kind.false-raw
+    c.is_kind-2.ensures c.if-is_kind.false c.is_kind-3.ensures
 
-is-kind-requires-2 : tie.Need-is-kind-requires-2
-is-kind-requires-2 c κs = (c.before.before.before.requires, (omega arith, omega arith))
-
-returns-2 : tie.Need-returns-2
-returns-2 c = let x = c.before.before.before.before.before.args in right_object x.base.now x.a x.t
-    c.before.before.before.is-kind.ensures c.before.before.if1.false c.before.is-kind2.ensures c.if2.true
-
-is-kind-requires-3 : tie.Need-is-kind-requires-3
-is-kind-requires-3 c κs = (c.before.before.before.before.before.requires, (omega arith, omega arith))
-
-returns-3 : tie.Need-returns-3
-returns-3 c =
-    let x = c.before.before.before.before.before.before.args in
-    link_or_wrong x.base.now x.a x.t c.before.before.before.before.is-kind.ensures c.before.before.before.if1.false
-    c.before.before.is-kind2.ensures c.before.if2.false c.is-kind3.ensures
-
-pub is-wrong-kind-spec : {M : Type 1} → statement M
-is-wrong-kind-spec =
+pub is_wrong_kind_spec : {M : Type 1} → statement M
+is_wrong_kind_spec =
     tie.close
-    (tie.spec is-kind-requires returns is-kind-requires-2 returns-2 is-kind-requires-3 returns-3)
+    (tie.spec is_kind-requires returns-then-not-is_kind is_kind-requires-2 returns-then-is_kind is_kind-requires-3 returns)

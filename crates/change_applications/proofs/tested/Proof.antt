@@ -12,35 +12,35 @@ use Rattle.change_applications.proofs.ApplyLaws.{wrong_named}
 use Rattle.change_applications.proofs.tested.Statement.{statement}
 use Rattle.change_applications.proofs.tested.Tie as tie
 
-at_7 : (c : tie.Else1) → let x = c.before.before.before.before.before.before.args in
+at_7 : (c : tie.Else-told-ne0) → let x = c.args in
     Past x.base.now (application_refusals x.sds x.attribute.now x.to.now (schema_of x.base.now)) 7
 unfolding all
-at_7 c = come_on c.before.before.named-two.ensures.told c.if1.false refl _
+at_7 c = come_on c.named_two-told.ensures.told c.if-told-ne0.false refl _
 
-named-two-requires : tie.Need-named-two-requires
-named-two-requires c κs = c.before.before.before.requires
+named_two-told-requires : tie.Need-named_two-told-requires
+named_two-told-requires c κs = c.requires
 
-returns : tie.Need-returns
-returns c = refused_first _ c.before.before.named-two.ensures.told c.if1.true refl
+returns-then-told-ne0 : tie.Need-returns-then-told-ne0
+returns-then-told-ne0 c = refused_first _ c.named_two-told.ensures.told c.if-told-ne0.true refl
 
-is-wrong-kind-requires : tie.Need-is-wrong-kind-requires
-is-wrong-kind-requires c κs = sound_long (at_7 c).sound
+is_wrong_kind-requires : tie.Need-is_wrong_kind-requires
+is_wrong_kind-requires c κs = sound_long (at_7 c).sound
 
 refused-requires : tie.Need-refused-requires
 refused-requires c κs = search rules
 
-returns-2 : tie.Need-returns-2
-returns-2 c =
+returns-then-is_wrong_kind : tie.Need-returns-then-is_wrong_kind
+returns-then-is_wrong_kind c =
     let first = c.before.before.before in
     refused_here (at_7 first)
-    (wrong_named (first.before.before.named-two.ensures.so first.if1.false) c.before.before.is-wrong-kind.ensures ∙ c.before.if2.true)
+    (wrong_named (first.named_two-told.ensures.so first.if-told-ne0.false) c.is_wrong_kind.ensures ∙ c.if-is_wrong_kind.true)
     c.refused.ensures (omega arith)
 
-returns-3 : tie.Need-returns-3
-returns-3 c =
+returns : tie.Need-returns
+returns c =
     let first = c.before.before in
-    let both = first.before.before.named-two.ensures.so first.if1.false in
-    passed_as first.if1.false (come_through (come_next (at_7 first) (wrong_named both c.before.is-wrong-kind.ensures ∙ c.if2.false))) both
+    let both = first.named_two-told.ensures.so first.if-told-ne0.false in
+    passed_as first.if-told-ne0.false (come_through (come_next (at_7 first) (wrong_named both c.is_wrong_kind.ensures ∙ c.if-is_wrong_kind.false))) both
 
-pub tested-spec : {M : Type 1} → statement M
-tested-spec = tie.close (tie.spec named-two-requires returns is-wrong-kind-requires refused-requires returns-2 returns-3)
+pub tested_spec : {M : Type 1} → statement M
+tested_spec = tie.close (tie.spec named_two-told-requires returns-then-told-ne0 is_wrong_kind-requires refused-requires returns-then-is_wrong_kind returns)

@@ -26,95 +26,95 @@ abbrev Ways : List ℕ → ℕ → Name → Name → ℕ → Type 0
 Ways b d a n k =
     let s = schema_of b in Left (unapply d a n s) (drop k (unapply_rest d a n s)) (done 0 0 0 (less_application d (type_named s d n) (type_named s d a) s))
 
-aim_1 : (c : tie.Else1) → let x = c.before.before.before.before.before.before.before.before.before.args in Aimed x.base.now x.sds
-aim_1 c = aimed_well _ c.before.before.tested.ensures.told c.if1.false
+aim_1 : (c : tie.Else-asked-ne0) → let x = c.args in Aimed x.base.now x.sds
+aim_1 c = aimed_well _ c.tested-asked.ensures.told c.if-asked-ne0.false
 
-both_1 : (c : tie.Else1) → let x = c.before.before.before.before.before.before.before.before.before.args in
-    let told = c.before.before.tested.result in Both x.base.now x.sds x.attribute.now x.to.now told.one told.two
-both_1 c = c.before.before.tested.ensures.so c.if1.false
+both_1 : (c : tie.Else-asked-ne0) → let x = c.args in
+    let told = c.tested-asked.result in Both x.base.now x.sds x.attribute.now x.to.now told.one told.two
+both_1 c = c.tested-asked.ensures.so c.if-asked-ne0.false
 
-left_1 : (c : tie.Else1) → let x = c.before.before.before.before.before.before.before.before.before.args in
+left_1 : (c : tie.Else-asked-ne0) → let x = c.args in
     Ways x.base.now x.sds x.attribute.now x.to.now 0
 unfolding all
-left_1 c = begun_passes _ c.before.before.tested.ensures.told c.if1.false refl (unapply_left _ _ _ _)
+left_1 c = begun_passes _ c.tested-asked.ensures.told c.if-asked-ne0.false refl (unapply_left _ _ _ _)
 
-left_2 : (c : tie.Else2) → let x = c.before.before.before.before.before.before.before.before.before.before.before.before.before.before.args in
+left_2 : (c : tie.Else-application_count-row) → let x = c.args in
     Ways x.base.now x.sds x.attribute.now x.to.now 1
-left_2 c = passes (left_1 c.before.before.before.before.before)
-    (row_some (both_1 c.before.before.before.before.before) c.before.before.before.application_row.ensures
-    c.before.application_count.ensures c.if2.false)
+left_2 c = passes (left_1 c.before.before.before)
+    (row_some (both_1 c.before.before.before) c.application_row-row.ensures
+    c.application_count.ensures c.if-application_count-row.false)
 
-there_2 : (c : tie.Else2) → c.before.before.before.application_row.result < application_count
-    c.before.before.before.before.before.before.before.before.before.before.before.before.before.before.args.base.now
-there_2 c = omega (arith, c.before.application_count.ensures.is, c.if2.false)
+there_2 : (c : tie.Else-application_count-row) → c.application_row-row.result < application_count
+    c.args.base.now
+there_2 c = omega (arith, c.application_count.ensures.is, c.if-application_count-row.false)
 
-aimed-two-requires : tie.Need-aimed-two-requires
-aimed-two-requires c κs = search rules
+aimed_two-no-requires : tie.Need-aimed_two-no-requires
+aimed_two-no-requires c κs = search rules
 
-tested-requires : tie.Need-tested-requires
-tested-requires c κs = c.before.aimed-two.ensures
+tested-asked-requires : tie.Need-tested-asked-requires
+tested-asked-requires c κs = c.aimed_two-no.ensures
 
 refused-requires : tie.Need-refused-requires
 refused-requires c κs = search rules
 
-same_length : tie.Need-same-length
-same_length c = search rules
+shape_of-base-then-asked-ne0 : tie.Need-shape_of-base-then-asked-ne0
+shape_of-base-then-asked-ne0 c = search rules
 
-returns : tie.Need-returns
-returns c = begun_stops _ c.before.before.before.tested.ensures.told c.before.if1.true (unapply_left _ _ _ _) c.refused.ensures
+returns-then-asked-ne0 : tie.Need-returns-then-asked-ne0
+returns-then-asked-ne0 c = begun_stops _ c.tested-asked.ensures.told c.if-asked-ne0.true (unapply_left _ _ _ _) c.refused.ensures
 
-application-row-requires : tie.Need-application-row-requires
-application-row-requires c κs = sound_long (aim_1 c.before).sound
+application_row-row-requires : tie.Need-application_row-row-requires
+application_row-row-requires c κs = sound_long (aim_1 c).sound
 
-application-count-requires : tie.Need-application-count-requires
-application-count-requires c κs = sound_long (aim_1 c.before.before.before).sound
+application_count-requires : tie.Need-application_count-requires
+application_count-requires c κs = sound_long (aim_1 c.before).sound
 
-refused-requires-2 : tie.Need-refused-requires-2
-refused-requires-2 c κs = search rules
+refused-requires-then-application_count-row : tie.Need-refused-requires-then-application_count-row
+refused-requires-then-application_count-row c κs = search rules
 
-same-length-2 : tie.Need-same-length-2
-same-length-2 c = search rules
+shape_of-base-then-application_count-row : tie.Need-shape_of-base-then-application_count-row
+shape_of-base-then-application_count-row c = search rules
 
-returns-2 : tie.Need-returns-2
-returns-2 c =
-    let y = both_1 c.before.before.before.before.before.before in
-    kept_refused (aim_1 c.before.before.before.before.before.before).sound (stops (left_1 c.before.before.before.before.before.before)
-    (row_none y c.before.before.before.before.application_row.ensures c.before.before.application_count.ensures
-    c.before.if2.true))
-    c.refused2.ensures
+returns-then-application_count-row : tie.Need-returns-then-application_count-row
+returns-then-application_count-row c =
+    let y = both_1 c.before.before.before.before in
+    kept_refused (aim_1 c.before.before.before.before).sound (stops (left_1 c.before.before.before.before)
+    (row_none y c.application_row-row.ensures c.application_count.ensures
+    c.if-application_count-row.true))
+    c.refused-then-application_count-row.ensures
 
-take-application-requires : tie.Need-take-application-requires
-take-application-requires c κs = (sound_stored (aim_1 c.before.before.before.before.before.before).sound, there_2 c.before)
+take_application-requires : tie.Need-take_application-requires
+take_application-requires c κs = (sound_stored (aim_1 c.before.before.before.before).sound, there_2 c.before)
 
 done-requires : tie.Need-done-requires
 done-requires c κs = search rules
 
-same-length-3 : tie.Need-same-length-3
-same-length-3 c = search rules
+shape_of-base : tie.Need-shape_of-base
+shape_of-base c = search rules
 
-returns-3 : tie.Need-returns-3
-returns-3 c =
-    let first = c.before.before.before.before.before.before.before.before.before.before in
+returns : tie.Need-returns
+returns c =
+    let first = c.before.before.before.before.before.before.before.before in
     let sound = (aim_1 first).sound in
     kept_done sound (ends (left_2 c.before.before.before.before.before)) c.done.ensures
-    (taken_off (both_1 first) c.before.before.before.before.before.before.before.before.application_row.ensures sound
-    (there_2 c.before.before.before.before.before) c.before.before.before.take-application.ensures)
+    (taken_off (both_1 first) c.application_row-row.ensures sound
+    (there_2 c.before.before.before.before.before) c.take_application.ensures)
 
-pub unapply-spec : {M : Type 1} → statement M
-unapply-spec =
+pub unapply_spec : {M : Type 1} → statement M
+unapply_spec =
     tie.close
     (tie.spec
-    aimed-two-requires
-    tested-requires
+    aimed_two-no-requires
+    tested-asked-requires
     refused-requires
-    same_length
-    returns
-    application-row-requires
-    application-count-requires
-    refused-requires-2
-    same-length-2
-    returns-2
-    take-application-requires
+    shape_of-base-then-asked-ne0
+    returns-then-asked-ne0
+    application_row-row-requires
+    application_count-requires
+    refused-requires-then-application_count-row
+    shape_of-base-then-application_count-row
+    returns-then-application_count-row
+    take_application-requires
     done-requires
-    same-length-3
-    returns-3)
+    shape_of-base
+    returns)

@@ -5,18 +5,18 @@ use Rattle.rules.specs.Read.{read_side}
 use Rattle.change_ends.proofs.add_destination.Statement.{statement}
 use Rattle.change_ends.proofs.add_destination.Tie as tie
 
-aimed-two-requires : tie.Need-aimed-two-requires
-aimed-two-requires c κs = search rules
+aimed_two-no-requires : tie.Need-aimed_two-no-requires
+aimed_two-no-requires c κs = search rules
 
-add-end-requires : tie.Need-add-end-requires
-add-end-requires c κs = (omega arith, c.before.aimed-two.ensures)
+add_end-requires : tie.Need-add_end-requires
+add_end-requires c κs = (omega arith, c.aimed_two-no.ensures)
 
-same_length : tie.Need-same-length
-same_length c = search rules
+shape_of-base : tie.Need-shape_of-base
+shape_of-base c = search rules
 
 returns : tie.Need-returns
 unfolding read_side
-returns c = c.before.before.add_end.ensures
+returns c = c.add_end.ensures
 
-pub add-destination-spec : {M : Type 1} → statement M
-add-destination-spec = tie.close (tie.spec aimed-two-requires add-end-requires same_length returns)
+pub add_destination_spec : {M : Type 1} → statement M
+add_destination_spec = tie.close (tie.spec aimed_two-no-requires add_end-requires shape_of-base returns)

@@ -16,83 +16,82 @@ use Rattle.change_ends.proofs.EndLaws.{room_first, room_second, second_free, add
 use Rattle.change_ends.proofs.add_end.Statement.{statement}
 use Rattle.change_ends.proofs.add_end.Tie as tie
 
-through_1 : (c : tie.Else1) → let x = c.before.before.before.before.before.before.before.args in
-    let told = c.before.before.aimed-at.result in Through x.base.now x.sds told.one told.two
-through_1 c = goes_through c.before.before.aimed-at.ensures c.if1.false
+through_1 : (c : tie.Else-aim-ne0) → let x = c.args in
+    let told = c.aimed_at-aim.result in Through x.base.now x.sds told.one told.two
+through_1 c = goes_through c.aimed_at-aim.ensures c.if-aim-ne0.false
 
-free_2 : (c : tie.Else2) → let x = c.before.before.before.before.before.before.before.before.before.before.args in
-    let told = c.before.before.before.before.before.aimed-at.result in
+free_2 : (c : tie.Else-is_end) → let x = c.args in
+    let told = c.aimed_at-aim.result in
     has_end (schema_of x.base.now) x.sds told.one (read_side x.side) told.two ≡ false
-free_2 c = sym c.before.is_end.ensures ∙ c.if2.false
+free_2 c = sym c.is_end.ensures ∙ c.if-is_end.false
 
-addable_3 : (c : tie.Else3) → let x = c.before.before.before.before.before.before.before.before.before.before.before.before.before.before.before.args in let told = c.before.before.before.before.before.before.before.before.before.before.aimed-at.result in
-    Addable x.base.now x.sds x.link.now x.object.now told.one told.two c.before.before.before.reverse-of.result
+addable_3 : (c : tie.Else-is_full) → let x = c.args in let told = c.aimed_at-aim.result in
+    Addable x.base.now x.sds x.link.now x.object.now told.one told.two c.reverse_of-reverse.result
     (read_side x.side)
 addable_3 c =
-    let first = c.before.before.before.before.before.before.before.before in
-    addable _ first.before.before.aimed-at.ensures first.if1.false (free_2 c.before.before.before.before.before)
-    c.before.before.before.reverse-of.ensures
-    (sym c.before.is-full.ensures ∙ c.if3.false)
+    addable _ c.aimed_at-aim.ensures c.if-aim-ne0.false (free_2 c.before.before.before)
+    c.reverse_of-reverse.ensures
+    (sym c.is_full.ensures ∙ c.if-is_full.false)
 
-aimed-at-requires : tie.Need-aimed-at-requires
-aimed-at-requires c κs = c.before.before.before.before.requires.1
+aimed_at-aim-requires : tie.Need-aimed_at-aim-requires
+aimed_at-aim-requires c κs = c.requires.1
 
 refused-requires : tie.Need-refused-requires
 refused-requires c κs = search rules
 
-same_length : tie.Need-same-length
-same_length c = search rules
+shape_of-base-then-aim-ne0 : tie.Need-shape_of-base-then-aim-ne0
+shape_of-base-then-aim-ne0 c = search rules
 
-returns : tie.Need-returns
-returns c = begun_stops _ c.before.before.before.aimed-at.ensures.told c.before.if1.true (add_left _ _ _ _ _) c.refused.ensures
+returns-then-aim-ne0 : tie.Need-returns-then-aim-ne0
+returns-then-aim-ne0 c = begun_stops _ c.aimed_at-aim.ensures.told c.if-aim-ne0.true (add_left _ _ _ _ _) c.refused.ensures
 
-is-end-requires : tie.Need-is-end-requires
-is-end-requires c κs =
-    let first = c.before in
+is_end-requires : tie.Need-is_end-requires
+is_end-requires c κs =
+    let first = c in
     let th = through_1 first in (
       th.sound,
       (
         omega (arith, th.below),
         (
           omega (arith, th.link_below),
-          (first.before.before.before.before.before.before.before.requires.0, omega (arith, th.object_below)),
+          (first.requires.0, omega (arith, th.object_below)),
         ),
       ),
     )
 
-refused-requires-2 : tie.Need-refused-requires-2
-refused-requires-2 c κs = search rules
+refused-requires-then-is_end : tie.Need-refused-requires-then-is_end
+refused-requires-then-is_end c κs = search rules
 
-same-length-2 : tie.Need-same-length-2
-same-length-2 c = search rules
+shape_of-base-then-is_end : tie.Need-shape_of-base-then-is_end
+shape_of-base-then-is_end c = search rules
 
-returns-2 : tie.Need-returns-2
-returns-2 c =
-    let first = c.before.before.before.before in
-    kept_refused (through_1 first).sound (stops (add_tests first.before.before.aimed-at.ensures first.if1.false _)
-    (sym c.before.before.is_end.ensures ∙ c.before.if2.true)) c.refused2.ensures
+returns-then-is_end : tie.Need-returns-then-is_end
+returns-then-is_end c =
+    let first = c.before.before.before in
+    kept_refused (through_1 first).sound (stops (add_tests first.aimed_at-aim.ensures first.if-aim-ne0.false _)
+    (sym c.is_end.ensures ∙ c.if-is_end.true)) c.refused-then-is_end.ensures
 
-reverse-of-requires : tie.Need-reverse-of-requires
-reverse-of-requires c κs = let th = through_1 c.before.before.before.before in (th.sound, th.link_below)
+reverse_of-reverse-requires : tie.Need-reverse_of-reverse-requires
+reverse_of-reverse-requires c κs = let th = through_1 c.before.before in (th.sound, th.link_below)
 
-is-full-requires : tie.Need-is-full-requires
-is-full-requires c κs = sound_long (through_1 c.before.before.before.before.before.before).sound
+is_full-requires : tie.Need-is_full-requires
+is_full-requires c κs = sound_long (through_1 c.before.before.before).sound
 
-refused-requires-3 : tie.Need-refused-requires-3
-refused-requires-3 c κs = search rules
+refused-requires-then-is_full : tie.Need-refused-requires-then-is_full
+refused-requires-then-is_full c κs = search rules
 
-same-length-3 : tie.Need-same-length-3
-same-length-3 c = search rules
+shape_of-base-then-is_full : tie.Need-shape_of-base-then-is_full
+shape_of-base-then-is_full c = search rules
 
-returns-3 : tie.Need-returns-3
-returns-3 c =
-    let first = c.before.before.before.before.before.before.before.before.before in
-    kept_refused (through_1 first).sound (add_full _ first.before.before.aimed-at.ensures first.if1.false
-    (free_2 c.before.before.before.before.before.before)
-    c.before.before.before.before.reverse-of.ensures (sym c.before.before.is-full.ensures ∙ c.before.if3.true)) c.refused3.ensures
+returns-then-is_full : tie.Need-returns-then-is_full
+returns-then-is_full c =
+    let first = c.before.before.before.before.before.before in
+    kept_refused (through_1 first).sound (add_full _ first.aimed_at-aim.ensures first.if-aim-ne0.false
+    (free_2 c.before.before.before.before)
+    c.reverse_of-reverse.ensures (sym c.is_full.ensures ∙ c.if-is_full.true)) c.refused-then-is_full.ensures
 
-put-end-requires : tie.Need-put-end-requires
-put-end-requires c κs =
+put_end-requires : tie.Need-put_end-requires
+put_end-requires c κs =
     let past = c.before in
     let x = addable_3 past in
     let th = x.through in (
@@ -105,7 +104,7 @@ put-end-requires c κs =
             (
               omega (arith, th.link_below),
               (
-                past.before.before.before.before.before.before.before.before.before.before.before.before.before.before.before.requires.0,
+                past.requires.0,
                 omega (arith, th.object_below),
               ),
             ),
@@ -118,32 +117,32 @@ put-end-requires c κs =
 done-requires : tie.Need-done-requires
 done-requires c κs = search rules
 
-same-length-4 : tie.Need-same-length-4
-same-length-4 c = search rules
+shape_of-base-then-reverse-eq-TYPES : tie.Need-shape_of-base-then-reverse-eq-TYPES
+shape_of-base-then-reverse-eq-TYPES c = search rules
 
-returns-4 : tie.Need-returns-4
-returns-4 c =
+returns-then-reverse-eq-TYPES : tie.Need-returns-then-reverse-eq-TYPES
+returns-then-reverse-eq-TYPES c =
     let x = addable_3 c.before.before.before.before.before.before in
     kept_done x.through.sound x.rule c.done.ensures
-    (added_one _ x.reversed x.room _ _ _ c.before.before.before.before.put-end.ensures c.before.if4.true)
+    (added_one _ x.reversed x.room _ _ _ c.put_end.ensures c.if-reverse-eq-TYPES.true)
 
-sub-put-end : tie.Need-overflow-sub-put-end
-sub-put-end c = search rules
+overflow_sub-side : tie.Need-overflow_sub-side
+overflow_sub-side c = search rules
 
-put-end-requires-2 : tie.Need-put-end-requires-2
-put-end-requires-2 c κs =
+put_end-requires-2 : tie.Need-put_end-requires-2
+put_end-requires-2 c κs =
     let past = c.before.before.before.before.before.before in
     let x = addable_3 past in
     let th = x.through in
-    let out = c.before.before.before.before.put-end.ensures in
-    let below : past.before.before.before.reverse-of.result < 128 = omega (arith, x.reversed.fits, c.before.if4.false) in (
+    let out = c.put_end.ensures in
+    let below : past.reverse_of-reverse.result < 128 = omega (arith, x.reversed.fits, c.if-reverse-eq-TYPES.false) in (
       shows_stored out,
       (
         (th.outside, (omega (arith, th.below), (omega (arith, x.reversed.fits), (omega arith, omega (arith, th.object_below))))),
         (
           room_second _ x.reversed x.room _ _ _ out below,
           second_free _ x.reversed x.room _ _ _
-              past.before.before.before.before.before.before.before.before.before.before.before.before.before.before.before.requires.0 out below
+              past.requires.0 out below
               th.sound x.free,
         ),
       ),
@@ -152,42 +151,42 @@ put-end-requires-2 c κs =
 done-requires-2 : tie.Need-done-requires-2
 done-requires-2 c κs = search rules
 
-same-length-5 : tie.Need-same-length-5
-same-length-5 c = search rules
+shape_of-base : tie.Need-shape_of-base
+shape_of-base c = search rules
 
-returns-5 : tie.Need-returns-5
-returns-5 c =
+returns : tie.Need-returns
+returns c =
     let past = c.before.before.before.before.before.before.before.before.before.before in
     let x = addable_3 past in
-    kept_done x.through.sound x.rule c.done2.ensures
+    kept_done x.through.sound x.rule c.done-2.ensures
     (added_both _ x.reversed x.room _ _ _
-    past.before.before.before.before.before.before.before.before.before.before.before.before.before.before.before.requires.0
-    c.before.before.before.before.before.before.before.before.put-end.ensures
-    (omega (arith, x.reversed.fits, c.before.before.before.before.before.if4.false)) c.before.before.before.put-end2.ensures)
+    past.requires.0
+    c.put_end.ensures
+    (omega (arith, x.reversed.fits, c.if-reverse-eq-TYPES.false)) c.put_end-2.ensures)
 
-pub add-end-spec : {M : Type 1} → statement M
-add-end-spec =
+pub add_end_spec : {M : Type 1} → statement M
+add_end_spec =
     tie.close
     (tie.spec
-    aimed-at-requires
+    aimed_at-aim-requires
     refused-requires
-    same_length
-    returns
-    is-end-requires
-    refused-requires-2
-    same-length-2
-    returns-2
-    reverse-of-requires
-    is-full-requires
-    refused-requires-3
-    same-length-3
-    returns-3
-    put-end-requires
+    shape_of-base-then-aim-ne0
+    returns-then-aim-ne0
+    is_end-requires
+    refused-requires-then-is_end
+    shape_of-base-then-is_end
+    returns-then-is_end
+    reverse_of-reverse-requires
+    is_full-requires
+    refused-requires-then-is_full
+    shape_of-base-then-is_full
+    returns-then-is_full
+    put_end-requires
     done-requires
-    same-length-4
-    returns-4
-    sub-put-end
-    put-end-requires-2
+    shape_of-base-then-reverse-eq-TYPES
+    returns-then-reverse-eq-TYPES
+    overflow_sub-side
+    put_end-requires-2
     done-requires-2
-    same-length-5
-    returns-5)
+    shape_of-base
+    returns)

@@ -4,20 +4,20 @@ use Rattle.change_ends.proofs.EndLaws.{full_two, full_one}
 use Rattle.change_ends.proofs.is_full.Statement.{statement}
 use Rattle.change_ends.proofs.is_full.Tie as tie
 
-end-count-requires : tie.Need-end-count-requires
-end-count-requires c κs = search rules
+end_count-n-requires : tie.Need-end_count-n-requires
+end_count-n-requires c κs = search rules
 
-add-result : tie.Need-overflow-add-result
-add-result c = search rules
+overflow_add-result : tie.Need-overflow_add-result
+overflow_add-result c = search rules
+
+returns-then-r-lt-TYPES : tie.Need-returns-then-r-lt-TYPES
+returns-then-r-lt-TYPES c = full_two _ c.end_count-n.ensures c.if-r-lt-TYPES.true
+
+overflow_add-result-2 : tie.Need-overflow_add-result-2
+overflow_add-result-2 c = search rules
 
 returns : tie.Need-returns
-returns c = full_two _ c.before.end_count.ensures c.if1.true
+returns c = full_one _ c.end_count-n.ensures c.if-r-lt-TYPES.false
 
-add-result-2 : tie.Need-overflow-add-result-2
-add-result-2 c = search rules
-
-returns-2 : tie.Need-returns-2
-returns-2 c = full_one _ c.before.end_count.ensures c.if1.false
-
-pub is-full-spec : {M : Type 1} → statement M
-is-full-spec = tie.close (tie.spec end-count-requires add-result returns add-result-2 returns-2)
+pub is_full_spec : {M : Type 1} → statement M
+is_full_spec = tie.close (tie.spec end_count-n-requires overflow_add-result returns-then-r-lt-TYPES overflow_add-result-2 returns)

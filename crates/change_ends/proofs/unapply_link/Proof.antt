@@ -5,18 +5,18 @@ use Rattle.rules.specs.Read.{read_side}
 use Rattle.change_ends.proofs.unapply_link.Statement.{statement}
 use Rattle.change_ends.proofs.unapply_link.Tie as tie
 
-aimed-two-requires : tie.Need-aimed-two-requires
-aimed-two-requires c κs = search rules
+aimed_two-no-requires : tie.Need-aimed_two-no-requires
+aimed_two-no-requires c κs = search rules
 
-remove-end-requires : tie.Need-remove-end-requires
-remove-end-requires c κs = (omega arith, c.before.aimed-two.ensures)
+remove_end-requires : tie.Need-remove_end-requires
+remove_end-requires c κs = (omega arith, c.aimed_two-no.ensures)
 
-same_length : tie.Need-same-length
-same_length c = search rules
+shape_of-base : tie.Need-shape_of-base
+shape_of-base c = search rules
 
 returns : tie.Need-returns
 unfolding read_side
-returns c = c.before.before.remove_end.ensures
+returns c = c.remove_end.ensures
 
-pub unapply-link-spec : {M : Type 1} → statement M
-unapply-link-spec = tie.close (tie.spec aimed-two-requires remove-end-requires same_length returns)
+pub unapply_link_spec : {M : Type 1} → statement M
+unapply_link_spec = tie.close (tie.spec aimed_two-no-requires remove_end-requires shape_of-base returns)

@@ -23,65 +23,65 @@ use Rattle.change_imports.proofs.enter_one.Statement.{statement}
 use Rattle.change_imports.proofs.enter_one.Tie as tie
 
 -- from where there is room to where the name is free, and from there to the start
-abbrev to_free : tie.Else2 → tie.Else1
-to_free c = c.before.before.before.before
+abbrev to_free : tie.Else-presence_count-count-gt-PRESENCES → tie.Else-type_in-ne-TYPES
+to_free c = c.before.before.before
 
-abbrev to_start : tie.Else1 → tie.Start
-to_start c = c.before.before.before.before.before
+abbrev to_start : tie.Else-type_in-ne-TYPES → tie.Start
+to_start c = c.before.before.before.before
 
-free_1 : (c : tie.Else1) → let x = (to_start c).args in bears (schema_of x.base.now) x.d x.name.now ≡ false
-free_1 c = not_borne c.before.type_in.ensures c.if1.false
+free_1 : (c : tie.Else-type_in-ne-TYPES) → let x = (to_start c).args in bears (schema_of x.base.now) x.d x.name.now ≡ false
+free_1 c = not_borne c.type_in.ensures c.if-type_in-ne-TYPES.false
 
-fits_2 : (c : tie.Else2) → let x = (to_start (to_free c)).args in presence_count x.base.now + 1 + length (members (has x.above)) ≤ 512
-fits_2 c = let h = c.if2.false in omega (arith, c.before.count.ensures, c.before.before.presence_count.ensures.is)
+fits_2 : (c : tie.Else-presence_count-count-gt-PRESENCES) → let x = (to_start (to_free c)).args in presence_count x.base.now + 1 + length (members (has x.above)) ≤ 512
+fits_2 c = let h = c.if-presence_count-count-gt-PRESENCES.false in omega (arith, c.count.ensures, c.presence_count.ensures.is)
 
-type-in-requires : tie.Need-type-in-requires
-type-in-requires c κs = c.before.before.before.requires.0
+type_in-requires : tie.Need-type_in-requires
+type_in-requires c κs = c.requires.0
 
 refused-requires : tie.Need-refused-requires
 refused-requires c κs = search rules
 
-same_length : tie.Need-same-length
-same_length c = search rules
+shape_of-base-then-type_in-ne-TYPES : tie.Need-shape_of-base-then-type_in-ne-TYPES
+shape_of-base-then-type_in-ne-TYPES c = search rules
 
-returns : tie.Need-returns
-returns c = kept_refused c.before.before.before.before.before.before.requires.0
-    (stops (enter_left _ _ _ _ _ _) (one_taken _ _ _ (borne c.before.before.type_in.ensures c.before.if1.true))) c.refused.ensures
+returns-then-type_in-ne-TYPES : tie.Need-returns-then-type_in-ne-TYPES
+returns-then-type_in-ne-TYPES c = kept_refused c.requires.0
+    (stops (enter_left _ _ _ _ _ _) (one_taken _ _ _ (borne c.type_in.ensures c.if-type_in-ne-TYPES.true))) c.refused.ensures
 
-presence-count-requires : tie.Need-presence-count-requires
-presence-count-requires c κs = sound_long c.before.before.before.before.before.before.requires.0
+presence_count-requires : tie.Need-presence_count-requires
+presence_count-requires c κs = sound_long c.requires.0
 
-add-if2 : tie.Need-overflow-add-if2
-add-if2 c = search rules
+overflow_add-presence_count : tie.Need-overflow_add-presence_count
+overflow_add-presence_count c = search rules
 
 count-requires : tie.Need-count-requires
 count-requires c κs = tt
 
-add-if2-2 : tie.Need-overflow-add-if2-2
-add-if2-2 c = omega (arith, c.count.ensures, members_most (has (to_start c.before.before.before).args.above), c.before.presence_count.ensures.fits)
+overflow_add-presence_count-2 : tie.Need-overflow_add-presence_count-2
+overflow_add-presence_count-2 c = omega (arith, c.count.ensures, members_most (has (to_start c.before.before).args.above), c.presence_count.ensures.fits)
 
-refused-requires-2 : tie.Need-refused-requires-2
-refused-requires-2 c κs = search rules
+refused-requires-then-presence_count-count-gt-PRESENCES : tie.Need-refused-requires-then-presence_count-count-gt-PRESENCES
+refused-requires-then-presence_count-count-gt-PRESENCES c κs = search rules
 
-same-length-2 : tie.Need-same-length-2
-same-length-2 c = search rules
+shape_of-base-then-presence_count-count-gt-PRESENCES : tie.Need-shape_of-base-then-presence_count-count-gt-PRESENCES
+shape_of-base-then-presence_count-count-gt-PRESENCES c = search rules
 
-returns-2 : tie.Need-returns-2
-returns-2 c =
-    let free = c.before.before.before.before.before in
+returns-then-presence_count-count-gt-PRESENCES : tie.Need-returns-then-presence_count-count-gt-PRESENCES
+returns-then-presence_count-count-gt-PRESENCES c =
+    let free = c.before.before.before.before in
     let x = to_start free in
     let many = length-map (members (has x.args.above)) (nameless x.args.d) in
-    let h = c.before.if2.true in
-    kept_refused x.pre.0
+    let h = c.if-presence_count-count-gt-PRESENCES.true in
+    kept_refused x.requires.0
     (stops (passes (enter_left _ _ _ _ _ _) (one_free _ _ _ (free_1 free)))
-    (no_room _ _ (omega (arith, many, c.before.before.count.ensures, c.before.before.before.presence_count.ensures.is)))) c.refused2.ensures
+    (no_room _ _ (omega (arith, many, c.count.ensures, c.presence_count.ensures.is)))) c.refused-then-presence_count-count-gt-PRESENCES.ensures
 
-put-presence-requires : tie.Need-put-presence-requires
-put-presence-requires c κs =
+put_presence-requires : tie.Need-put_presence-requires
+put_presence-requires c κs =
     let free = to_free c.before in
     let x = to_start free in
-    let it = x.pre.1.0 in (
-      sound_stored x.pre.0,
+    let it = x.requires.1.0 in (
+      sound_stored x.requires.0,
       (
         (it.outside, (omega (arith, it.small), omega (arith, it.below))),
         (it.formed, (omega (arith, fits_2 c.before, presences_long x.args.base.now), free_1 free)),
@@ -92,42 +92,42 @@ bring-requires : tie.Need-bring-requires
 bring-requires c κs =
     let room = c.before.before.before.before.before in
     let x = to_start (to_free room) in
-    let it = x.pre.1.0 in
-    let out = c.before.before.before.put-presence.ensures in
-    ((shows_stored out, (it.outside, it.small)), lacking _ _ _ _ out (sound_good x.pre.0) _ x.pre.1.1 (fits_2 room))
+    let it = x.requires.1.0 in
+    let out = c.put_presence.ensures in
+    ((shows_stored out, (it.outside, it.small)), lacking _ _ _ _ out (sound_good x.requires.0) _ x.requires.1.1 (fits_2 room))
 
 done-requires : tie.Need-done-requires
 done-requires c κs = search rules
 
-same-length-3 : tie.Need-same-length-3
-same-length-3 c = search rules
+shape_of-base : tie.Need-shape_of-base
+shape_of-base c = search rules
 
-returns-3 : tie.Need-returns-3
-returns-3 c =
+returns : tie.Need-returns
+returns c =
     let room = c.before.before.before.before.before.before.before.before.before in
     let x = to_start (to_free room) in
     let many = length-map (members (has x.args.above)) (nameless x.args.d) in
-    kept_done x.pre.0
+    kept_done x.requires.0
     (ends (passes (passes (enter_left _ _ _ _ _ _) (one_free _ _ _ (free_1 (to_free room)))) (some_room _ _ (omega (arith, many, fits_2 room)))))
-    c.done.ensures (entered_one _ _ _ _ c.before.before.before.before.before.before.before.put-presence.ensures _ c.before.before.before.bring.ensures)
+    c.done.ensures (entered_one _ _ _ _ c.put_presence.ensures _ c.bring.ensures)
 
-pub enter-one-spec : {M : Type 1} → statement M
-enter-one-spec =
+pub enter_one_spec : {M : Type 1} → statement M
+enter_one_spec =
     tie.close
     (tie.spec
-    type-in-requires
+    type_in-requires
     refused-requires
-    same_length
-    returns
-    presence-count-requires
-    add-if2
+    shape_of-base-then-type_in-ne-TYPES
+    returns-then-type_in-ne-TYPES
+    presence_count-requires
+    overflow_add-presence_count
     count-requires
-    add-if2-2
-    refused-requires-2
-    same-length-2
-    returns-2
-    put-presence-requires
+    overflow_add-presence_count-2
+    refused-requires-then-presence_count-count-gt-PRESENCES
+    shape_of-base-then-presence_count-count-gt-PRESENCES
+    returns-then-presence_count-count-gt-PRESENCES
+    put_presence-requires
     bring-requires
     done-requires
-    same-length-3
-    returns-3)
+    shape_of-base
+    returns)

@@ -6,51 +6,47 @@ use Rattle.change_imports.proofs.ImportLaws.{given_long, given_filled, row_room,
 use Rattle.change_imports.proofs.filled.Statement.{statement}
 use Rattle.change_imports.proofs.filled.Tie as tie
 
-presence-row-requires : tie.Need-presence-row-requires
-presence-row-requires c κs = sound_long c.before.before.before.requires.0
+presence_row-row-requires : tie.Need-presence_row-row-requires
+presence_row-row-requires c κs = sound_long c.requires.0
 
-slice-aggregate-write : tie.Need-slice-aggregate-write
-slice-aggregate-write c = search rules
+slice_bounds-write-end : tie.Need-slice_bounds-write-end
+slice_bounds-write-end c = search rules
 
-presence-field-requires : tie.Need-presence-field-requires
-presence-field-requires c κs =
-    let x = c.before.before.before.before.before in
-    (sound_long x.requires.0, row_room c.before.presence_row.ensures x.requires.0 x.requires.1.0)
+presence_field-requires : tie.Need-presence_field-requires
+presence_field-requires c κs =
+    (sound_long c.requires.0, row_room c.presence_row-row.ensures c.requires.0 c.requires.1.0)
 
 write-requires : tie.Need-write-requires
 write-requires c κs =
-    let x = c.before.before.before.before.before.before in
-    let h = own_long c.before.before.presence_row.ensures x.requires.0 x.requires.1.0 c.presence-field.ensures in
+    let h = own_long c.presence_row-row.ensures c.requires.0 c.requires.1.0 c.presence_field.ensures in
     omega arith
 
-returns : tie.Need-returns
-returns c =
-    let x = c.before.before.before.before.before.before.before.before in
-    own_filled c.before.before.before.before.presence_row.ensures x.requires.0 x.requires.1.0 x.args.new.now
-    c.before.before.before.before.before.if1.true c.before.before.presence-field.ensures
-    c.before.write.ensures
+returns-then-new-eq0 : tie.Need-returns-then-new-eq0
+returns-then-new-eq0 c =
+    own_filled c.presence_row-row.ensures c.requires.0 c.requires.1.0 c.args.new.now
+    c.if-new-eq0.true c.presence_field.ensures
+    c.write.ensures
 
-slice-aggregate-write-2 : tie.Need-slice-aggregate-write-2
-slice-aggregate-write-2 c = search rules
+slice_bounds-write-end-2 : tie.Need-slice_bounds-write-end-2
+slice_bounds-write-end-2 c = search rules
 
 write-requires-2 : tie.Need-write-requires-2
 write-requires-2 c κs =
-    let h = given_long c.before.before.before.before.args.new.now c.before.before.before.before.requires.1.1 c.before.if1.false in omega arith
+    let h = given_long c.args.new.now c.requires.1.1 c.if-new-eq0.false in omega arith
 
-returns-2 : tie.Need-returns-2
-returns-2 c =
-    let x = c.before.before.before.before.before.before in
-    given_filled _ _ _ x.args.new.now _ x.requires.1.1 c.before.before.before.if1.false c.before.write2.ensures
+returns : tie.Need-returns
+returns c =
+    given_filled _ _ _ c.args.new.now _ c.requires.1.1 c.if-new-eq0.false c.write-2.ensures
 
-pub filled-spec : {M : Type 1} → statement M
-filled-spec =
+pub filled_spec : {M : Type 1} → statement M
+filled_spec =
     tie.close
     (tie.spec
-    presence-row-requires
-    slice-aggregate-write
-    presence-field-requires
+    presence_row-row-requires
+    slice_bounds-write-end
+    presence_field-requires
     write-requires
-    returns
-    slice-aggregate-write-2
+    returns-then-new-eq0
+    slice_bounds-write-end-2
     write-requires-2
-    returns-2)
+    returns)

@@ -3,11 +3,11 @@ use Rattle.change_imports.proofs.ImportLaws.{blank_idle, given_idle}
 use Rattle.change_imports.proofs.is_idle.Statement.{statement}
 use Rattle.change_imports.proofs.is_idle.Tie as tie
 
+returns-then-name-eq0 : tie.Need-returns-then-name-eq0
+returns-then-name-eq0 c = blank_idle c.args.name.now _ c.if-name-eq0.true
+
 returns : tie.Need-returns
-returns c = blank_idle c.before.args.name.now _ c.if1.true
+returns c = given_idle c.args.name.now c.args.reverse c.if-name-eq0.false
 
-returns-2 : tie.Need-returns-2
-returns-2 c = given_idle c.before.args.name.now c.before.args.reverse c.if1.false
-
-pub is-idle-spec : {M : Type 1} → statement M
-is-idle-spec = tie.close (tie.spec returns returns-2)
+pub is_idle_spec : {M : Type 1} → statement M
+is_idle_spec = tie.close (tie.spec returns-then-name-eq0 returns)

@@ -4,14 +4,14 @@ use Rattle.change_imports.proofs.ImportLaws.{blank_fine, given_tested}
 use Rattle.change_imports.proofs.is_malformed_new.Statement.{statement}
 use Rattle.change_imports.proofs.is_malformed_new.Tie as tie
 
+returns-then-name-eq0 : tie.Need-returns-then-name-eq0
+returns-then-name-eq0 c = blank_fine _ c.if-name-eq0.true
+
+is_well_formed-requires : tie.Need-is_well_formed-requires
+is_well_formed-requires c κs = search rules
+
 returns : tie.Need-returns
-returns c = blank_fine _ c.if1.true
+returns c = given_tested _ c.if-name-eq0.false c.is_well_formed.ensures
 
-is-well-formed-requires : tie.Need-is-well-formed-requires
-is-well-formed-requires c κs = search rules
-
-returns-2 : tie.Need-returns-2
-returns-2 c = given_tested _ c.before.if1.false c.is-well-formed.ensures
-
-pub is-malformed-new-spec : {M : Type 1} → statement M
-is-malformed-new-spec = tie.close (tie.spec returns is-well-formed-requires returns-2)
+pub is_malformed_new_spec : {M : Type 1} → statement M
+is_malformed_new_spec = tie.close (tie.spec returns-then-name-eq0 is_well_formed-requires returns)

@@ -5,33 +5,33 @@ use Rattle.change_imports.proofs.ImportLaws.{malformed_is}
 use Rattle.change_imports.proofs.is_one_malformed.Statement.{statement}
 use Rattle.change_imports.proofs.is_one_malformed.Tie as tie
 
-is-well-formed-requires : tie.Need-is-well-formed-requires
-is-well-formed-requires c κs = search rules
+is_well_formed-requires : tie.Need-is_well_formed-requires
+is_well_formed-requires c κs = search rules
+
+returns-then-not-is_well_formed : tie.Need-returns-then-not-is_well_formed
+returns-then-not-is_well_formed c = or_first _ (malformed_is _ c.is_well_formed.ensures) c.if-not-is_well_formed.true-raw
+
+is_malformed_new-requires : tie.Need-is_malformed_new-requires
+is_malformed_new-requires c κs = search rules
+
+returns-then-is_malformed_new : tie.Need-returns-then-is_malformed_new
+returns-then-is_malformed_new c = or_next (malformed_is _ c.is_well_formed.ensures) c.if-not-is_well_formed.false-raw (or_first _
+    c.is_malformed_new.ensures c.if-is_malformed_new.true)
+
+is_malformed_new-requires-2 : tie.Need-is_malformed_new-requires-2
+is_malformed_new-requires-2 c κs = search rules
 
 returns : tie.Need-returns
-returns c = or_first _ (malformed_is _ c.before.is-well-formed.ensures) c.if1.true
+returns c = or_next (malformed_is _ c.is_well_formed.ensures) c.if-not-is_well_formed.false-raw
+    (or_next c.is_malformed_new.ensures c.if-is_malformed_new.false c.is_malformed_new-2.ensures)
 
-is-malformed-new-requires : tie.Need-is-malformed-new-requires
-is-malformed-new-requires c κs = search rules
-
-returns-2 : tie.Need-returns-2
-returns-2 c = or_next (malformed_is _ c.before.before.before.is-well-formed.ensures) c.before.before.if1.false (or_first _
-    c.before.is-malformed-new.ensures c.if2.true)
-
-is-malformed-new-requires-2 : tie.Need-is-malformed-new-requires-2
-is-malformed-new-requires-2 c κs = search rules
-
-returns-3 : tie.Need-returns-3
-returns-3 c = or_next (malformed_is _ c.before.before.before.before.is-well-formed.ensures) c.before.before.before.if1.false
-    (or_next c.before.before.is-malformed-new.ensures c.before.if2.false c.is-malformed-new2.ensures)
-
-pub is-one-malformed-spec : {M : Type 1} → statement M
-is-one-malformed-spec =
+pub is_one_malformed_spec : {M : Type 1} → statement M
+is_one_malformed_spec =
     tie.close
     (tie.spec
-    is-well-formed-requires
-    returns
-    is-malformed-new-requires
-    returns-2
-    is-malformed-new-requires-2
-    returns-3)
+    is_well_formed-requires
+    returns-then-not-is_well_formed
+    is_malformed_new-requires
+    returns-then-is_malformed_new
+    is_malformed_new-requires-2
+    returns)

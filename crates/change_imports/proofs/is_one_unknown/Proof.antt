@@ -5,18 +5,18 @@ use Rattle.change_imports.proofs.ImportLaws.{unknown_is}
 use Rattle.change_imports.proofs.is_one_unknown.Statement.{statement}
 use Rattle.change_imports.proofs.is_one_unknown.Tie as tie
 
-is-sds-requires : tie.Need-is-sds-requires
-is-sds-requires c κs = search rules
+is_sds-requires : tie.Need-is_sds-requires
+is_sds-requires c κs = search rules
+
+returns-then-not-is_sds : tie.Need-returns-then-not-is_sds
+returns-then-not-is_sds c = or_first _ (unknown_is _ c.requires _ c.is_sds.ensures) c.if-not-is_sds.true-raw
+
+is_sds-requires-2 : tie.Need-is_sds-requires-2
+is_sds-requires-2 c κs = search rules
 
 returns : tie.Need-returns
-returns c = or_first _ (unknown_is _ c.before.before.before.requires _ c.before.is-sds.ensures) c.if1.true
+returns c = or_next (unknown_is _ c.requires _ c.is_sds.ensures) c.if-not-is_sds.false-raw
+    (unknown_is _ c.requires _ c.is_sds-2.ensures)
 
-is-sds-requires-2 : tie.Need-is-sds-requires-2
-is-sds-requires-2 c κs = search rules
-
-returns-2 : tie.Need-returns-2
-returns-2 c = or_next (unknown_is _ c.before.before.before.before.requires _ c.before.before.is-sds.ensures) c.before.if1.false
-    (unknown_is _ c.before.before.before.before.requires _ c.is-sds2.ensures)
-
-pub is-one-unknown-spec : {M : Type 1} → statement M
-is-one-unknown-spec = tie.close (tie.spec is-sds-requires returns is-sds-requires-2 returns-2)
+pub is_one_unknown_spec : {M : Type 1} → statement M
+is_one_unknown_spec = tie.close (tie.spec is_sds-requires returns-then-not-is_sds is_sds-requires-2 returns)

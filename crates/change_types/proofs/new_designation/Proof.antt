@@ -10,56 +10,52 @@ use Rattle.change_types.proofs.CreateLaws.{presence_ready, made_kept, new_design
 use Rattle.change_types.proofs.new_designation.Statement.{statement}
 use Rattle.change_types.proofs.new_designation.Tie as tie
 
-place-for-requires : tie.Need-place-for-requires
-place-for-requires c κs = search rules
+place_for-place-requires : tie.Need-place_for-place-requires
+place_for-place-requires c κs = search rules
 
 refused-requires : tie.Need-refused-requires
 refused-requires c κs = search rules
 
-same_length : tie.Need-same-length
-same_length c = search rules
+shape_of-base-then-place-ne0 : tie.Need-shape_of-base-then-place-ne0
+shape_of-base-then-place-ne0 c = search rules
 
-returns : tie.Need-returns
-returns c = tested_stops c.before.before.before.place-for.ensures.told c.before.if1.true (new_designation_left _ _ _) c.refused.ensures
+returns-then-place-ne0 : tie.Need-returns-then-place-ne0
+returns-then-place-ne0 c = tested_stops c.place_for-place.ensures.told c.if-place-ne0.true (new_designation_left _ _ _) c.refused.ensures
 
-slice-aggregate-write-type : tie.Need-slice-aggregate-write-type
-slice-aggregate-write-type c = search rules
-
-write-type-requires : tie.Need-write-type-requires
-write-type-requires c κs =
-    let p = c.before.before.before.before.place-for.ensures in
-    let r = p.so c.before.before.if1.false in
+write_type-requires : tie.Need-write_type-requires
+write_type-requires c κs =
+    let p = c.place_for-place.ensures in
+    let r = p.so c.if-place-ne0.false in
     (sound_stored r.aim.sound, (r.room.below, ((omega arith, (omega arith, omega arith)), omega arith)))
 
-put-presence-requires : tie.Need-put-presence-requires
-put-presence-requires c κs = presence_ready (c.before.before.before.before.before.before.before.before.place-for.ensures.so
-    c.before.before.before.before.before.before.if1.false) _ (designation_written c.before.before.before.write-type.ensures)
+put_presence-requires : tie.Need-put_presence-requires
+put_presence-requires c κs = presence_ready (c.place_for-place.ensures.so
+    c.if-place-ne0.false) _ (designation_written c.write_type.ensures)
 
 done-requires : tie.Need-done-requires
 done-requires c κs = search rules
 
-same-length-2 : tie.Need-same-length-2
-same-length-2 c = search rules
+shape_of-base : tie.Need-shape_of-base
+shape_of-base c = search rules
 
-returns-2 : tie.Need-returns-2
+returns : tie.Need-returns
 unfolding all
-returns-2 c =
-    let p = c.before.before.before.before.before.before.before.before.before.before.before.before.place-for.ensures in
-    let z = c.before.before.before.before.before.before.before.before.before.before.if1.false in
-    made_kept (p.so z) _ (designation_written c.before.before.before.before.before.before.before.write-type.ensures)
-    (tested_passes p.told z refl (new_designation_left _ _ _)) c.done.ensures c.before.before.before.put-presence.ensures
+returns c =
+    let p = c.place_for-place.ensures in
+    let z = c.if-place-ne0.false in
+    made_kept (p.so z) _ (designation_written c.write_type.ensures)
+    (tested_passes p.told z refl (new_designation_left _ _ _)) c.done.ensures c.put_presence.ensures
 
-pub new-designation-spec : {M : Type 1} → statement M
-new-designation-spec =
+pub new_designation_spec : {M : Type 1} → statement M
+new_designation_spec =
     tie.close
     (tie.spec
-    place-for-requires
+    place_for-place-requires
     refused-requires
-    same_length
-    returns
-    slice-aggregate-write-type
-    write-type-requires
-    put-presence-requires
+    shape_of-base-then-place-ne0
+    returns-then-place-ne0
+    write_type-requires
+    put_presence-requires
     done-requires
-    same-length-2
-    returns-2)
+    shape_of-base
+    returns)

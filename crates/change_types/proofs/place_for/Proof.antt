@@ -7,37 +7,37 @@ use Rattle.change_types.proofs.CreateLaws.{room_placed}
 use Rattle.change_types.proofs.place_for.Statement.{statement}
 use Rattle.change_types.proofs.place_for.Tie as tie
 
-aimed-requires : tie.Need-aimed-requires
-aimed-requires c κs = search rules
+aimed-no-requires : tie.Need-aimed-no-requires
+aimed-no-requires c κs = search rules
 
 refused-requires : tie.Need-refused-requires
 refused-requires c κs = search rules
 
-returns : tie.Need-returns
-returns c = refused_first _ c.before.before.aimed.ensures c.before.if1.true c.refused.ensures
+returns-then-no-ne0 : tie.Need-returns-then-no-ne0
+returns-then-no-ne0 c = refused_first _ c.aimed-no.ensures c.if-no-ne0.true c.refused.ensures
 
-refused-requires-2 : tie.Need-refused-requires-2
-refused-requires-2 c κs = search rules
+refused-requires-then-unknown : tie.Need-refused-requires-then-unknown
+refused-requires-then-unknown c κs = search rules
 
-returns-2 : tie.Need-returns-2
-returns-2 c =
-    refused_here (come_aimed _ c.before.before.before.aimed.ensures c.before.before.if1.false _) c.before.if2.true c.refused2.ensures
+returns-then-unknown : tie.Need-returns-then-unknown
+returns-then-unknown c =
+    refused_here (come_aimed _ c.aimed-no.ensures c.if-no-ne0.false _) c.if-unknown.true c.refused-then-unknown.ensures
     (omega arith)
 
-room-for-requires : tie.Need-room-for-requires
-room-for-requires c κs = tested_sound c.before.before.aimed.ensures c.before.if1.false
+room_for-requires : tie.Need-room_for-requires
+room_for-requires c κs = tested_sound c.aimed-no.ensures c.if-no-ne0.false
 
-returns-3 : tie.Need-returns-3
-returns-3 c = room_placed c.before.before.before.aimed.ensures c.before.before.if1.false c.before.if2.false c.room_for.ensures
+returns : tie.Need-returns
+returns c = room_placed c.aimed-no.ensures c.if-no-ne0.false c.if-unknown.false c.room_for.ensures
 
-pub place-for-spec : {M : Type 1} → statement M
-place-for-spec =
+pub place_for_spec : {M : Type 1} → statement M
+place_for_spec =
     tie.close
     (tie.spec
-    aimed-requires
+    aimed-no-requires
     refused-requires
-    returns
-    refused-requires-2
-    returns-2
-    room-for-requires
-    returns-3)
+    returns-then-no-ne0
+    refused-requires-then-unknown
+    returns-then-unknown
+    room_for-requires
+    returns)

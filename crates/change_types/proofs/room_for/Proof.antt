@@ -18,73 +18,73 @@ use Rattle.change_types.proofs.CreateLaws.{numbers_short, presences_short, both_
 use Rattle.change_types.proofs.room_for.Statement.{statement}
 use Rattle.change_types.proofs.room_for.Tie as tie
 
-free_1 : (c : tie.Else1) → let x = c.before.before.before.before.args in bears (schema_of x.base.now) x.sds x.name.now ≡ false
-free_1 c = not_borne c.before.type_in.ensures c.if1.false
+free_1 : (c : tie.Else-type_in-ne-TYPES) → let x = c.args in bears (schema_of x.base.now) x.sds x.name.now ≡ false
+free_1 c = not_borne c.type_in.ensures c.if-type_in-ne-TYPES.false
 
-at_14 : (c : tie.Else1) → let x = c.before.before.before.before.args in
+at_14 : (c : tie.Else-type_in-ne-TYPES) → let x = c.args in
     Past x.base.now (room_refusals (schema_of x.base.now) x.sds x.name.now) 14
-at_14 c = come_next (come_first c.before.before.before.before.requires) (one_free _ _ _ (free_1 c))
+at_14 c = come_next (come_first c.requires) (one_free _ _ _ (free_1 c))
 
-type-in-requires : tie.Need-type-in-requires
-type-in-requires c κs = search rules
+type_in-requires : tie.Need-type_in-requires
+type_in-requires c κs = search rules
 
 refused-requires : tie.Need-refused-requires
 refused-requires c κs = search rules
 
+returns-then-type_in-ne-TYPES : tie.Need-returns-then-type_in-ne-TYPES
+returns-then-type_in-ne-TYPES c =
+    refused_here (come_first c.requires)
+    (one_taken _ _ _ (borne c.type_in.ensures c.if-type_in-ne-TYPES.true)) c.refused.ensures (omega arith)
+
+free_type-t-requires : tie.Need-free_type-t-requires
+free_type-t-requires c κs = search rules
+
+refused-requires-then-t-ge-TYPES : tie.Need-refused-requires-then-t-ge-TYPES
+refused-requires-then-t-ge-TYPES c κs = search rules
+
+returns-then-t-ge-TYPES : tie.Need-returns-then-t-ge-TYPES
+returns-then-t-ge-TYPES c =
+    refused_here (at_14 c.before.before.before)
+    (numbers_short _ 1 (no_room_for c.free_type-t.ensures 1 (omega arith) c.if-t-ge-TYPES.true)) c.refused-then-t-ge-TYPES.ensures (omega arith)
+
+presence_count-requires : tie.Need-presence_count-requires
+presence_count-requires c κs = sound_long c.requires
+
+refused-requires-then-presence_count-ge-PRESENCES : tie.Need-refused-requires-then-presence_count-ge-PRESENCES
+refused-requires-then-presence_count-ge-PRESENCES c κs = search rules
+
+returns-then-presence_count-ge-PRESENCES : tie.Need-returns-then-presence_count-ge-PRESENCES
+returns-then-presence_count-ge-PRESENCES c =
+    refused_here (at_14 c.before.before.before.before.before)
+    (presences_short _ 1 (let h = c.if-presence_count-ge-PRESENCES.true in omega (arith, c.presence_count.ensures.is))) c.refused-then-presence_count-ge-PRESENCES.ensures (omega arith)
+
 returns : tie.Need-returns
 returns c =
-    refused_here (come_first c.before.before.before.before.before.requires)
-    (one_taken _ _ _ (borne c.before.before.type_in.ensures c.before.if1.true)) c.refused.ensures (omega arith)
-
-free-type-requires : tie.Need-free-type-requires
-free-type-requires c κs = search rules
-
-refused-requires-2 : tie.Need-refused-requires-2
-refused-requires-2 c κs = search rules
-
-returns-2 : tie.Need-returns-2
-returns-2 c =
-    refused_here (at_14 c.before.before.before)
-    (numbers_short _ 1 (no_room_for c.before.before.free-type.ensures 1 (omega arith) c.before.if2.true)) c.refused2.ensures (omega arith)
-
-presence-count-requires : tie.Need-presence-count-requires
-presence-count-requires c κs = sound_long c.before.before.before.before.before.before.requires
-
-refused-requires-3 : tie.Need-refused-requires-3
-refused-requires-3 c κs = search rules
-
-returns-3 : tie.Need-returns-3
-returns-3 c =
-    refused_here (at_14 c.before.before.before.before.before)
-    (presences_short _ 1 (let h = c.before.if3.true in omega (arith, c.before.before.presence_count.ensures.is))) c.refused3.ensures (omega arith)
-
-returns-4 : tie.Need-returns-4
-returns-4 c =
-    let f = c.before.before.before.free-type.ensures in
-    let below : c.before.before.before.free-type.result < 128 = let h = c.before.before.if2.false in omega arith in
-    let h = c.if3.false in
-    let x = c.before.before.before.before.before.before.before.before.args in
+    let f = c.free_type-t.ensures in
+    let below : c.free_type-t.result < 128 = let h = c.if-t-ge-TYPES.false in omega arith in
+    let h = c.if-presence_count-ge-PRESENCES.false in
+    let x = c.args in
     passed_by
     (come_through (come_next (at_14 c.before.before.before.before)
-    (both_fit _ 1 (room_for_one f below) (omega (arith, c.before.presence_count.ensures.is)))))
+    (both_fit _ 1 (room_for_one f below) (omega (arith, c.presence_count.ensures.is)))))
     (record {
       free = free_1 c.before.before.before.before;
-      room = omega (arith, c.before.presence_count.ensures.is, presences_long x.base.now);
+      room = omega (arith, c.presence_count.ensures.is, presences_long x.base.now);
       below = below;
       new = new_type_is f below;
     })
 
-pub room-for-spec : {M : Type 1} → statement M
-room-for-spec =
+pub room_for_spec : {M : Type 1} → statement M
+room_for_spec =
     tie.close
     (tie.spec
-    type-in-requires
+    type_in-requires
     refused-requires
-    returns
-    free-type-requires
-    refused-requires-2
-    returns-2
-    presence-count-requires
-    refused-requires-3
-    returns-3
-    returns-4)
+    returns-then-type_in-ne-TYPES
+    free_type-t-requires
+    refused-requires-then-t-ge-TYPES
+    returns-then-t-ge-TYPES
+    presence_count-requires
+    refused-requires-then-presence_count-ge-PRESENCES
+    returns-then-presence_count-ge-PRESENCES
+    returns)

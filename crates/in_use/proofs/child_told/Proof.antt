@@ -13,44 +13,40 @@ use Rattle.in_use.proofs.HeldLaws.{lowest_same, row_elsewhere, row_here}
 use Rattle.in_use.proofs.child_told.Statement.{statement}
 use Rattle.in_use.proofs.child_told.Tie as tie
 
-presence-sds-requires : tie.Need-presence-sds-requires
-presence-sds-requires c κs =
-    let x = c.before in
-    (sound_long x.requires.0, omega (arith, x.requires.1, rows_few presences x.args.base.now))
+presence_sds-requires : tie.Need-presence_sds-requires
+presence_sds-requires c κs =
+    (sound_long c.requires.0, omega (arith, c.requires.1, rows_few presences c.args.base.now))
+
+returns-then-presence_sds-d : tie.Need-returns-then-presence_sds-d
+returns-then-presence_sds-d c = row_elsewhere _ _ c.presence_sds.ensures.is c.if-presence_sds-d.true
+
+presence_type-child-requires : tie.Need-presence_type-child-requires
+presence_type-child-requires c κs =
+    (sound_long c.requires.0, omega (arith, c.requires.1, rows_few presences c.args.base.now))
+
+is_parent-requires : tie.Need-is_parent-requires
+is_parent-requires c κs =
+    (c.requires.0, omega (arith, c.presence_type-child.ensures.is, (presence_small c.requires.0 c.args.i c.requires.1).1))
+
+only_if-requires : tie.Need-only_if-requires
+only_if-requires c κs =
+    omega (arith, c.presence_type-child.ensures.is, (presence_small c.requires.0 c.args.i c.requires.1).1)
 
 returns : tie.Need-returns
-returns c = row_elsewhere _ _ c.before.presence_sds.ensures.is c.if1.true
-
-presence-type-requires : tie.Need-presence-type-requires
-presence-type-requires c κs =
-    let x = c.before.before.before in
-    (sound_long x.requires.0, omega (arith, x.requires.1, rows_few presences x.args.base.now))
-
-is-parent-requires : tie.Need-is-parent-requires
-is-parent-requires c κs =
-    let x = c.before.before.before.before in
-    (x.requires.0, omega (arith, c.presence_type.ensures.is, (presence_small x.requires.0 x.args.i x.requires.1).1))
-
-only-if-requires : tie.Need-only-if-requires
-only-if-requires c κs =
-    let x = c.before.before.before.before.before in
-    omega (arith, c.before.presence_type.ensures.is, (presence_small x.requires.0 x.args.i x.requires.1).1)
-
-returns-2 : tie.Need-returns-2
-returns-2 c =
-    let x = c.before.before.before.before.before.before.args in
-    let type = c.before.before.presence_type.ensures.is in
-    row_here _ _ c.before.before.before.before.presence_sds.ensures.is c.before.before.before.if1.false
-    (lowest_same (λ k. (λ i. c.before.is_parent.ensures i && eqb c.before.before.presence_type.result k)
+returns c =
+    let x = c.args in
+    let type = c.presence_type-child.ensures.is in
+    row_here _ _ c.presence_sds.ensures.is c.if-presence_sds-d.false
+    (lowest_same (λ k. (λ i. c.is_parent.ensures i && eqb c.presence_type-child.result k)
     ∙ (λ i. is_parent (schema_of x.base.now) (type i) x.t && eqb (type i) k)) c.only_if.ensures)
 
-pub child-told-spec : {M : Type 1} → statement M
-child-told-spec =
+pub child_told_spec : {M : Type 1} → statement M
+child_told_spec =
     tie.close
     (tie.spec
-    presence-sds-requires
-    returns
-    presence-type-requires
-    is-parent-requires
-    only-if-requires
-    returns-2)
+    presence_sds-requires
+    returns-then-presence_sds-d
+    presence_type-child-requires
+    is_parent-requires
+    only_if-requires
+    returns)

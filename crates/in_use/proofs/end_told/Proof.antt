@@ -11,45 +11,41 @@ use Rattle.in_use.proofs.HeldLaws.{lowest_same, row_elsewhere, row_here}
 use Rattle.in_use.proofs.end_told.Statement.{statement}
 use Rattle.in_use.proofs.end_told.Tie as tie
 
-end-sds-requires : tie.Need-end-sds-requires
-end-sds-requires c κs =
-    let x = c.before in
-    (sound_long x.requires.0, omega (arith, x.requires.1, rows_few ends x.args.base.now))
+end_sds-requires : tie.Need-end_sds-requires
+end_sds-requires c κs =
+    (sound_long c.requires.0, omega (arith, c.requires.1, rows_few ends c.args.base.now))
+
+returns-then-end_sds-d : tie.Need-returns-then-end_sds-d
+returns-then-end_sds-d c = row_elsewhere _ _ c.end_sds.ensures.is c.if-end_sds-d.true
+
+end_link-requires : tie.Need-end_link-requires
+end_link-requires c κs =
+    (sound_long c.requires.0, omega (arith, c.requires.1, rows_few ends c.args.base.now))
+
+end_object-requires : tie.Need-end_object-requires
+end_object-requires c κs =
+    (sound_long c.requires.0, omega (arith, c.requires.1, rows_few ends c.args.base.now))
+
+other_of-requires : tie.Need-other_of-requires
+other_of-requires c κs =
+    let small = end_small c.requires.0 c.args.i c.requires.1 in
+    (omega (arith, c.end_link.ensures.is, small.1.0), omega (arith, c.end_object.ensures.is, small.1.1))
 
 returns : tie.Need-returns
-returns c = row_elsewhere _ _ c.before.end_sds.ensures.is c.if1.true
+returns c =
+    let x = c.args in
+    let to = c.end_link.ensures.is in
+    let of = c.end_object.ensures.is in
+    row_here _ _ c.end_sds.ensures.is c.if-end_sds-d.false
+    (lowest_same (λ k i. other_told (x.t ∷ one_or_none x.r) (to i) (of i) k) c.other_of.ensures)
 
-end-link-requires : tie.Need-end-link-requires
-end-link-requires c κs =
-    let x = c.before.before.before in
-    (sound_long x.requires.0, omega (arith, x.requires.1, rows_few ends x.args.base.now))
-
-end-object-requires : tie.Need-end-object-requires
-end-object-requires c κs =
-    let x = c.before.before.before.before in
-    (sound_long x.requires.0, omega (arith, x.requires.1, rows_few ends x.args.base.now))
-
-other-of-requires : tie.Need-other-of-requires
-other-of-requires c κs =
-    let x = c.before.before.before.before.before in
-    let small = end_small x.requires.0 x.args.i x.requires.1 in
-    (omega (arith, c.before.end_link.ensures.is, small.1.0), omega (arith, c.end_object.ensures.is, small.1.1))
-
-returns-2 : tie.Need-returns-2
-returns-2 c =
-    let x = c.before.before.before.before.before.before.args in
-    let to = c.before.before.end_link.ensures.is in
-    let of = c.before.end_object.ensures.is in
-    row_here _ _ c.before.before.before.before.end_sds.ensures.is c.before.before.before.if1.false
-    (lowest_same (λ k i. other_told (x.t ∷ one_or_none x.r) (to i) (of i) k) c.other-of.ensures)
-
-pub end-told-spec : {M : Type 1} → statement M
-end-told-spec =
+pub end_told_spec : {M : Type 1} → statement M
+end_told_spec =
     tie.close
     (tie.spec
-    end-sds-requires
-    returns
-    end-link-requires
-    end-object-requires
-    other-of-requires
-    returns-2)
+    end_sds-requires
+    returns-then-end_sds-d
+    end_link-requires
+    end_object-requires
+    other_of-requires
+    returns)

@@ -5,15 +5,15 @@ use mathlib.Core.Logic.{inl, inr}
 use Rattle.in_use.proofs.lower.Statement.{statement}
 use Rattle.in_use.proofs.lower.Tie as tie
 
-returns : tie.Need-returns
-returns c = record { below_one = omega (arith, c.if1.true); below_other = omega arith; is = inr refl }
+returns-then-b-a : tie.Need-returns-then-b-a
+returns-then-b-a c = record { below_one = omega (arith, c.if-b-a.true); below_other = omega arith; is = inr refl }
 
-returns-2 : tie.Need-returns-2
-returns-2 c = record { below_one = omega arith; below_other = omega (arith, c.if1.false); is = inl refl }
+returns : tie.Need-returns
+returns c = record { below_one = omega arith; below_other = omega (arith, c.if-b-a.false); is = inl refl }
 
 pub lower_spec : {M : Type 1} → statement M
 lower_spec =
     tie.close
     (tie.spec
-    returns
-    returns-2)
+    returns-then-b-a
+    returns)

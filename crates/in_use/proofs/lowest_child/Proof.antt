@@ -7,52 +7,52 @@ use Rattle.in_use.proofs.HeldLaws.{Passed, passed_none, passed_more, children_lo
 use Rattle.in_use.proofs.lowest_child.Statement.{statement}
 use Rattle.in_use.proofs.lowest_child.Tie as tie
 
-abbrev invariant-loop : tie.invariant-loop
-invariant-loop base d t n lowest₀ i₀ lowest i = (i ≤ n) × Passed (λ j. child_told (schema_of base) d t (presence_shown base j)) i lowest
+abbrev invariant-loop-i : tie.invariant-loop-i
+invariant-loop-i base d t n lowest₀ i₀ lowest i = (i ≤ n) × Passed (λ j. child_told (schema_of base) d t (presence_shown base j)) i lowest
 
-abbrev decreases-loop : tie.decreases-loop
-decreases-loop base d t n lowest₀ i₀ lowest i = n - i
+abbrev decreases-loop-i : tie.decreases-loop-i
+decreases-loop-i base d t n lowest₀ i₀ lowest i = n - i
 
-count-requires : tie.Need-count-requires invariant-loop decreases-loop
-count-requires c κs = c.before.requires
+count-n-requires : tie.Need-count-n-requires invariant-loop-i decreases-loop-i
+count-n-requires c κs = c.requires
 
-loop-holds : tie.Need-loop-init invariant-loop decreases-loop
-loop-holds c = (omega arith, passed_none _)
+loop-i-init : tie.Need-loop-i-init invariant-loop-i decreases-loop-i
+loop-i-init c = (omega arith, passed_none _)
 
-child-told-requires : tie.Need-child-told-requires invariant-loop decreases-loop
-child-told-requires c κs = (c.before.before.before.before.requires, omega (arith, c.before.before.count.ensures.is, c.loop-test.true))
+child_told-requires : tie.Need-child_told-requires invariant-loop-i decreases-loop-i
+child_told-requires c κs = (c.requires, omega (arith, c.count-n.ensures.is, c.loop-i-test.true))
 
-lower-requires : tie.Need-lower-requires invariant-loop decreases-loop
-lower-requires c κs = tt
+lower-lowest-requires : tie.Need-lower-lowest-requires invariant-loop-i decreases-loop-i
+lower-lowest-requires c κs = tt
 
-add-i : tie.Need-overflow-add-i invariant-loop decreases-loop
-add-i c = omega (arith, c.before.before.loop-test.true, c.before.before.before.before.count.ensures.fits)
+overflow_add-i : tie.Need-overflow_add-i invariant-loop-i decreases-loop-i
+overflow_add-i c = omega (arith, c.loop-i-test.true, c.count-n.ensures.fits)
 
-loop-less : tie.Need-loop-smaller invariant-loop decreases-loop
-loop-less c = omega (arith, c.before.before.loop-test.true)
+loop-i-smaller : tie.Need-loop-i-smaller invariant-loop-i decreases-loop-i
+loop-i-smaller c = omega (arith, c.loop-i-test.true)
 
-loop-again : tie.Need-loop-preserved invariant-loop decreases-loop
-loop-again c =
-    let l = c.before.before.before.loop in
-    (omega (arith, c.before.before.loop-test.true), passed_more _ l.invariant.1 c.before.child_told.ensures c.lower.ensures)
+loop-i-preserved : tie.Need-loop-i-preserved invariant-loop-i decreases-loop-i
+loop-i-preserved c =
+    let l = c.loop-i in
+    (omega (arith, c.loop-i-test.true), passed_more _ l.invariant.1 c.child_told.ensures c.lower-lowest.ensures)
 
-returns : tie.Need-returns invariant-loop decreases-loop
+returns : tie.Need-returns invariant-loop-i decreases-loop-i
 returns c =
-    let x = c.before.before.before.before.args in
-    let l = c.before.loop in
-    children_lowest x.base.now x.d x.t (omega (arith, c.loop-test.false, l.invariant.0, c.before.before.count.ensures.is)) l.invariant.1
+    let x = c.args in
+    let l = c.loop-i in
+    children_lowest x.base.now x.d x.t (omega (arith, c.loop-i-test.false, l.invariant.0, c.count-n.ensures.is)) l.invariant.1
 
-pub lowest-child-spec : {M : Type 1} → statement M
-lowest-child-spec =
+pub lowest_child_spec : {M : Type 1} → statement M
+lowest_child_spec =
     tie.close
     (tie.spec
-    invariant-loop
-    decreases-loop
-    count-requires
-    loop-holds
-    child-told-requires
-    lower-requires
-    add-i
-    loop-less
-    loop-again
+    invariant-loop-i
+    decreases-loop-i
+    count-n-requires
+    loop-i-init
+    child_told-requires
+    lower-lowest-requires
+    overflow_add-i
+    loop-i-smaller
+    loop-i-preserved
     returns)

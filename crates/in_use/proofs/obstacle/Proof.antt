@@ -9,77 +9,71 @@ use Rattle.in_use.proofs.HeldLaws.{told_as, held_stops, held_passes, with_other,
 use Rattle.in_use.proofs.obstacle.Statement.{statement}
 use Rattle.in_use.proofs.obstacle.Tie as tie
 
-at_17 : (c : tie.Else1) → let x = c.before.before.before.args in Past x.base.now (obstacles x.d x.t (schema_of x.base.now)) 17
+at_17 : (c : tie.Else-child-ne-TYPES) → let x = c.args in Past x.base.now (obstacles x.d x.t (schema_of x.base.now)) 17
 at_17 c =
-    let x = c.before.before.before in
-    held_passes 16 (child_there (schema_of x.args.base.now) x.args.d) _ (come_first x.requires.0)
-    (child_alone x.requires.1 (sound_good x.requires.0) x.args.d c.before.lowest-child.ensures) c.if1.false
+    held_passes 16 (child_there (schema_of c.args.base.now) c.args.d) _ (come_first c.requires.0)
+    (child_alone c.requires.1 (sound_good c.requires.0) c.args.d c.lowest_child-child.ensures) c.if-child-ne-TYPES.false
 
-at_18 : (c : tie.Else2) → let x = c.before.before.before.before.before.args in Past x.base.now (obstacles x.d x.t (schema_of x.base.now)) 18
+at_18 : (c : tie.Else-applied-ne-TYPES) → let x = c.args in Past x.base.now (obstacles x.d x.t (schema_of x.base.now)) 18
 at_18 c =
-    let x = c.before.before.before.before.before in
-    held_passes 17 (applied_there (schema_of x.args.base.now) x.args.d) _ (at_17 c.before.before)
-    (with_other x.requires.1 _ c.before.lowest-applied.ensures) c.if2.false
+    held_passes 17 (applied_there (schema_of c.args.base.now) c.args.d) _ (at_17 c.before.before)
+    (with_other c.requires.1 _ c.lowest_applied-applied.ensures) c.if-applied-ne-TYPES.false
 
-lowest-child-requires : tie.Need-lowest-child-requires
-lowest-child-requires c κs = search rules
+lowest_child-child-requires : tie.Need-lowest_child-child-requires
+lowest_child-child-requires c κs = search rules
 
 telling-requires : tie.Need-telling-requires
 telling-requires c κs = search rules
 
-returns : tie.Need-returns
-returns c =
-    let x = c.before.before.before.before in
-    held_stops 16 (child_there (schema_of x.args.base.now) x.args.d) _ (come_first x.requires.0)
-    (child_alone x.requires.1 (sound_good x.requires.0) x.args.d c.before.before.lowest-child.ensures) c.before.if1.true c.telling.ensures
+returns-then-child-ne-TYPES : tie.Need-returns-then-child-ne-TYPES
+returns-then-child-ne-TYPES c =
+    held_stops 16 (child_there (schema_of c.args.base.now) c.args.d) _ (come_first c.requires.0)
+    (child_alone c.requires.1 (sound_good c.requires.0) c.args.d c.lowest_child-child.ensures) c.if-child-ne-TYPES.true c.telling.ensures
 
-lowest-applied-requires : tie.Need-lowest-applied-requires
-lowest-applied-requires c κs = search rules
+lowest_applied-applied-requires : tie.Need-lowest_applied-applied-requires
+lowest_applied-applied-requires c κs = search rules
+
+telling-requires-then-applied-ne-TYPES : tie.Need-telling-requires-then-applied-ne-TYPES
+telling-requires-then-applied-ne-TYPES c κs = search rules
+
+returns-then-applied-ne-TYPES : tie.Need-returns-then-applied-ne-TYPES
+returns-then-applied-ne-TYPES c =
+    held_stops 17 (applied_there (schema_of c.args.base.now) c.args.d) _ (at_17 c.before.before.before)
+    (with_other c.requires.1 _ c.lowest_applied-applied.ensures) c.if-applied-ne-TYPES.true c.telling-then-applied-ne-TYPES.ensures
+
+lowest_end-end-requires : tie.Need-lowest_end-end-requires
+lowest_end-end-requires c κs = search rules
+
+telling-requires-then-end-ne-TYPES : tie.Need-telling-requires-then-end-ne-TYPES
+telling-requires-then-end-ne-TYPES c κs = search rules
+
+returns-then-end-ne-TYPES : tie.Need-returns-then-end-ne-TYPES
+returns-then-end-ne-TYPES c =
+    held_stops 18 (end_there (schema_of c.args.base.now) c.args.d) _ (at_18 c.before.before.before)
+    (with_other c.requires.1 _ c.lowest_end-end.ensures) c.if-end-ne-TYPES.true c.telling-then-end-ne-TYPES.ensures
 
 telling-requires-2 : tie.Need-telling-requires-2
 telling-requires-2 c κs = search rules
 
-returns-2 : tie.Need-returns-2
-returns-2 c =
-    let x = c.before.before.before.before.before.before in
-    held_stops 17 (applied_there (schema_of x.args.base.now) x.args.d) _ (at_17 c.before.before.before)
-    (with_other x.requires.1 _ c.before.before.lowest-applied.ensures) c.before.if2.true c.telling2.ensures
-
-lowest-end-requires : tie.Need-lowest-end-requires
-lowest-end-requires c κs = search rules
-
-telling-requires-3 : tie.Need-telling-requires-3
-telling-requires-3 c κs = search rules
-
-returns-3 : tie.Need-returns-3
-returns-3 c =
-    let x = c.before.before.before.before.before.before.before.before in
-    held_stops 18 (end_there (schema_of x.args.base.now) x.args.d) _ (at_18 c.before.before.before)
-    (with_other x.requires.1 _ c.before.before.lowest-end.ensures) c.before.if3.true c.telling3.ensures
-
-telling-requires-4 : tie.Need-telling-requires-4
-telling-requires-4 c κs = search rules
-
-returns-4 : tie.Need-returns-4
-returns-4 c =
-    let x = c.before.before.before.before.before.before.before.before in
-    told_as c.telling4.ensures
+returns : tie.Need-returns
+returns c =
+    told_as c.telling-2.ensures
     (come_through
-    (held_passes 18 (end_there (schema_of x.args.base.now) x.args.d) _ (at_18 c.before.before.before)
-    (with_other x.requires.1 _ c.before.before.lowest-end.ensures) c.before.if3.false))
+    (held_passes 18 (end_there (schema_of c.args.base.now) c.args.d) _ (at_18 c.before.before.before)
+    (with_other c.requires.1 _ c.lowest_end-end.ensures) c.if-end-ne-TYPES.false))
 
-pub obstacle-spec : {M : Type 1} → statement M
-obstacle-spec =
+pub obstacle_spec : {M : Type 1} → statement M
+obstacle_spec =
     tie.close
     (tie.spec
-    lowest-child-requires
+    lowest_child-child-requires
     telling-requires
-    returns
-    lowest-applied-requires
+    returns-then-child-ne-TYPES
+    lowest_applied-applied-requires
+    telling-requires-then-applied-ne-TYPES
+    returns-then-applied-ne-TYPES
+    lowest_end-end-requires
+    telling-requires-then-end-ne-TYPES
+    returns-then-end-ne-TYPES
     telling-requires-2
-    returns-2
-    lowest-end-requires
-    telling-requires-3
-    returns-3
-    telling-requires-4
-    returns-4)
+    returns)

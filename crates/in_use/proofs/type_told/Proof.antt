@@ -10,33 +10,30 @@ use Rattle.in_use.proofs.HeldLaws.{lowest_same}
 use Rattle.in_use.proofs.type_told.Statement.{statement}
 use Rattle.in_use.proofs.type_told.Tie as tie
 
-presence-sds-requires : tie.Need-presence-sds-requires
-presence-sds-requires c κs =
-    let x = c.before in
-    (sound_long x.requires.0, omega (arith, x.requires.1, rows_few presences x.args.base.now))
+presence_sds-requires : tie.Need-presence_sds-requires
+presence_sds-requires c κs =
+    (sound_long c.requires.0, omega (arith, c.requires.1, rows_few presences c.args.base.now))
 
-presence-type-requires : tie.Need-presence-type-requires
-presence-type-requires c κs =
-    let x = c.before.before in
-    (sound_long x.requires.0, omega (arith, x.requires.1, rows_few presences x.args.base.now))
+presence_type-requires : tie.Need-presence_type-requires
+presence_type-requires c κs =
+    (sound_long c.requires.0, omega (arith, c.requires.1, rows_few presences c.args.base.now))
 
-only-if-requires : tie.Need-only-if-requires
-only-if-requires c κs =
-    let x = c.before.before.before in
-    omega (arith, c.presence_type.ensures.is, (presence_small x.requires.0 x.args.i x.requires.1).1)
+only_if-requires : tie.Need-only_if-requires
+only_if-requires c κs =
+    omega (arith, c.presence_type.ensures.is, (presence_small c.requires.0 c.args.i c.requires.1).1)
 
 returns : tie.Need-returns
 returns c =
-    let sds = c.before.before.presence_sds.ensures.is in
-    let type = c.before.presence_type.ensures.is in
-    lowest_same (λ k i. eqb (sds i) c.before.before.before.before.args.d && eqb (type i) k)
+    let sds = c.presence_sds.ensures.is in
+    let type = c.presence_type.ensures.is in
+    lowest_same (λ k i. eqb (sds i) c.args.d && eqb (type i) k)
     c.only_if.ensures
 
-pub type-told-spec : {M : Type 1} → statement M
-type-told-spec =
+pub type_told_spec : {M : Type 1} → statement M
+type_told_spec =
     tie.close
     (tie.spec
-    presence-sds-requires
-    presence-type-requires
-    only-if-requires
+    presence_sds-requires
+    presence_type-requires
+    only_if-requires
     returns)

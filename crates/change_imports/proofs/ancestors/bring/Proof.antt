@@ -13,72 +13,72 @@ use Rattle.change_imports.proofs.AncestorLaws.{Bringing, bringing_none, room, fe
 use Rattle.change_imports.proofs.ancestors.bring.Statement.{statement}
 use Rattle.change_imports.proofs.ancestors.bring.Tie as tie
 
-abbrev invariant-loop : tie.invariant-loop
-invariant-loop base₀ d left₀ t₀ base left t = Lowest (has left) t × Bringing d (schema_of base₀) (has left₀) (has left) base
+abbrev invariant-loop-t : tie.invariant-loop-t
+invariant-loop-t base₀ d left₀ t₀ base left t = Lowest (has left) t × Bringing d (schema_of base₀) (has left₀) (has left) base
 
-abbrev decreases-loop : tie.decreases-loop
-decreases-loop base₀ d left₀ t₀ base left t = length (members (has left))
+abbrev decreases-loop-t : tie.decreases-loop-t
+decreases-loop-t base₀ d left₀ t₀ base left t = length (members (has left))
 
 -- there is a type left
-below : (c : tie.After-lowest2 invariant-loop decreases-loop) → c.before.before.before.before.before.before.before.loop.t < 128
-below c = omega (arith, c.before.before.before.before.before.before.loop-test.true)
+below : (c : tie.After-lowest-t-in-loop-t invariant-loop-t decreases-loop-t) → c.loop-t.t < 128
+below c = omega (arith, c.loop-t-test.true)
 
-lowest-requires : tie.Need-lowest-requires invariant-loop decreases-loop
-lowest-requires c κs = tt
+lowest-t-requires : tie.Need-lowest-t-requires invariant-loop-t decreases-loop-t
+lowest-t-requires c κs = tt
 
-loop-holds : tie.Need-loop-init invariant-loop decreases-loop
-loop-holds c = let x = c.before.before in (c.lowest.ensures, bringing_none _ x.requires.0.0 x.requires.1)
+loop-t-init : tie.Need-loop-t-init invariant-loop-t decreases-loop-t
+loop-t-init c = (c.lowest-t.ensures, bringing_none _ c.requires.0.0 c.requires.1)
 
-put-nameless-requires : tie.Need-put-nameless-requires invariant-loop decreases-loop
-put-nameless-requires c κs =
-    let x = c.before.before.before.before.before.requires in
-    let l = c.before.before.loop in
+put_nameless-requires : tie.Need-put_nameless-requires invariant-loop-t decreases-loop-t
+put_nameless-requires c κs =
+    let x = c.requires in
+    let l = c.loop-t in
     let so_far = l.invariant.1 in
-    let there = l.invariant.0.passes (omega (arith, c.before.loop-test.true)) in (
+    let there = l.invariant.0.passes (omega (arith, c.loop-t-test.true)) in (
       so_far.stored,
       (
-        (x.0.1.0, (omega (arith, x.0.1.1), omega (arith, c.before.loop-test.true))),
-        (room so_far _ there (omega (arith, c.before.loop-test.true)), so_far.lacking.lacked _ there),
+        (x.0.1.0, (omega (arith, x.0.1.1), omega (arith, c.loop-t-test.true))),
+        (room so_far _ there (omega (arith, c.loop-t-test.true)), so_far.lacking.lacked _ there),
       ),
     )
 
-less-requires : tie.Need-less-requires invariant-loop decreases-loop
-less-requires c κs = omega (arith, c.before.before.before.before.loop-test.true)
+less-left-requires : tie.Need-less-left-requires invariant-loop-t decreases-loop-t
+less-left-requires c κs = omega (arith, c.loop-t-test.true)
 
-lowest-requires-2 : tie.Need-lowest-requires-2 invariant-loop decreases-loop
-lowest-requires-2 c κs = tt
+lowest-t-requires-in-loop-t : tie.Need-lowest-t-requires-in-loop-t invariant-loop-t decreases-loop-t
+lowest-t-requires-in-loop-t c κs = tt
 
-loop-less : tie.Need-loop-smaller invariant-loop decreases-loop
-loop-less c =
-    let l = c.before.before.before.before.before.before.before.loop in
-    fewer l.invariant.1 _ l.t (below c) (l.invariant.0.passes (below c)) l.invariant.0.first c.before.less.ensures
+loop-t-smaller : tie.Need-loop-t-smaller invariant-loop-t decreases-loop-t
+loop-t-smaller c =
+    let l = c.loop-t in
+    fewer l.invariant.1 _ l.t (below c) (l.invariant.0.passes (below c)) l.invariant.0.first c.less-left.ensures
 
-loop-again : tie.Need-loop-preserved invariant-loop decreases-loop
-loop-again c =
-    let l = c.before.before.before.before.before.before.before.loop in (
-      c.lowest2.ensures,
-      brought_more l.invariant.1 _ l.t (below c) (l.invariant.0.passes (below c)) l.invariant.0.first c.before.less.ensures
-          c.before.before.before.before.put-nameless.ensures,
+loop-t-preserved : tie.Need-loop-t-preserved invariant-loop-t decreases-loop-t
+loop-t-preserved c =
+    let l = c.loop-t in (
+      c.lowest-t-in-loop-t.ensures,
+      brought_more l.invariant.1 _ l.t (below c) (l.invariant.0.passes (below c)) l.invariant.0.first c.less-left.ensures
+          c.put_nameless.ensures,
     )
 
-same_length : tie.Need-same-length invariant-loop decreases-loop
-same_length c = stored_long c.before.loop.invariant.1.stored ∙ sym (stored_long c.before.before.before.before.requires.0.0)
+shape_of-base : tie.Need-shape_of-base invariant-loop-t decreases-loop-t
+shape_of-base c = stored_long c.loop-t.invariant.1.stored ∙ sym (stored_long c.requires.0.0)
 
-returns : tie.Need-returns invariant-loop decreases-loop
-returns c = let l = c.before.loop in brought_all l.invariant.1 (lowest_none l.left l.invariant.0 (omega (arith, c.loop-test.false)))
+returns : tie.Need-returns invariant-loop-t decreases-loop-t
+returns c = let l = c.loop-t in brought_all l.invariant.1 (lowest_none l.left l.invariant.0 (omega (arith, c.loop-t-test.false)))
 
-pub bring-spec : {M : Type 1} → statement M
-bring-spec =
+pub bring_spec : {M : Type 1} → statement M
+bring_spec =
     tie.close
     (tie.spec
-    invariant-loop
-    decreases-loop
-    lowest-requires
-    loop-holds
-    put-nameless-requires
-    less-requires
-    lowest-requires-2
-    loop-less
-    loop-again
-    same_length
+    invariant-loop-t
+    decreases-loop-t
+    lowest-t-requires
+    loop-t-init
+    put_nameless-requires
+    less-left-requires
+    lowest-t-requires-in-loop-t
+    loop-t-smaller
+    loop-t-preserved
+    shape_of-base
     returns)

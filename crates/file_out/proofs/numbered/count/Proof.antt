@@ -48,10 +48,10 @@ loop-k-preserved c =
     let l = c.loop-k in
     let h = c.loop-k-test.true in (
       omega arith,
-      ⊎_elim (λ w. omega (arith, w.1, l.invariant.1)) (λ w. omega (arith, w.1, l.invariant.1)) c.if-base-start-ne0.branch-raw,
+      ⊎_elim (λ w. omega (arith, w.used-is, l.invariant.1)) (λ w. omega (arith, w.used-is, l.invariant.1)) c.if-base-start-ne0.branch-raw,
       ⊎_elim
-          (λ w. rw w.1 (row_counted _ _ _ l.invariant.2 h w.0.taken))
-          (λ w. rw w.1 (row_passed _ _ _ l.invariant.2 h w.0.left))
+          (λ w. rw w.used-is (row_counted _ _ _ l.invariant.2 h w.if-base-start-ne0.true))
+          (λ w. rw w.used-is (row_passed _ _ _ l.invariant.2 h w.if-base-start-ne0.false))
           c.if-base-start-ne0.branch-raw,
     )
 

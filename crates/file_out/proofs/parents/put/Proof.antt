@@ -50,7 +50,7 @@ loop-t-preserved : tie.Need-loop-t-preserved invariant-loop-t decreases-loop-t
 loop-t-preserved c =
     let l = c.loop-t in
     let h = c.loop-t-test.true in
-    let put = c.Put-of.ensures in
+    let put = c.put_of-at.ensures in
     (omega arith, spans_more _ 128 l.t l.invariant.1 h put.long put.is)
 
 shape_of-out : tie.Need-shape_of-out invariant-loop-t decreases-loop-t

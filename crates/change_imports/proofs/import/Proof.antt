@@ -56,12 +56,11 @@ slice_bounds-enter_one-end c = search rules
 
 enter_one-requires : tie.Need-enter_one-requires
 enter_one-requires c κs =
-    let named = c.before.before.before.before.before.before.before in
-    let first = named.before.before.before.before in
+    let first = c.before.before.before.before.before.before.before.before in
     let x = first.args in
     let v = first.named_by-named.result in
     let r = ready_1 first in
-    let name = cut_is named.name_length-n.ensures ∙ named.filled-first.ensures in
+    let name = cut_is c.name_length-n.ensures ∙ c.filled-first.ensures in
     let formed = ap well_formed name ∙ filled_formed (sound_good r.sound) x.source v.one x.new.now r.there r.named r.formed in (
       r.sound,
       (
@@ -75,9 +74,8 @@ shape_of-base-then-named-eq-TYPES c = search rules
 
 returns-then-named-eq-TYPES : tie.Need-returns-then-named-eq-TYPES
 returns-then-named-eq-TYPES c =
-    let named = c.before.before.before.before.before.before.before.before.before.before in
-    import_one (ready_1 named.before) (alone_2 c.before.before.before.before.before.before)
-    (cut_is named.name_length-n.ensures ∙ named.filled-first.ensures) c.missing-above.ensures c.enter_one.ensures
+    import_one (ready_1 c.before.before.before.before.before.before.before.before.before.before.before) (alone_2 c.before.before.before.before.before.before)
+    (cut_is c.name_length-n.ensures ∙ c.filled-first.ensures) c.missing-above.ensures c.enter_one.ensures
 
 filled-second-requires : tie.Need-filled-second-requires
 filled-second-requires c κs =
@@ -109,11 +107,11 @@ slice_bounds-enter_both-end-2 c = search rules
 
 enter_both-requires : tie.Need-enter_both-requires
 enter_both-requires c κs =
-    let first = c.before.before.before.before.before.before.before.before.before.before.before.before.before.before.before in
+    let first = c.before.before.before.before.before.before.before.before.before.before.before in
     let x = first.args in
     let v = first.named_by-named.result in
     let r = ready_1 first in
-    let e = paired_2 c.before.before.before.before.before.before.before.before.before in
+    let e = paired_2 c.before.before.before.before.before.before in
     let good = sound_good r.sound in
     let name = cut_is c.name_length-n.ensures ∙
     c.filled-first.ensures in
@@ -141,12 +139,10 @@ shape_of-base c = search rules
 
 returns : tie.Need-returns
 returns c =
-    let back = c.before.before.before.before.before.before.before.before in
-    let front = back.before.before.before.before.before.before in
-    import_both (ready_1 front)
+    import_both (ready_1 c.before.before.before.before.before.before.before.before.before.before.before.before.before.before)
     (paired_2 c.before.before.before.before.before.before.before.before.before)
-    (cut_is front.name_length-n.ensures ∙ front.filled-first.ensures)
-    (cut_is back.name_length-m.ensures ∙ back.filled-second.ensures)
+    (cut_is c.name_length-n.ensures ∙ c.filled-first.ensures)
+    (cut_is c.name_length-m.ensures ∙ c.filled-second.ensures)
     c.enter_both.ensures
 
 pub import_spec : {M : Type 1} → statement M

@@ -3,17 +3,17 @@ use Rattle.change_pairs.proofs.PairLaws.{forward_unfit, reverse_unfit, forward_n
 use Rattle.change_pairs.proofs.is_no_pair.Statement.{statement}
 use Rattle.change_pairs.proofs.is_no_pair.Tie as tie
 
+returns-then-category-gt3 : tie.Need-returns-then-category-gt3
+returns-then-category-gt3 c = forward_unfit _ _ c.if-category-gt3.true
+
+returns-then-back-gt3 : tie.Need-returns-then-back-gt3
+returns-then-back-gt3 c = reverse_unfit _ _ c.if-back-gt3.true
+
+returns-then-category-ne-IMPLICIT : tie.Need-returns-then-category-ne-IMPLICIT
+returns-then-category-ne-IMPLICIT c = forward_not_implicit _ _ c.if-category-gt3.false c.if-back-gt3.false c.if-category-ne-IMPLICIT.true
+
 returns : tie.Need-returns
-returns c = forward_unfit _ _ c.if1.true
+returns c = forward_implicit _ _ c.if-category-gt3.false c.if-back-gt3.false c.if-category-ne-IMPLICIT.false
 
-returns-2 : tie.Need-returns-2
-returns-2 c = reverse_unfit _ _ c.if2.true
-
-returns-3 : tie.Need-returns-3
-returns-3 c = forward_not_implicit _ _ c.before.before.if1.false c.before.if2.false c.if3.true
-
-returns-4 : tie.Need-returns-4
-returns-4 c = forward_implicit _ _ c.before.before.if1.false c.before.if2.false c.if3.false
-
-pub is-no-pair-spec : {M : Type 1} → statement M
-is-no-pair-spec = tie.close (tie.spec returns returns-2 returns-3 returns-4)
+pub is_no_pair_spec : {M : Type 1} → statement M
+is_no_pair_spec = tie.close (tie.spec returns-then-category-gt3 returns-then-back-gt3 returns-then-category-ne-IMPLICIT returns)

@@ -11,89 +11,81 @@ use Rattle.change_pairs.proofs.PairLaws.{pair_ready, new_pair_left, forward_read
 use Rattle.change_pairs.proofs.new_pair.Statement.{statement}
 use Rattle.change_pairs.proofs.new_pair.Tie as tie
 
-places-for-requires : tie.Need-places-for-requires
-places-for-requires c κs = search rules
+places_for-places-requires : tie.Need-places_for-places-requires
+places_for-places-requires c κs = search rules
 
 refused-requires : tie.Need-refused-requires
 refused-requires c κs = search rules
 
-same_length : tie.Need-same-length
-same_length c = search rules
+shape_of-base-then-places-ne0 : tie.Need-shape_of-base-then-places-ne0
+shape_of-base-then-places-ne0 c = search rules
 
-returns : tie.Need-returns
-returns c = tested_stops c.before.before.before.places-for.ensures.told c.before.if1.true (new_pair_left _ _ _ _ _ _) c.refused.ensures
+returns-then-places-ne0 : tie.Need-returns-then-places-ne0
+returns-then-places-ne0 c = tested_stops c.places_for-places.ensures.told c.if-places-ne0.true (new_pair_left _ _ _ _ _ _) c.refused.ensures
 
-slice-aggregate-write-type : tie.Need-slice-aggregate-write-type
-slice-aggregate-write-type c = search rules
-
-write-type-requires : tie.Need-write-type-requires
-write-type-requires c κs =
-    let p = c.before.before.before.before.places-for.ensures in
-    let z = c.before.before.if1.false in
+write_type-requires : tie.Need-write_type-requires
+write_type-requires c κs =
+    let p = c.places_for-places.ensures in
+    let z = c.if-places-ne0.false in
     let x = pair_ready _ _ _ _ _ p.told z in
     let f = p.so z in
     (sound_stored x.aim.sound, (f.below, ((omega arith, (omega (arith, x.categories.0), omega (arith, f.reverse_below))), omega arith)))
 
-put-presence-requires : tie.Need-put-presence-requires
-put-presence-requires c κs =
-    let p = c.before.before.before.before.before.before.before.before.places-for.ensures in
-    let z = c.before.before.before.before.before.before.if1.false in
+put_presence-requires : tie.Need-put_presence-requires
+put_presence-requires c κs =
+    let p = c.places_for-places.ensures in
+    let z = c.if-places-ne0.false in
     let x = pair_ready _ _ _ _ _ p.told z in
-    presence_ready (forward_ready x (p.so z)) _ (paired_written x.categories.0 c.before.before.before.write-type.ensures)
+    presence_ready (forward_ready x (p.so z)) _ (paired_written x.categories.0 c.write_type.ensures)
 
-slice-aggregate-write-type-2 : tie.Need-slice-aggregate-write-type-2
-slice-aggregate-write-type-2 c = search rules
-
-write-type-requires-2 : tie.Need-write-type-requires-2
-write-type-requires-2 c κs =
-    let p = c.before.before.before.before.before.before.before.before.before.before.before.before.before.places-for.ensures in
-    let z = c.before.before.before.before.before.before.before.before.before.before.before.if1.false in
+write_type-requires-2 : tie.Need-write_type-requires-2
+write_type-requires-2 c κs =
+    let p = c.places_for-places.ensures in
+    let z = c.if-places-ne0.false in
     let x = pair_ready _ _ _ _ _ p.told z in
-    row_ready x (p.so z) (paired_written x.categories.0 c.before.before.before.before.before.before.before.before.write-type.ensures)
-    c.before.before.before.before.put-presence.ensures
+    row_ready x (p.so z) (paired_written x.categories.0 c.write_type.ensures)
+    c.put_presence.ensures
 
-put-presence-requires-2 : tie.Need-put-presence-requires-2
-put-presence-requires-2 c κs =
-    let p = c.before.before.before.before.before.before.before.before.before.before.before.before.before.before.before.before.before.places-for.ensures in
-    let z = c.before.before.before.before.before.before.before.before.before.before.before.before.before.before.before.if1.false in
+put_presence-requires-2 : tie.Need-put_presence-requires-2
+put_presence-requires-2 c κs =
+    let p = c.places_for-places.ensures in
+    let z = c.if-places-ne0.false in
     let x = pair_ready _ _ _ _ _ p.told z in
     reverse_ready x (p.so z)
-    (paired_written x.categories.0 c.before.before.before.before.before.before.before.before.before.before.before.before.write-type.ensures)
-    c.before.before.before.before.before.before.before.before.put-presence.ensures
-    (paired_written x.categories.1 c.before.before.before.write-type2.ensures)
+    (paired_written x.categories.0 c.write_type.ensures)
+    c.put_presence.ensures
+    (paired_written x.categories.1 c.write_type-2.ensures)
 
 done-requires : tie.Need-done-requires
 done-requires c κs = search rules
 
-same-length-2 : tie.Need-same-length-2
-same-length-2 c = search rules
+shape_of-base : tie.Need-shape_of-base
+shape_of-base c = search rules
 
-returns-2 : tie.Need-returns-2
+returns : tie.Need-returns
 unfolding all
-returns-2 c =
-    let p = c.before.before.before.before.before.before.before.before.before.before.before.before.before.before.before.before.before.before.before.before.before.places-for.ensures in
-    let z = c.before.before.before.before.before.before.before.before.before.before.before.before.before.before.before.before.before.before.before.if1.false in
+returns c =
+    let p = c.places_for-places.ensures in
+    let z = c.if-places-ne0.false in
     let x = pair_ready _ _ _ _ _ p.told z in
     pair_kept x (p.so z)
-    (paired_written x.categories.0 c.before.before.before.before.before.before.before.before.before.before.before.before.before.before.before.before.write-type.ensures)
-    c.before.before.before.before.before.before.before.before.before.before.before.before.put-presence.ensures
-    (paired_written x.categories.1 c.before.before.before.before.before.before.before.write-type2.ensures)
-    (tested_passes p.told z refl (new_pair_left _ _ _ _ _ _)) c.done.ensures c.before.before.before.put-presence2.ensures
+    (paired_written x.categories.0 c.write_type.ensures)
+    c.put_presence.ensures
+    (paired_written x.categories.1 c.write_type-2.ensures)
+    (tested_passes p.told z refl (new_pair_left _ _ _ _ _ _)) c.done.ensures c.put_presence-2.ensures
 
-pub new-pair-spec : {M : Type 1} → statement M
-new-pair-spec =
+pub new_pair_spec : {M : Type 1} → statement M
+new_pair_spec =
     tie.close
     (tie.spec
-    places-for-requires
+    places_for-places-requires
     refused-requires
-    same_length
-    returns
-    slice-aggregate-write-type
-    write-type-requires
-    put-presence-requires
-    slice-aggregate-write-type-2
-    write-type-requires-2
-    put-presence-requires-2
+    shape_of-base-then-places-ne0
+    returns-then-places-ne0
+    write_type-requires
+    put_presence-requires
+    write_type-requires-2
+    put_presence-requires-2
     done-requires
-    same-length-2
-    returns-2)
+    shape_of-base
+    returns)

@@ -11,82 +11,81 @@ use Rattle.change_types.proofs.CreateLaws.{numbers_short, presences_short, both_
 use Rattle.change_pairs.proofs.room_for_two.Statement.{statement}
 use Rattle.change_pairs.proofs.room_for_two.Tie as tie
 
-free-type-requires : tie.Need-free-type-requires
-free-type-requires c κs = search rules
+free_type-t-requires : tie.Need-free_type-t-requires
+free_type-t-requires c κs = search rules
 
 refused-requires : tie.Need-refused-requires
 refused-requires c κs = search rules
 
-returns : tie.Need-returns
-returns c =
-    refused_here (come_first c.before.before.before.before.requires)
-    (numbers_short _ 2 (no_room_for c.before.before.free-type.ensures 2 (omega arith) c.before.if1.true))
+returns-then-t-ge-TYPES : tie.Need-returns-then-t-ge-TYPES
+returns-then-t-ge-TYPES c =
+    refused_here (come_first c.requires)
+    (numbers_short _ 2 (no_room_for c.free_type-t.ensures 2 (omega arith) c.if-t-ge-TYPES.true))
     c.refused.ensures (omega arith)
 
-add-free-type : tie.Need-overflow-add-free-type
-add-free-type c = search rules
+overflow_add-t : tie.Need-overflow_add-t
+overflow_add-t c = search rules
 
-free-type-requires-2 : tie.Need-free-type-requires-2
-free-type-requires-2 c κs = search rules
+free_type-r-requires : tie.Need-free_type-r-requires
+free_type-r-requires c κs = search rules
 
-refused-requires-2 : tie.Need-refused-requires-2
-refused-requires-2 c κs = search rules
+refused-requires-then-r-ge-TYPES : tie.Need-refused-requires-then-r-ge-TYPES
+refused-requires-then-r-ge-TYPES c κs = search rules
 
-returns-2 : tie.Need-returns-2
-returns-2 c =
-    let below : c.before.before.before.before.free-type.result < 128 = let h = c.before.before.before.if1.false in omega arith in
-    refused_here (come_first c.before.before.before.before.before.before.requires)
-    (numbers_short _ 2 (no_room_for_two c.before.before.before.before.free-type.ensures below c.before.before.free-type2.ensures
-    c.before.if2.true))
-    c.refused2.ensures (omega arith)
+returns-then-r-ge-TYPES : tie.Need-returns-then-r-ge-TYPES
+returns-then-r-ge-TYPES c =
+    let below : c.free_type-t.result < 128 = let h = c.if-t-ge-TYPES.false in omega arith in
+    refused_here (come_first c.requires)
+    (numbers_short _ 2 (no_room_for_two c.free_type-t.ensures below c.free_type-r.ensures
+    c.if-r-ge-TYPES.true))
+    c.refused-then-r-ge-TYPES.ensures (omega arith)
 
-presence-count-requires : tie.Need-presence-count-requires
-presence-count-requires c κs = sound_long c.before.before.before.before.before.requires
+presence_count-requires : tie.Need-presence_count-requires
+presence_count-requires c κs = sound_long c.requires
 
-add-if3 : tie.Need-overflow-add-if3
-add-if3 c = search rules
+overflow_add-presence_count : tie.Need-overflow_add-presence_count
+overflow_add-presence_count c = search rules
 
-refused-requires-3 : tie.Need-refused-requires-3
-refused-requires-3 c κs = search rules
+refused-requires-then-presence_count-gt-PRESENCES : tie.Need-refused-requires-then-presence_count-gt-PRESENCES
+refused-requires-then-presence_count-gt-PRESENCES c κs = search rules
 
-returns-3 : tie.Need-returns-3
-returns-3 c =
-    refused_here (come_first c.before.before.before.before.before.before.before.before.requires)
-    (presences_short _ 2 (let h = c.before.if3.true in omega (arith, c.before.before.presence_count.ensures.is)))
-    c.refused3.ensures (omega arith)
+returns-then-presence_count-gt-PRESENCES : tie.Need-returns-then-presence_count-gt-PRESENCES
+returns-then-presence_count-gt-PRESENCES c =
+    refused_here (come_first c.requires)
+    (presences_short _ 2 (let h = c.if-presence_count-gt-PRESENCES.true in omega (arith, c.presence_count.ensures.is)))
+    c.refused-then-presence_count-gt-PRESENCES.ensures (omega arith)
 
-returns-4 : tie.Need-returns-4
-returns-4 c =
-    let f = c.before.before.before.before.before.free-type.ensures in
-    let g = c.before.before.before.free-type2.ensures in
-    let below : c.before.before.before.before.before.free-type.result < 128 = let h = c.before.before.before.before.if1.false in omega arith in
-    let next : c.before.before.before.free-type2.result < 128 = let h = c.before.before.if2.false in omega arith in
-    let h = c.if3.false in
-    let start = c.before.before.before.before.before.before.before in
+returns : tie.Need-returns
+returns c =
+    let f = c.free_type-t.ensures in
+    let g = c.free_type-r.ensures in
+    let below : c.free_type-t.result < 128 = let h = c.if-t-ge-TYPES.false in omega arith in
+    let next : c.free_type-r.result < 128 = let h = c.if-r-ge-TYPES.false in omega arith in
+    let h = c.if-presence_count-gt-PRESENCES.false in
     passed_by
-    (come_through (come_next (come_first start.requires)
-    (both_fit _ 2 (room_for_two f below g next) (omega (arith, c.before.presence_count.ensures.is)))))
+    (come_through (come_next (come_first c.requires)
+    (both_fit _ 2 (room_for_two f below g next) (omega (arith, c.presence_count.ensures.is)))))
     (record {
-      room = omega (arith, c.before.presence_count.ensures.is, presences_long start.args.base.now);
+      room = omega (arith, c.presence_count.ensures.is, presences_long c.args.base.now);
       below = below;
       new = new_type_is f below;
       reverse_below = next;
       second = second_type_is f below g next;
     })
 
-pub room-for-two-spec : {M : Type 1} → statement M
-room-for-two-spec =
+pub room_for_two_spec : {M : Type 1} → statement M
+room_for_two_spec =
     tie.close
     (tie.spec
-    free-type-requires
+    free_type-t-requires
     refused-requires
-    returns
-    add-free-type
-    free-type-requires-2
-    refused-requires-2
-    returns-2
-    presence-count-requires
-    add-if3
-    refused-requires-3
-    returns-3
-    returns-4)
+    returns-then-t-ge-TYPES
+    overflow_add-t
+    free_type-r-requires
+    refused-requires-then-r-ge-TYPES
+    returns-then-r-ge-TYPES
+    presence_count-requires
+    overflow_add-presence_count
+    refused-requires-then-presence_count-gt-PRESENCES
+    returns-then-presence_count-gt-PRESENCES
+    returns)

@@ -7,26 +7,26 @@ use Rattle.change_sdss.proofs.fresh.Tie as tie
 refused-requires : tie.Need-refused-requires
 refused-requires c κs = search rules
 
-returns : tie.Need-returns
-returns c = record { wrong_length = λ n. (c.refused.ensures, refl); written = λ l. absurd (c.before.if1.true l) }
+returns-then-base-ne-LENGTH : tie.Need-returns-then-base-ne-LENGTH
+returns-then-base-ne-LENGTH c = record { wrong_length = λ n. (c.refused.ensures, refl); written = λ l. absurd (c.if-base-ne-LENGTH.true l) }
 
-write-fresh-requires : tie.Need-write-fresh-requires
-write-fresh-requires c κs = search rules
+write_fresh-requires : tie.Need-write_fresh-requires
+write_fresh-requires c κs = search rules
 
 done-requires : tie.Need-done-requires
 done-requires c κs = search rules
 
-same_length : tie.Need-same-length
-same_length c = search rules
+shape_of-base : tie.Need-shape_of-base
+shape_of-base c = search rules
 
-returns-2 : tie.Need-returns-2
-returns-2 c = record {
-  wrong_length = λ n. absurd (n c.before.before.before.before.before.if1.false);
+returns : tie.Need-returns
+returns c = record {
+  wrong_length = λ n. absurd (n c.if-base-ne-LENGTH.false);
   written = λ l.
-      (c.done.ensures, c.before.before.before.write-fresh.ensures);
+      (c.done.ensures, c.write_fresh.ensures);
 }
 
-pub fresh-spec : {M : Type 1} → statement M
-fresh-spec =
+pub fresh_spec : {M : Type 1} → statement M
+fresh_spec =
     tie.close
-    (tie.spec refused-requires returns write-fresh-requires done-requires same_length returns-2)
+    (tie.spec refused-requires returns-then-base-ne-LENGTH write_fresh-requires done-requires shape_of-base returns)

@@ -24,120 +24,120 @@ use Rattle.change_sdss.proofs.new_sds.Tie as tie
 abbrev Ways : List ℕ → List ℕ → ℕ → Type 0
 Ways b n k = Left (new_sds n (schema_of b)) (drop k (new_sds_refusals n (schema_of b))) (new_sds_effect n (schema_of b))
 
-sound_1 : (c : tie.Else1) → Sound c.before.before.before.before.before.args.base.now
-sound_1 c = c.before.is_sound.ensures.holds (not-false _ c.if1.false)
+sound_1 : (c : tie.Else-not-is_sound) → Sound c.args.base.now
+sound_1 c = c.is_sound.ensures.holds (not-false _ c.if-not-is_sound.false-raw)
 
-formed_2 : (c : tie.Else2) → well_formed c.before.before.before.before.before.before.before.args.name.now ≡ true
-formed_2 c = sym c.before.is-well-formed.ensures ∙ not-false _ c.if2.false
+formed_2 : (c : tie.Else-not-is_well_formed) → well_formed c.args.name.now ≡ true
+formed_2 c = sym c.is_well_formed.ensures ∙ not-false _ c.if-not-is_well_formed.false-raw
 
-left_2 : (c : tie.Else2) → Ways c.before.before.before.before.before.before.before.args.base.now
-    c.before.before.before.before.before.before.before.args.name.now 1
+left_2 : (c : tie.Else-not-is_well_formed) → Ways c.args.base.now
+    c.args.name.now 1
 left_2 c = passes (new_sds_left _ _) (formed_passes _ (formed_2 c))
 
-left_3 : (c : tie.Else3) → Ways c.before.before.before.before.before.before.before.before.before.before.args.base.now
-    c.before.before.before.before.before.before.before.before.before.before.args.name.now 2
-left_3 c = passes (left_2 c.before.before.before) (sym c.before.has-sds-named.ensures ∙ c.if3.false)
+left_3 : (c : tie.Else-has_sds_named) → Ways c.args.base.now
+    c.args.name.now 2
+left_3 c = passes (left_2 c.before.before) (sym c.has_sds_named.ensures ∙ c.if-has_sds_named.false)
 
-left_4 : (c : tie.Else4) → Ways
-    c.before.before.before.before.before.before.before.before.before.before.before.before.before.args.base.now
-    c.before.before.before.before.before.before.before.before.before.before.before.before.before.args.name.now 3
-left_4 c = passes (left_3 c.before.before.before) (free_some c.before.free-sds.ensures c.if4.false)
+left_4 : (c : tie.Else-d-ge-SDSS) → Ways
+    c.args.base.now
+    c.args.name.now 3
+left_4 c = passes (left_3 c.before.before) (free_some c.free_sds-d.ensures c.if-d-ge-SDSS.false)
 
-is-sound-requires : tie.Need-is-sound-requires
-is-sound-requires c κs = search rules
+is_sound-requires : tie.Need-is_sound-requires
+is_sound-requires c κs = search rules
 
 refused-requires : tie.Need-refused-requires
 refused-requires c κs = search rules
 
-same_length : tie.Need-same-length
-same_length c = search rules
+shape_of-base-then-not-is_sound : tie.Need-shape_of-base-then-not-is_sound
+shape_of-base-then-not-is_sound c = search rules
 
-returns : tie.Need-returns
-returns c = kept_spoiled (c.before.before.is_sound.ensures.fails (not-true _ c.before.if1.true)) c.refused.ensures
+returns-then-not-is_sound : tie.Need-returns-then-not-is_sound
+returns-then-not-is_sound c = kept_spoiled (c.is_sound.ensures.fails (not-true _ c.if-not-is_sound.true-raw)) c.refused.ensures
 
-is-well-formed-requires : tie.Need-is-well-formed-requires
-is-well-formed-requires c κs = search rules
+is_well_formed-requires : tie.Need-is_well_formed-requires
+is_well_formed-requires c κs = search rules
 
-refused-requires-2 : tie.Need-refused-requires-2
-refused-requires-2 c κs = search rules
+refused-requires-then-not-is_well_formed : tie.Need-refused-requires-then-not-is_well_formed
+refused-requires-then-not-is_well_formed c κs = search rules
 
-same-length-2 : tie.Need-same-length-2
-same-length-2 c = search rules
+shape_of-base-then-not-is_well_formed : tie.Need-shape_of-base-then-not-is_well_formed
+shape_of-base-then-not-is_well_formed c = search rules
 
-returns-2 : tie.Need-returns-2
-returns-2 c = kept_refused (sound_1 c.before.before.before) (stops (new_sds_left _ _) (malformed_stops _ (sym
-    c.before.before.is-well-formed.ensures ∙ not-true _ c.before.if2.true))) c.refused2.ensures
+returns-then-not-is_well_formed : tie.Need-returns-then-not-is_well_formed
+returns-then-not-is_well_formed c = kept_refused (sound_1 c.before.before.before) (stops (new_sds_left _ _) (malformed_stops _ (sym
+    c.is_well_formed.ensures ∙ not-true _ c.if-not-is_well_formed.true-raw))) c.refused-then-not-is_well_formed.ensures
 
-has-sds-named-requires : tie.Need-has-sds-named-requires
-has-sds-named-requires c κs = (sound_long (sound_1 c.before.before.before), formed_2 c.before)
+has_sds_named-requires : tie.Need-has_sds_named-requires
+has_sds_named-requires c κs = (sound_long (sound_1 c.before.before), formed_2 c)
 
-refused-requires-3 : tie.Need-refused-requires-3
-refused-requires-3 c κs = search rules
+refused-requires-then-has_sds_named : tie.Need-refused-requires-then-has_sds_named
+refused-requires-then-has_sds_named c κs = search rules
 
-same-length-3 : tie.Need-same-length-3
-same-length-3 c = search rules
+shape_of-base-then-has_sds_named : tie.Need-shape_of-base-then-has_sds_named
+shape_of-base-then-has_sds_named c = search rules
 
-returns-3 : tie.Need-returns-3
-returns-3 c = kept_refused (sound_1 c.before.before.before.before.before.before) (stops (left_2 c.before.before.before.before) (sym
-    c.before.before.has-sds-named.ensures ∙ c.before.if3.true)) c.refused3.ensures
+returns-then-has_sds_named : tie.Need-returns-then-has_sds_named
+returns-then-has_sds_named c = kept_refused (sound_1 c.before.before.before.before.before) (stops (left_2 c.before.before.before) (sym
+    c.has_sds_named.ensures ∙ c.if-has_sds_named.true)) c.refused-then-has_sds_named.ensures
 
-free-sds-requires : tie.Need-free-sds-requires
-free-sds-requires c κs = sound_long (sound_1 c.before.before.before.before.before.before)
+free_sds-d-requires : tie.Need-free_sds-d-requires
+free_sds-d-requires c κs = sound_long (sound_1 c.before.before.before.before)
 
-refused-requires-4 : tie.Need-refused-requires-4
-refused-requires-4 c κs = search rules
+refused-requires-then-d-ge-SDSS : tie.Need-refused-requires-then-d-ge-SDSS
+refused-requires-then-d-ge-SDSS c κs = search rules
 
-same-length-4 : tie.Need-same-length-4
-same-length-4 c = search rules
+shape_of-base-then-d-ge-SDSS : tie.Need-shape_of-base-then-d-ge-SDSS
+shape_of-base-then-d-ge-SDSS c = search rules
 
-returns-4 : tie.Need-returns-4
-returns-4 c = kept_refused (sound_1 c.before.before.before.before.before.before.before.before.before) (stops (left_3
-    c.before.before.before.before) (free_none c.before.before.free-sds.ensures c.before.if4.true)) c.refused4.ensures
+returns-then-d-ge-SDSS : tie.Need-returns-then-d-ge-SDSS
+returns-then-d-ge-SDSS c = kept_refused (sound_1 c.before.before.before.before.before.before.before) (stops (left_3
+    c.before.before.before) (free_none c.free_sds-d.ensures c.if-d-ge-SDSS.true)) c.refused-then-d-ge-SDSS.ensures
 
-write-sds-requires : tie.Need-write-sds-requires
-write-sds-requires c κs = (
-  sound_long (sound_1 c.before.before.before.before.before.before.before.before.before),
-  (c.before.if4.false, (formed_long _ (formed_2 c.before.before.before.before.before.before.before)).1),
+write_sds-requires : tie.Need-write_sds-requires
+write_sds-requires c κs = (
+  sound_long (sound_1 c.before.before.before.before.before.before.before),
+  (c.if-d-ge-SDSS.false, (formed_long _ (formed_2 c.before.before.before.before.before)).1),
 )
 
 done-requires : tie.Need-done-requires
 done-requires c κs = search rules
 
-same-length-5 : tie.Need-same-length-5
-same-length-5 c = search rules
+shape_of-base : tie.Need-shape_of-base
+shape_of-base c = search rules
 
-returns-5 : tie.Need-returns-5
-returns-5 c =
-    let x = c.before.before.before.before.before.before.before.before.before.before.before.before.before.before.before.before.before.before.args in
-    let d = c.before.before.before.before.before.before.free-sds.result in
-    let number = free_number c.before.before.before.before.before.before.free-sds.ensures c.before.before.before.before.before.if4.false in
-    kept_done (sound_1 c.before.before.before.before.before.before.before.before.before.before.before.before.before) (ends (left_4
+returns : tie.Need-returns
+returns c =
+    let x = c.args in
+    let d = c.free_sds-d.result in
+    let number = free_number c.free_sds-d.ensures c.if-d-ge-SDSS.false in
+    kept_done (sound_1 c.before.before.before.before.before.before.before.before.before.before.before) (ends (left_4
     c.before.before.before.before.before)) (c.done.ensures ∙ ap (λ (k : ℕ). success k 0 0) number)
-    (c.before.before.before.write-sds.ensures ∙ sds_changed (sound_1
-    c.before.before.before.before.before.before.before.before.before.before.before.before.before) d x.name.now
-    c.before.before.before.before.before.if4.false ∙ ap (λ (k : ℕ). picture (named k x.name.now (schema_of x.base.now))) number)
+    (c.write_sds.ensures ∙ sds_changed (sound_1
+    c.before.before.before.before.before.before.before.before.before.before.before) d x.name.now
+    c.if-d-ge-SDSS.false ∙ ap (λ (k : ℕ). picture (named k x.name.now (schema_of x.base.now))) number)
 
-pub new-sds-spec : {M : Type 1} → statement M
-new-sds-spec =
+pub new_sds_spec : {M : Type 1} → statement M
+new_sds_spec =
     tie.close
     (tie.spec
-    is-sound-requires
+    is_sound-requires
     refused-requires
-    same_length
-    returns
-    is-well-formed-requires
-    refused-requires-2
-    same-length-2
-    returns-2
-    has-sds-named-requires
-    refused-requires-3
-    same-length-3
-    returns-3
-    free-sds-requires
-    refused-requires-4
-    same-length-4
-    returns-4
-    write-sds-requires
+    shape_of-base-then-not-is_sound
+    returns-then-not-is_sound
+    is_well_formed-requires
+    refused-requires-then-not-is_well_formed
+    shape_of-base-then-not-is_well_formed
+    returns-then-not-is_well_formed
+    has_sds_named-requires
+    refused-requires-then-has_sds_named
+    shape_of-base-then-has_sds_named
+    returns-then-has_sds_named
+    free_sds-d-requires
+    refused-requires-then-d-ge-SDSS
+    shape_of-base-then-d-ge-SDSS
+    returns-then-d-ge-SDSS
+    write_sds-requires
     done-requires
-    same-length-5
-    returns-5)
+    shape_of-base
+    returns)

@@ -17,75 +17,71 @@ use Rattle.change_sdss.proofs.Laws.{remove_sds_effect, remove_sds_left}
 use Rattle.change_sdss.proofs.remove_sds.Statement.{statement}
 use Rattle.change_sdss.proofs.remove_sds.Tie as tie
 
-aim_1 : (c : tie.Else1) → let x = c.before.before.before.before.args in Aimed x.base.now x.sds
-aim_1 c = aimed_well _ c.before.aimed-at.ensures c.if1.false
+aim_1 : (c : tie.Else-no-ne0) → let x = c.args in Aimed x.base.now x.sds
+aim_1 c = aimed_well _ c.aimed_at-no.ensures c.if-no-ne0.false
 
-left_1 : (c : tie.Else1) → let x = c.before.before.before.before.args in let s = schema_of x.base.now in
+left_1 : (c : tie.Else-no-ne0) → let x = c.args in let s = schema_of x.base.now in
     Left (remove_sds x.sds s) ((12 held_by types_in s x.sds) ∷ []) (remove_sds_effect x.sds s)
 unfolding all
-left_1 c = begun_passes _ c.before.aimed-at.ensures c.if1.false refl (remove_sds_left _ _)
+left_1 c = begun_passes _ c.aimed_at-no.ensures c.if-no-ne0.false refl (remove_sds_left _ _)
 
-aimed-at-requires : tie.Need-aimed-at-requires
-aimed-at-requires c κs = search rules
+aimed_at-no-requires : tie.Need-aimed_at-no-requires
+aimed_at-no-requires c κs = search rules
 
 refused-requires : tie.Need-refused-requires
 refused-requires c κs = search rules
 
-same_length : tie.Need-same-length
-same_length c = search rules
+shape_of-base-then-no-ne0 : tie.Need-shape_of-base-then-no-ne0
+shape_of-base-then-no-ne0 c = search rules
 
-returns : tie.Need-returns
-returns c = begun_stops _ c.before.before.aimed-at.ensures c.before.if1.true (remove_sds_left _ _) c.refused.ensures
+returns-then-no-ne0 : tie.Need-returns-then-no-ne0
+returns-then-no-ne0 c = begun_stops _ c.aimed_at-no.ensures c.if-no-ne0.true (remove_sds_left _ _) c.refused.ensures
 
-lowest-type-requires : tie.Need-lowest-type-requires
-lowest-type-requires c κs = (aim_1 c.before).sound
+lowest_type-lowest-requires : tie.Need-lowest_type-lowest-requires
+lowest_type-lowest-requires c κs = (aim_1 c).sound
 
 telling-requires : tie.Need-telling-requires
 telling-requires c κs = search rules
 
-same-length-2 : tie.Need-same-length-2
-same-length-2 c = search rules
+shape_of-base-then-lowest-ne-TYPES : tie.Need-shape_of-base-then-lowest-ne-TYPES
+shape_of-base-then-lowest-ne-TYPES c = search rules
 
-returns-2 : tie.Need-returns-2
-returns-2 c =
-    let first = c.before.before.before.before in
-    let (stands, is) = sds_held _ _ c.before.before.lowest-type.ensures c.before.if2.true in
+returns-then-lowest-ne-TYPES : tie.Need-returns-then-lowest-ne-TYPES
+returns-then-lowest-ne-TYPES c =
+    let first = c.before.before.before in
+    let (stands, is) = sds_held _ _ c.lowest_type-lowest.ensures c.if-lowest-ne-TYPES.true in
     kept_refused (aim_1 first).sound (stops (left_1 first) stands) (c.telling.ensures ∙ ap (telling 12) (sym is))
 
-slice-aggregate-write-sds : tie.Need-slice-aggregate-write-sds
-slice-aggregate-write-sds c = search rules
-
-write-sds-requires : tie.Need-write-sds-requires
-write-sds-requires c κs = let aim = aim_1 c.before.before.before.before.before in (sound_long aim.sound, (aim.below, omega arith))
+write_sds-requires : tie.Need-write_sds-requires
+write_sds-requires c κs = let aim = aim_1 c.before.before.before.before.before in (sound_long aim.sound, (aim.below, omega arith))
 
 done-requires : tie.Need-done-requires
 done-requires c κs = search rules
 
-same-length-3 : tie.Need-same-length-3
-same-length-3 c = search rules
+shape_of-base : tie.Need-shape_of-base
+shape_of-base c = search rules
 
-returns-3 : tie.Need-returns-3
-returns-3 c =
+returns : tie.Need-returns
+returns c =
     let past = c.before.before.before.before.before.before in
     let first = past.before.before.before in
     let aim = aim_1 first in
-    kept_done aim.sound (ends (passes (left_1 first) (sds_empty _ _ past.before.lowest-type.ensures past.if2.false))) c.done.ensures
-    (c.before.before.before.write-sds.ensures ∙ sds_changed aim.sound _ [] aim.below)
+    kept_done aim.sound (ends (passes (left_1 first) (sds_empty _ _ past.lowest_type-lowest.ensures past.if-lowest-ne-TYPES.false))) c.done.ensures
+    (c.write_sds.ensures ∙ sds_changed aim.sound _ [] aim.below)
 
-pub remove-sds-spec : {M : Type 1} → statement M
-remove-sds-spec =
+pub remove_sds_spec : {M : Type 1} → statement M
+remove_sds_spec =
     tie.close
     (tie.spec
-    aimed-at-requires
+    aimed_at-no-requires
     refused-requires
-    same_length
-    returns
-    lowest-type-requires
+    shape_of-base-then-no-ne0
+    returns-then-no-ne0
+    lowest_type-lowest-requires
     telling-requires
-    same-length-2
-    returns-2
-    slice-aggregate-write-sds
-    write-sds-requires
+    shape_of-base-then-lowest-ne-TYPES
+    returns-then-lowest-ne-TYPES
+    write_sds-requires
     done-requires
-    same-length-3
-    returns-3)
+    shape_of-base
+    returns)

@@ -8,48 +8,48 @@ use Rattle.file.proofs.FileLaws.{accepts}
 use Rattle.file.proofs.accept.Statement.{statement}
 use Rattle.file.proofs.accept.Tie as tie
 
-abbrev to_load_from_copy_if_arg : (c : tie.After-copy-if-arg) → tie.After-load
+abbrev to_load_from_copy_if_arg : (c : tie.After-copy_if-arg-1) → tie.After-load
 to_load_from_copy_if_arg c = c.before.before.before.before.before
 
-abbrev to_is_told_by : (c : tie.After-slice-known2) → tie.After-is-told-by
+abbrev to_is_told_by : (c : tie.After-slice_known-2-1) → tie.After-is_told_by-good
 to_is_told_by c = c.before.before.before.before.before
 
-abbrev to_load_from_slice_known2 : (c : tie.After-slice-known2) → tie.After-load
+abbrev to_load_from_slice_known2 : (c : tie.After-slice_known-2-1) → tie.After-load
 to_load_from_slice_known2 c = to_load_from_copy_if_arg c.before.before.before
 
-slice-aggregate-load : tie.Need-slice-aggregate-load
-slice-aggregate-load c = search rules
+slice_bounds-load-end : tie.Need-slice_bounds-load-end
+slice_bounds-load-end c = search rules
 
 load-requires : tie.Need-load-requires
 load-requires c κs = length-replicate {A = ℕ} base_length 0
 
-slice-aggregate-is-told-by : tie.Need-slice-aggregate-is-told-by
-slice-aggregate-is-told-by c = search rules
+slice_bounds-is_told_by-end : tie.Need-slice_bounds-is_told_by-end
+slice_bounds-is_told_by-end c = search rules
 
-is-told-by-requires : tie.Need-is-told-by-requires
-is-told-by-requires c κs = search rules
+is_told_by-good-requires : tie.Need-is_told_by-good-requires
+is_told_by-good-requires c κs = search rules
 
-slice-aggregate-copy-if : tie.Need-slice-aggregate-copy-if
-slice-aggregate-copy-if c = search rules
+slice_bounds-copy_if-end : tie.Need-slice_bounds-copy_if-end
+slice_bounds-copy_if-end c = search rules
 
-copy-if-requires : tie.Need-copy-if-requires
-copy-if-requires c κs = let l = (to_load_from_copy_if_arg c).load.ensures in omega (arith, l.long)
+copy_if-requires : tie.Need-copy_if-requires
+copy_if-requires c κs = let l = (to_load_from_copy_if_arg c).load.ensures in omega (arith, l.long)
 
-same_length : tie.Need-same-length
-same_length c = search rules
+shape_of-base : tie.Need-shape_of-base
+shape_of-base c = search rules
 
 returns : tie.Need-returns
-returns c = accepts (to_load_from_slice_known2 c).load.ensures (to_is_told_by c).is-told-by.ensures c.before.before.copy-if.ensures
+returns c = accepts (to_load_from_slice_known2 c).load.ensures (to_is_told_by c).is_told_by-good.ensures c.copy_if.ensures
 
-pub accept-spec : {M : Type 1} → statement M
-accept-spec =
+pub accept_spec : {M : Type 1} → statement M
+accept_spec =
     tie.close
     (tie.spec
-    slice-aggregate-load
+    slice_bounds-load-end
     load-requires
-    slice-aggregate-is-told-by
-    is-told-by-requires
-    slice-aggregate-copy-if
-    copy-if-requires
-    same_length
+    slice_bounds-is_told_by-end
+    is_told_by-good-requires
+    slice_bounds-copy_if-end
+    copy_if-requires
+    shape_of-base
     returns)

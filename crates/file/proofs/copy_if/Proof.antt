@@ -11,19 +11,17 @@ use Rattle.file.proofs.copy_if.Tie as tie
 write-requires : tie.Need-write-requires
 write-requires c κs = search rules
 
-same_length : tie.Need-same-length
-same_length c = search rules
+shape_of-base : tie.Need-shape_of-base
+shape_of-base c = search rules
 
-returns : tie.Need-returns
-returns c =
-    let x = c.before.before.before.before.before.before.before in
-    copied x.args.area.now x.args.base.now x.requires c.before.before.write.ensures
-    ∙ sym (ap (λ (g : Bool). cond {A = List ℕ} g x.args.area.now x.args.base.now) c.before.before.before.before.if1.true)
+returns-then-good : tie.Need-returns-then-good
+returns-then-good c =
+    copied c.args.area.now c.args.base.now c.requires c.write.ensures
+    ∙ sym (ap (λ (g : Bool). cond {A = List ℕ} g c.args.area.now c.args.base.now) c.if-good.true)
 
-returns-2 : tie.Need-returns-2
-returns-2 c =
-    let x = c.before.before.before in
-    sym (ap (λ (g : Bool). cond {A = List ℕ} g x.args.area.now x.args.base.now) c.if1.false)
+returns-else-good : tie.Need-returns-else-good
+returns-else-good c =
+    sym (ap (λ (g : Bool). cond {A = List ℕ} g c.args.area.now c.args.base.now) c.if-good.false)
 
-pub copy-if-spec : {M : Type 1} → statement M
-copy-if-spec = tie.close (tie.spec write-requires same_length returns returns-2)
+pub copy_if_spec : {M : Type 1} → statement M
+copy_if_spec = tie.close (tie.spec write-requires shape_of-base returns-then-good returns-else-good)

@@ -14,88 +14,83 @@ use Rattle.file.proofs.FileLaws.{taken_back, taken_long, decided}
 use Rattle.file.proofs.is_file_of.Statement.{statement}
 use Rattle.file.proofs.is_file_of.Tie as tie
 
-abbrev invariant-loop : tie.invariant-loop
-invariant-loop base file bytes₀ at₀ j₀ bytes at j = (length bytes ≡ 2562) × Met (file_parts (schema_of base)) file at j
+abbrev invariant-loop-j : tie.invariant-loop-j
+invariant-loop-j base file bytes₀ at₀ j₀ bytes at j = (length bytes ≡ 2562) × Met (file_parts (schema_of base)) file at j
 
-abbrev decreases-loop : tie.decreases-loop
-decreases-loop base file bytes₀ at₀ j₀ bytes at j = 22 - j
+abbrev decreases-loop-j : tie.decreases-loop-j
+decreases-loop-j base file bytes₀ at₀ j₀ bytes at j = 22 - j
 
-loop-holds : tie.Need-loop-init invariant-loop decreases-loop
-loop-holds c = (length-replicate {A = ℕ} 2562 0, met_none _ _)
+loop-j-init : tie.Need-loop-j-init invariant-loop-j decreases-loop-j
+loop-j-init c = (length-replicate {A = ℕ} 2562 0, met_none _ _)
 
-slice-aggregate-part : tie.Need-slice-aggregate-part invariant-loop decreases-loop
-slice-aggregate-part c = sym c.before.before.loop.invariant.0
+slice_bounds-part-end : tie.Need-slice_bounds-part-end invariant-loop-j decreases-loop-j
+slice_bounds-part-end c = sym c.loop-j.invariant.0
 
-part-requires : tie.Need-part-requires invariant-loop decreases-loop
-part-requires c κs =
-    let x = c.before.before.before.before.before in
-    let loop = c.before.before.loop in
-    (x.requires, (c.before.loop-test.true, omega (arith, part_most (sound_good x.requires) loop.j, loop.invariant.0)))
+part-n-requires : tie.Need-part-n-requires invariant-loop-j decreases-loop-j
+part-n-requires c κs =
+    let loop = c.loop-j in
+    (c.requires, (c.loop-j-test.true, omega (arith, part_most (sound_good c.requires) loop.j, loop.invariant.0)))
 
-array-share-prefix-bytes : tie.Need-array-share-prefix-bytes invariant-loop decreases-loop
-array-share-prefix-bytes c =
-    let x = c.before.before.before.before.before.before.before in
-    let loop = c.before.before.before.before.loop in
-    omega (arith, part_most (sound_good x.requires) loop.j, c.before.part.ensures.long)
+slice_bounds-bytes-end : tie.Need-slice_bounds-bytes-end invariant-loop-j decreases-loop-j
+slice_bounds-bytes-end c =
+    let loop = c.loop-j in
+    omega (arith, part_most (sound_good c.requires) loop.j, c.part-n.ensures.long)
 
-slice-aggregate-stands-at : tie.Need-slice-aggregate-stands-at invariant-loop decreases-loop
-slice-aggregate-stands-at c = taken_long c.before.before.part.ensures
+slice_bounds-stands_at-end : tie.Need-slice_bounds-stands_at-end invariant-loop-j decreases-loop-j
+slice_bounds-stands_at-end c = taken_long c.part-n.ensures
 
-stands-at-requires : tie.Need-stands-at-requires invariant-loop decreases-loop
-stands-at-requires c κs = c.before.before.before.before.before.loop.invariant.1.inside
+stands_at-requires : tie.Need-stands_at-requires invariant-loop-j decreases-loop-j
+stands_at-requires c κs = c.loop-j.invariant.1.inside
 
-returns : tie.Need-returns invariant-loop decreases-loop
-returns c =
-    let x = c.before.before.before.before.before.before.before.before.before.before in
-    let loop = c.before.before.before.before.before.before.before.loop in
-    decided x.requires x.args.file.now (decides_no (met_not _ loop.invariant.1 (omega (arith, parts_many (schema_of x.args.base.now)))
-    (taken_back c.before.before.before.before.part.ensures) (c.before.stands_at.ensures.fails (not-true _ c.if1.true))))
+returns-then-not-stands_at : tie.Need-returns-then-not-stands_at invariant-loop-j decreases-loop-j
+returns-then-not-stands_at c =
+    let loop = c.loop-j in
+    decided c.requires c.args.file.now (decides_no (met_not _ loop.invariant.1 (omega (arith, parts_many (schema_of c.args.base.now)))
+    (taken_back c.part-n.ensures) (c.stands_at.ensures.fails (not-true _ c.if-not-stands_at.true-raw))))
 
 -- one part more
-more : (c : tie.Else1 invariant-loop decreases-loop)
-    → let x = c.before.before.before.before.before.before.before.before.before.before.args in
-    Met (file_parts (schema_of x.base.now)) x.file.now (c.before.before.before.before.before.before.before.loop.at + c.before.before.before.before.part.result)
-    (c.before.before.before.before.before.before.before.loop.j + 1)
+more : (c : tie.Else-not-stands_at invariant-loop-j decreases-loop-j)
+    → let x = c.args in
+    Met (file_parts (schema_of x.base.now)) x.file.now (c.loop-j.at + c.part-n.result)
+    (c.loop-j.j + 1)
 more c =
-    let x = c.before.before.before.before.before.before.before.before.before.before in
-    let loop = c.before.before.before.before.before.before.before.loop in
-    let part = c.before.before.before.before.part.ensures in
-    met_more _ loop.invariant.1 (omega (arith, parts_many (schema_of x.args.base.now))) (taken_back part) (taken_long part)
-    (c.before.stands_at.ensures.holds (not-false _ c.if1.false))
+    let loop = c.loop-j in
+    let part = c.part-n.ensures in
+    met_more _ loop.invariant.1 (omega (arith, parts_many (schema_of c.args.base.now))) (taken_back part) (taken_long part)
+    (c.stands_at.ensures.holds (not-false _ c.if-not-stands_at.false-raw))
 
-add_at : tie.Need-overflow-add-at invariant-loop decreases-loop
-add_at c = let m = more c in omega (arith, m.inside)
+overflow_add-at : tie.Need-overflow_add-at invariant-loop-j decreases-loop-j
+overflow_add-at c = let m = more c in omega (arith, m.inside)
 
-add-j : tie.Need-overflow-add-j invariant-loop decreases-loop
-add-j c = search rules
+overflow_add-j : tie.Need-overflow_add-j invariant-loop-j decreases-loop-j
+overflow_add-j c = search rules
 
-loop-less : tie.Need-loop-smaller invariant-loop decreases-loop
-loop-less c = search rules
+loop-j-smaller : tie.Need-loop-j-smaller invariant-loop-j decreases-loop-j
+loop-j-smaller c = search rules
 
-loop-again : tie.Need-loop-preserved invariant-loop decreases-loop
-loop-again c = (search rules, more c)
+loop-j-preserved : tie.Need-loop-j-preserved invariant-loop-j decreases-loop-j
+loop-j-preserved c = (search rules, more c)
 
-returns-2 : tie.Need-returns-2 invariant-loop decreases-loop
-returns-2 c =
-    let x = c.before.before.before.before in
-    let loop = c.before.loop in
-    decided x.requires x.args.file.now (met_end _ loop.invariant.1 (omega (arith, parts_many (schema_of x.args.base.now))))
+returns : tie.Need-returns invariant-loop-j decreases-loop-j
+returns c =
+    let loop = c.loop-j in
+    decided c.requires c.args.file.now (met_end _ loop.invariant.1 (omega (arith, parts_many (schema_of c.args.base.now))))
 
-pub is-file-of-spec : {M : Type 1} → statement M
-is-file-of-spec =
+pub is_file_of_spec : {M : Type 1} → statement M
+is_file_of_spec =
     tie.close
     (tie.spec
-    invariant-loop
-    decreases-loop
-    loop-holds
-    slice-aggregate-part
-    part-requires
-    array-share-prefix-bytes
-    slice-aggregate-stands-at
-    stands-at-requires
-    returns
-    add_at
-    add-j
-    loop-less
-    loop-again
-    returns-2)
+    invariant-loop-j
+    decreases-loop-j
+    loop-j-init
+    slice_bounds-part-end
+    part-n-requires
+    slice_bounds-bytes-end
+    slice_bounds-stands_at-end
+    stands_at-requires
+    returns-then-not-stands_at
+    overflow_add-at
+    overflow_add-j
+    loop-j-smaller
+    loop-j-preserved
+    returns)

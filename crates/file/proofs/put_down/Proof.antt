@@ -12,73 +12,69 @@ use Rattle.file.proofs.FileLaws.{whole, fits}
 use Rattle.file.proofs.put_down.Statement.{statement}
 use Rattle.file.proofs.put_down.Tie as tie
 
-abbrev invariant-loop : tie.invariant-loop
-invariant-loop base out₀ at₀ j₀ out at j = Down (file_parts (schema_of base)) out₀ out at j
+abbrev invariant-loop-j : tie.invariant-loop-j
+invariant-loop-j base out₀ at₀ j₀ out at j = Down (file_parts (schema_of base)) out₀ out at j
 
-abbrev decreases-loop : tie.decreases-loop
-decreases-loop base out₀ at₀ j₀ out at j = 22 - j
+abbrev decreases-loop-j : tie.decreases-loop-j
+decreases-loop-j base out₀ at₀ j₀ out at j = 22 - j
 
-loop-holds : tie.Need-loop-init invariant-loop decreases-loop
-loop-holds c = let x = c.before.before in down_none _ _ (fits x.requires.0 x.args.out.now x.requires.1)
+loop-j-init : tie.Need-loop-j-init invariant-loop-j decreases-loop-j
+loop-j-init c = down_none _ _ (fits c.requires.0 c.args.out.now c.requires.1)
 
-sub_part : tie.Need-overflow-sub-part invariant-loop decreases-loop
-sub_part c = omega (arith, down_at _ c.before.loop.j c.before.loop.invariant)
+slice_bounds-part-count : tie.Need-slice_bounds-part-count invariant-loop-j decreases-loop-j
+slice_bounds-part-count c = omega (arith, down_at _ c.loop-j.j c.loop-j.invariant)
 
-part-part-start : tie.Need-slice-bounds-part-start invariant-loop decreases-loop
-part-part-start c = omega (arith, down_at _ c.before.loop.j c.before.loop.invariant)
+slice_bounds-part-start : tie.Need-slice_bounds-part-start invariant-loop-j decreases-loop-j
+slice_bounds-part-start c = omega (arith, down_at _ c.loop-j.j c.loop-j.invariant)
 
-part-part-end : tie.Need-slice-bounds-part-end invariant-loop decreases-loop
-part-part-end c = search rules
+slice_bounds-part-end : tie.Need-slice_bounds-part-end invariant-loop-j decreases-loop-j
+slice_bounds-part-end c = search rules
 
-part-requires : tie.Need-part-requires invariant-loop decreases-loop
-part-requires c κs =
-    let loop = c.before.before.loop in
-    let x = c.before.before.before.before.before in
-    (x.requires.0, (omega arith, down_room _ loop.j loop.invariant (omega (arith, parts_many (schema_of x.args.base.now)))))
+part-at-requires : tie.Need-part-at-requires invariant-loop-j decreases-loop-j
+part-at-requires c κs =
+    let loop = c.loop-j in
+    (c.requires.0, (omega arith, down_room _ loop.j loop.invariant (omega (arith, parts_many (schema_of c.args.base.now)))))
 
-add_at : tie.Need-overflow-add-at invariant-loop decreases-loop
-add_at c =
-    let loop = c.before.before.before.before.before.loop in
-    let x = c.before.before.before.before.before.before.before.before in
-    let more = down_more _ loop.j loop.invariant (omega (arith, parts_many (schema_of x.args.base.now))) c.before.before.part.ensures in
+overflow_add-at : tie.Need-overflow_add-at invariant-loop-j decreases-loop-j
+overflow_add-at c =
+    let loop = c.loop-j in
+    let more = down_more _ loop.j loop.invariant (omega (arith, parts_many (schema_of c.args.base.now))) c.part-at.ensures in
     omega (arith, down_at _ (loop.j + 1) more, putting_long more)
 
-add-j : tie.Need-overflow-add-j invariant-loop decreases-loop
-add-j c = search rules
+overflow_add-j : tie.Need-overflow_add-j invariant-loop-j decreases-loop-j
+overflow_add-j c = search rules
 
-loop-less : tie.Need-loop-smaller invariant-loop decreases-loop
-loop-less c = search rules
+loop-j-smaller : tie.Need-loop-j-smaller invariant-loop-j decreases-loop-j
+loop-j-smaller c = search rules
 
-loop-again : tie.Need-loop-preserved invariant-loop decreases-loop
-loop-again c =
-    let loop = c.before.before.before.before.before.loop in
-    let x = c.before.before.before.before.before.before.before.before in
-    down_more _ loop.j loop.invariant (omega (arith, parts_many (schema_of x.args.base.now))) c.before.before.part.ensures
+loop-j-preserved : tie.Need-loop-j-preserved invariant-loop-j decreases-loop-j
+loop-j-preserved c =
+    let loop = c.loop-j in
+    down_more _ loop.j loop.invariant (omega (arith, parts_many (schema_of c.args.base.now))) c.part-at.ensures
 
-same_length : tie.Need-same-length invariant-loop decreases-loop
-same_length c = putting_long c.before.loop.invariant
+shape_of-out : tie.Need-shape_of-out invariant-loop-j decreases-loop-j
+shape_of-out c = putting_long c.loop-j.invariant
 
-returns : tie.Need-returns invariant-loop decreases-loop
+returns : tie.Need-returns invariant-loop-j decreases-loop-j
 returns c =
-    let x = c.before.before.before.before in
-    let loop = c.before.loop in
-    subst (λ (l : List ℕ). PutDown l x.args.out.now loop.out loop.at) (whole x.requires.0)
-    (down_all _ loop.j loop.invariant (omega (arith, parts_many (schema_of x.args.base.now))))
+    let loop = c.loop-j in
+    subst (λ (l : List ℕ). PutDown l c.args.out.now loop.out loop.at) (whole c.requires.0)
+    (down_all _ loop.j loop.invariant (omega (arith, parts_many (schema_of c.args.base.now))))
 
-pub put-down-spec : {M : Type 1} → statement M
-put-down-spec =
+pub put_down_spec : {M : Type 1} → statement M
+put_down_spec =
     tie.close
     (tie.spec
-    invariant-loop
-    decreases-loop
-    loop-holds
-    sub_part
-    part-part-start
-    part-part-end
-    part-requires
-    add_at
-    add-j
-    loop-less
-    loop-again
-    same_length
+    invariant-loop-j
+    decreases-loop-j
+    loop-j-init
+    slice_bounds-part-count
+    slice_bounds-part-start
+    slice_bounds-part-end
+    part-at-requires
+    overflow_add-at
+    overflow_add-j
+    loop-j-smaller
+    loop-j-preserved
+    shape_of-out
     returns)

@@ -5,13 +5,13 @@ use Rattle.rules.specs.09-Refusals.{unknown_mode}
 use Rattle.change_presences.proofs.modes.is_unknown.Statement.{statement}
 use Rattle.change_presences.proofs.modes.is_unknown.Tie as tie
 
+returns-then-usage-gt-ALL_MODES : tie.Need-returns-then-usage-gt-ALL_MODES
+unfolding unknown_mode
+returns-then-usage-gt-ALL_MODES c = rw (lt-ltb 31 c.args.usage (omega (arith, c.if-usage-gt-ALL_MODES.true)))
+
 returns : tie.Need-returns
 unfolding unknown_mode
-returns c = rw (lt-ltb 31 c.before.args.usage (omega (arith, c.if1.true)))
+returns c = rw (le-ltb 31 c.args.usage (omega (arith, c.if-usage-gt-ALL_MODES.false)))
 
-returns-2 : tie.Need-returns-2
-unfolding unknown_mode
-returns-2 c = rw (le-ltb 31 c.before.args.usage (omega (arith, c.if1.false)))
-
-pub is-unknown-spec : {M : Type 1} → statement M
-is-unknown-spec = tie.close (tie.spec returns returns-2)
+pub is_unknown_spec : {M : Type 1} → statement M
+is_unknown_spec = tie.close (tie.spec returns-then-usage-gt-ALL_MODES returns)

@@ -19,57 +19,53 @@ use Rattle.change_presences.proofs.modes.write_if.Statement.{statement}
 use Rattle.change_presences.proofs.modes.write_if.Tie as tie
 
 -- the row is of one of the two types
-of_either_1 : (c : tie.Else1) → let x = c.before.before.before.before.args in of_either x.d x.t x.r (presence_shown x.base.now x.i) ≡ true
-of_either_1 c = sym c.before.is-of-either.ensures ∙ not-false _ c.if1.false
+of_either_1 : (c : tie.Else-not-is_of_either) → let x = c.args in of_either x.d x.t x.r (presence_shown x.base.now x.i) ≡ true
+of_either_1 c = sym c.is_of_either.ensures ∙ not-false _ c.if-not-is_of_either.false-raw
 
-is-of-either-requires : tie.Need-is-of-either-requires
-is-of-either-requires c κs =
-    let x = c.before.before in
-    (stored_long x.requires.0, omega (arith, x.requires.1.0.0, rows_few presences x.args.base.now))
+is_of_either-requires : tie.Need-is_of_either-requires
+is_of_either-requires c κs =
+    (stored_long c.requires.0, omega (arith, c.requires.1.0.0, rows_few presences c.args.base.now))
 
-same_length : tie.Need-same-length
-same_length c = search rules
+shape_of-base-then-not-is_of_either : tie.Need-shape_of-base-then-not-is_of_either
+shape_of-base-then-not-is_of_either c = search rules
 
-returns : tie.Need-returns
-returns c =
-    let x = c.before.before.before.before in
-    row_passed x.args.d x.args.t x.args.r x.args.usage x.args.definition x.args.base.now x.args.i x.requires.1.0.0
-    (sym c.before.is-of-either.ensures ∙ not-true _ c.if1.true) x.requires.0
+returns-then-not-is_of_either : tie.Need-returns-then-not-is_of_either
+returns-then-not-is_of_either c =
+    row_passed c.args.d c.args.t c.args.r c.args.usage c.args.definition c.args.base.now c.args.i c.requires.1.0.0
+    (sym c.is_of_either.ensures ∙ not-true _ c.if-not-is_of_either.true-raw) c.requires.0
 
-write-modes-requires : tie.Need-write-modes-requires
-write-modes-requires c κs =
-    let x = c.before.before.before.before.before in
-    let a = x.args in
+write_modes-requires : tie.Need-write_modes-requires
+write_modes-requires c κs =
+    let a = c.args in
     let it = of_either_1 c.before in (
-      x.requires.0,
+      c.requires.0,
       (
-        (x.requires.1.0.0, row_aimed a.d a.t a.r a.usage a.definition a.base.now a.i x.requires.1.0.0 it x.requires.1.0.1),
+        (c.requires.1.0.0, row_aimed a.d a.t a.r a.usage a.definition a.base.now a.i c.requires.1.0.0 it c.requires.1.0.1),
         (
-          x.requires.1.1.0,
-          ap (rising presence_before) (sym (row_reset a.d a.t a.r a.usage a.definition a.base.now a.i x.requires.1.0.0 it))
-              ∙ x.requires.1.1.1,
+          c.requires.1.1.0,
+          ap (rising presence_before) (sym (row_reset a.d a.t a.r a.usage a.definition a.base.now a.i c.requires.1.0.0 it))
+              ∙ c.requires.1.1.1,
         ),
       ),
     )
 
-same-length-2 : tie.Need-same-length-2
-same-length-2 c = search rules
+shape_of-base : tie.Need-shape_of-base
+shape_of-base c = search rules
 
-returns-2 : tie.Need-returns-2
-returns-2 c =
-    let x = c.before.before.before.before.before.before.before.before in
-    let a = x.args in
+returns : tie.Need-returns
+returns c =
+    let a = c.args in
     let it = of_either_1 c.before.before.before.before in
-    subst (λ (l : List Presence). Shows c.before.before.write-modes.new.0 (with_presences (schema_of a.base.now) l))
-    (sym (row_reset a.d a.t a.r a.usage a.definition a.base.now a.i x.requires.1.0.0 it)) c.before.before.write-modes.ensures
+    subst (λ (l : List Presence). Shows c.write_modes.new.base (with_presences (schema_of a.base.now) l))
+    (sym (row_reset a.d a.t a.r a.usage a.definition a.base.now a.i c.requires.1.0.0 it)) c.write_modes.ensures
 
-pub write-if-spec : {M : Type 1} → statement M
-write-if-spec =
+pub write_if_spec : {M : Type 1} → statement M
+write_if_spec =
     tie.close
     (tie.spec
-    is-of-either-requires
-    same_length
-    returns
-    write-modes-requires
-    same-length-2
-    returns-2)
+    is_of_either-requires
+    shape_of-base-then-not-is_of_either
+    returns-then-not-is_of_either
+    write_modes-requires
+    shape_of-base
+    returns)

@@ -9,40 +9,36 @@ use Rattle.change_presences.proofs.RemoveLaws.{stays, gone}
 use Rattle.change_presences.proofs.remove.drop_if_gone.Statement.{statement}
 use Rattle.change_presences.proofs.remove.drop_if_gone.Tie as tie
 
-is-elsewhere-requires : tie.Need-is-elsewhere-requires
-is-elsewhere-requires c κs = stored_long c.before.before.requires.0
+is_elsewhere-requires : tie.Need-is_elsewhere-requires
+is_elsewhere-requires c κs = stored_long c.requires.0
 
-slice-aggregate-write-type : tie.Need-slice-aggregate-write-type
-slice-aggregate-write-type c = search rules
-
-write-type-requires : tie.Need-write-type-requires
-write-type-requires c κs =
-    let (stored, below) = c.before.before.before.before.before.before.requires in
+write_type-requires : tie.Need-write_type-requires
+write_type-requires c κs =
+    let (stored, below) = c.requires in
     (stored, (below, ((omega arith, (omega arith, omega arith)), omega arith)))
 
-same_length : tie.Need-same-length
-same_length c = search rules
+shape_of-base-then-not-is_elsewhere : tie.Need-shape_of-base-then-not-is_elsewhere
+shape_of-base-then-not-is_elsewhere c = search rules
 
-returns : tie.Need-returns
-returns c =
-    gone _ _ (sym c.before.before.before.before.before.before.is-elsewhere.ensures ∙ not-true _
-    c.before.before.before.before.before.if1.true)
-    (unused_written c.before.before.write-type.ensures)
+returns-then-not-is_elsewhere : tie.Need-returns-then-not-is_elsewhere
+returns-then-not-is_elsewhere c =
+    gone _ _ (sym c.is_elsewhere.ensures ∙ not-true _
+    c.if-not-is_elsewhere.true-raw)
+    (unused_written c.write_type.ensures)
 
-same-length-2 : tie.Need-same-length-2
-same-length-2 c = search rules
+shape_of-base-else-not-is_elsewhere : tie.Need-shape_of-base-else-not-is_elsewhere
+shape_of-base-else-not-is_elsewhere c = search rules
 
-returns-2 : tie.Need-returns-2
-returns-2 c = stays _ _ c.before.before.before.before.requires.0 (sym c.before.is-elsewhere.ensures ∙ not-false _ c.if1.false)
+returns-else-not-is_elsewhere : tie.Need-returns-else-not-is_elsewhere
+returns-else-not-is_elsewhere c = stays _ _ c.requires.0 (sym c.is_elsewhere.ensures ∙ not-false _ c.if-not-is_elsewhere.false-raw)
 
-pub drop-if-gone-spec : {M : Type 1} → statement M
-drop-if-gone-spec =
+pub drop_if_gone_spec : {M : Type 1} → statement M
+drop_if_gone_spec =
     tie.close
     (tie.spec
-    is-elsewhere-requires
-    slice-aggregate-write-type
-    write-type-requires
-    same_length
-    returns
-    same-length-2
-    returns-2)
+    is_elsewhere-requires
+    write_type-requires
+    shape_of-base-then-not-is_elsewhere
+    returns-then-not-is_elsewhere
+    shape_of-base-else-not-is_elsewhere
+    returns-else-not-is_elsewhere)

@@ -17,52 +17,52 @@ use Rattle.change_presences.proofs.RemoveLaws.{refused_plainly, obstacles_told}
 use Rattle.change_presences.proofs.remove.removable_number.Statement.{statement}
 use Rattle.change_presences.proofs.remove.removable_number.Tie as tie
 
-at_6 : (c : tie.Else1) → let x = c.before.before.before.args in
+at_6 : (c : tie.Else-no-ne0) → let x = c.args in
     Past x.base.now (remove_number_refusals x.sds x.t (schema_of x.base.now)) 6
 unfolding all
-at_6 c = come_on c.before.aimed-at.ensures c.if1.false refl _
+at_6 c = come_on c.aimed_at-no.ensures c.if-no-ne0.false refl _
 
-aimed-at-requires : tie.Need-aimed-at-requires
-aimed-at-requires c κs = search rules
+aimed_at-no-requires : tie.Need-aimed_at-no-requires
+aimed_at-no-requires c κs = search rules
 
 telling-requires : tie.Need-telling-requires
 telling-requires c κs = search rules
 
-returns : tie.Need-returns
-returns c = refused_plainly (refused_first _ c.before.before.aimed-at.ensures c.before.if1.true c.telling.ensures.0) c.telling.ensures.1
+returns-then-no-ne0 : tie.Need-returns-then-no-ne0
+returns-then-no-ne0 c = refused_plainly (refused_first _ c.aimed_at-no.ensures c.if-no-ne0.true c.telling.ensures.0) c.telling.ensures.1
 
-is-present-requires : tie.Need-is-present-requires
-is-present-requires c κs = sound_long (at_6 c).sound
+is_present-requires : tie.Need-is_present-requires
+is_present-requires c κs = sound_long (at_6 c).sound
 
-telling-requires-2 : tie.Need-telling-requires-2
-telling-requires-2 c κs = search rules
+telling-requires-then-not-is_present : tie.Need-telling-requires-then-not-is_present
+telling-requires-then-not-is_present c κs = search rules
 
-returns-2 : tie.Need-returns-2
-returns-2 c =
+returns-then-not-is_present : tie.Need-returns-then-not-is_present
+returns-then-not-is_present c =
     refused_plainly
-    (refused_here (at_6 c.before.before.before) (type_missing _ _ _ (sym c.before.before.is-present.ensures ∙ not-true _ c.before.if2.true))
-    c.telling2.ensures.0 (omega arith))
-    c.telling2.ensures.1
+    (refused_here (at_6 c.before.before.before) (type_missing _ _ _ (sym c.is_present.ensures ∙ not-true _ c.if-not-is_present.true-raw))
+    c.telling-then-not-is_present.ensures.0 (omega arith))
+    c.telling-then-not-is_present.ensures.1
 
 unheld-requires : tie.Need-unheld-requires
 unheld-requires c κs =
     let s = (at_6 c.before.before).sound in
-    (s, used_below (sound_good s) _ (present_used (sound_good s) _ _ (sym c.before.is-present.ensures ∙ not-false _ c.if2.false)))
+    (s, used_below (sound_good s) _ (present_used (sound_good s) _ _ (sym c.is_present.ensures ∙ not-false _ c.if-not-is_present.false-raw)))
 
-returns-3 : tie.Need-returns-3
-returns-3 c =
-    let there = type_there _ _ _ (sym c.before.before.is-present.ensures ∙ not-false _ c.before.if2.false) in
+returns : tie.Need-returns
+returns c =
+    let there = type_there _ _ _ (sym c.is_present.ensures ∙ not-false _ c.if-not-is_present.false-raw) in
     obstacles_told _ (come_next (at_6 c.before.before.before) there) refl (λ u. u) c.unheld.ensures
 
-pub removable-number-spec : {M : Type 1} → statement M
-removable-number-spec =
+pub removable_number_spec : {M : Type 1} → statement M
+removable_number_spec =
     tie.close
     (tie.spec
-    aimed-at-requires
+    aimed_at-no-requires
     telling-requires
-    returns
-    is-present-requires
-    telling-requires-2
-    returns-2
+    returns-then-no-ne0
+    is_present-requires
+    telling-requires-then-not-is_present
+    returns-then-not-is_present
     unheld-requires
-    returns-3)
+    returns)

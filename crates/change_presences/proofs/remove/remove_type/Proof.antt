@@ -9,47 +9,47 @@ use Rattle.change_presences.proofs.RemoveLaws.{remove_left, Through, goes_throug
 use Rattle.change_presences.proofs.remove.remove_type.Statement.{statement}
 use Rattle.change_presences.proofs.remove.remove_type.Tie as tie
 
-through_1 : (c : tie.Else1) → let x = c.before.before.before.before.before.before.args in let told = c.before.before.removable.result in
+through_1 : (c : tie.Else-told-ne0) → let x = c.args in let told = c.removable-told.result in
     Through x.base.now x.sds told.one told.two (remove_type x.sds x.name.now)
-through_1 c = goes_through c.before.before.removable.ensures c.if1.false
+through_1 c = goes_through c.removable-told.ensures c.if-told-ne0.false
 
-removable-requires : tie.Need-removable-requires
-removable-requires c κs = search rules
+removable-told-requires : tie.Need-removable-told-requires
+removable-told-requires c κs = search rules
 
 telling-requires : tie.Need-telling-requires
 telling-requires c κs = search rules
 
-same_length : tie.Need-same-length
-same_length c = search rules
+shape_of-base-then-told-ne0 : tie.Need-shape_of-base-then-told-ne0
+shape_of-base-then-told-ne0 c = search rules
 
-returns : tie.Need-returns
-returns c =
-    let told = c.before.before.before.removable.ensures in
-    tested_stops told.told c.before.if1.true (remove_left _ _ _) (c.telling.ensures ∙ ap (telling _) (told.tells c.before.if1.true))
+returns-then-told-ne0 : tie.Need-returns-then-told-ne0
+returns-then-told-ne0 c =
+    let told = c.removable-told.ensures in
+    tested_stops told.told c.if-told-ne0.true (remove_left _ _ _) (c.telling.ensures ∙ ap (telling _) (told.tells c.if-told-ne0.true))
 
-take-type-requires : tie.Need-take-type-requires
-take-type-requires c κs = let th = through_1 c.before in ((th.sound, th.there), th.pair)
+take_type-requires : tie.Need-take_type-requires
+take_type-requires c κs = let th = through_1 c.before in ((th.sound, th.there), th.pair)
 
 done-requires : tie.Need-done-requires
 done-requires c κs = search rules
 
-same-length-2 : tie.Need-same-length-2
-same-length-2 c = search rules
+shape_of-base : tie.Need-shape_of-base
+shape_of-base c = search rules
 
-returns-2 : tie.Need-returns-2
-returns-2 c =
+returns : tie.Need-returns
+returns c =
     let th = through_1 c.before.before.before.before.before in
-    kept_done th.sound th.done_so c.done.ensures c.before.before.before.take-type.ensures
+    kept_done th.sound th.done_so c.done.ensures c.take_type.ensures
 
-pub remove-type-spec : {M : Type 1} → statement M
-remove-type-spec =
+pub remove_type_spec : {M : Type 1} → statement M
+remove_type_spec =
     tie.close
     (tie.spec
-    removable-requires
+    removable-told-requires
     telling-requires
-    same_length
-    returns
-    take-type-requires
+    shape_of-base-then-told-ne0
+    returns-then-told-ne0
+    take_type-requires
     done-requires
-    same-length-2
-    returns-2)
+    shape_of-base
+    returns)

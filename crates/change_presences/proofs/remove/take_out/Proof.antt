@@ -5,22 +5,22 @@ use Rattle.change_presences.proofs.HeldLaws.{row_below, row_taken}
 use Rattle.change_presences.proofs.remove.take_out.Statement.{statement}
 use Rattle.change_presences.proofs.remove.take_out.Tie as tie
 
-presence-row-requires : tie.Need-presence-row-requires
-presence-row-requires c κs = stored_long c.before.before.requires.0
+presence_row-row-requires : tie.Need-presence_row-row-requires
+presence_row-row-requires c κs = stored_long c.requires.0
 
-take-presence-requires : tie.Need-take-presence-requires
-take-presence-requires c κs =
-    let (stored, once) = c.before.before.before.before.requires in
-    (stored, row_below once c.before.presence_row.ensures)
+take_presence-requires : tie.Need-take_presence-requires
+take_presence-requires c κs =
+    let (stored, once) = c.requires in
+    (stored, row_below once c.presence_row-row.ensures)
 
-same_length : tie.Need-same-length
-same_length c = search rules
+shape_of-base : tie.Need-shape_of-base
+shape_of-base c = search rules
 
 returns : tie.Need-returns
 returns c =
-    let (stored, once) = c.before.before.before.before.before.before.before.requires in
-    row_taken once c.before.before.before.before.presence_row.ensures stored c.before.before.take-presence.ensures
+    let (stored, once) = c.requires in
+    row_taken once c.presence_row-row.ensures stored c.take_presence.ensures
 
-pub take-out-spec : {M : Type 1} → statement M
-take-out-spec =
-    tie.close (tie.spec presence-row-requires take-presence-requires same_length returns)
+pub take_out_spec : {M : Type 1} → statement M
+take_out_spec =
+    tie.close (tie.spec presence_row-row-requires take_presence-requires shape_of-base returns)

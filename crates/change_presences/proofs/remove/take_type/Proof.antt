@@ -20,72 +20,72 @@ below : (x : tie.Start) → x.args.t < 128
 below x = let good = sound_good x.requires.0.0 in used_below good _ (present_used good _ _ x.requires.0.1)
 
 -- from where it is known whether there is a reverse to where the type was taken out, and from there to the start
-abbrev to_out : tie.Else1 → tie.After-take-out
+abbrev to_out : tie.Else-r-eq-TYPES → tie.After-take_out
 to_out c = c.before.before.before
 
-abbrev to_start : tie.After-take-out → tie.Start
+abbrev to_start : tie.After-take_out → tie.Start
 to_start c = c.before.before.before
 
 -- from where the type may be dropped to where it is known that there is a reverse
-abbrev to_pair : tie.After-drop-if-gone-arg2 → tie.Else1
+abbrev to_pair : tie.After-drop_if_gone-arg-2-1 → tie.Else-r-eq-TYPES
 to_pair c = c.before.before.before.before.before
 
-paired : (c : tie.Else1) → (to_start (to_out c)).args.r < 128
-paired c = omega (arith, (to_start (to_out c)).requires.1.fits, c.if1.false)
+paired : (c : tie.Else-r-eq-TYPES) → (to_start (to_out c)).args.r < 128
+paired c = omega (arith, (to_start (to_out c)).requires.1.fits, c.if-r-eq-TYPES.false)
 
-take-out-requires : tie.Need-take-out-requires
-take-out-requires c κs = let x = c.before.before in (sound_stored x.requires.0.0, once x)
+take_out-requires : tie.Need-take_out-requires
+take_out-requires c κs = let x = c.before.before in (sound_stored x.requires.0.0, once x)
 
-drop-if-gone-requires : tie.Need-drop-if-gone-requires
-drop-if-gone-requires c κs =
+drop_if_gone-requires : tie.Need-drop_if_gone-requires
+drop_if_gone-requires c κs =
     let out = c.before.before.before.before in
     (shows_stored out.take_out.ensures, below (to_start out))
 
-same_length : tie.Need-same-length
-same_length c = search rules
+shape_of-base-then-r-eq-TYPES : tie.Need-shape_of-base-then-r-eq-TYPES
+shape_of-base-then-r-eq-TYPES c = search rules
+
+returns-then-r-eq-TYPES : tie.Need-returns-then-r-eq-TYPES
+returns-then-r-eq-TYPES c =
+    let if = c.before.before.before.before in
+    let out = if.before.before.before in
+    removed_one _ _ (to_start out).requires.1 out.take_out.ensures if.if-r-eq-TYPES.true c.drop_if_gone.ensures
+
+take_out-requires-2 : tie.Need-take_out-requires-2
+take_out-requires-2 c κs =
+    let out = to_out c.before in
+    let x = to_start out in
+    (shows_stored out.take_out.ensures, reverse_held _ _ x.requires.1 out.take_out.ensures x.requires.0.0 (once x) (paired c.before))
+
+drop_if_gone-requires-2 : tie.Need-drop_if_gone-requires-2
+drop_if_gone-requires-2 c κs = (shows_stored c.take_out-2.ensures, below (to_start (to_out (to_pair c))))
+
+drop_if_gone-requires-3 : tie.Need-drop_if_gone-requires-3
+drop_if_gone-requires-3 c κs =
+    let gone = c.before.before.before in
+    (shows_stored gone.drop_if_gone-2.ensures, paired (to_pair gone.before))
+
+shape_of-base : tie.Need-shape_of-base
+shape_of-base c = search rules
 
 returns : tie.Need-returns
 returns c =
-    let if = c.before.before.before.before in
-    let out = if.before.before.before in
-    removed_one _ _ (to_start out).requires.1 out.take_out.ensures if.if1.true c.before.before.drop-if-gone.ensures
-
-take-out-requires-2 : tie.Need-take-out-requires-2
-take-out-requires-2 c κs =
-    let out = to_out c.before in
-    let x = to_start out in
-    (shows_stored out.take_out.ensures, reverse_held _ _ x.pre.1 out.take_out.ensures x.pre.0.0 (once x) (paired c.before))
-
-drop-if-gone-requires-2 : tie.Need-drop-if-gone-requires-2
-drop-if-gone-requires-2 c κs = (shows_stored c.before.before.before.take-out2.ensures, below (to_start (to_out (to_pair c))))
-
-drop-if-gone-requires-3 : tie.Need-drop-if-gone-requires-3
-drop-if-gone-requires-3 c κs =
-    let gone = c.before.before.before in
-    (shows_stored gone.drop-if-gone2.ensures, paired (to_pair gone.before))
-
-same-length-2 : tie.Need-same-length-2
-same-length-2 c = search rules
-
-returns-2 : tie.Need-returns-2
-returns-2 c =
     let last = c.before.before in
     let gone = last.before.before.before.before in
     let pair = to_pair gone.before in
     let out = to_out pair in
-    removed_two _ _ (to_start out).pre.1 out.take_out.ensures (paired pair)
-    gone.before.before.before.before.take-out2.ensures gone.drop-if-gone2.ensures last.drop-if-gone3.ensures
+    removed_two _ _ (to_start out).requires.1 out.take_out.ensures (paired pair)
+    gone.take_out-2.ensures gone.drop_if_gone-2.ensures last.drop_if_gone-3.ensures
 
-pub take-type-spec : {M : Type 1} → statement M
-take-type-spec =
+pub take_type_spec : {M : Type 1} → statement M
+take_type_spec =
     tie.close
     (tie.spec
-    take-out-requires
-    drop-if-gone-requires
-    same_length
-    returns
-    take-out-requires-2
-    drop-if-gone-requires-2
-    drop-if-gone-requires-3
-    same-length-2
-    returns-2)
+    take_out-requires
+    drop_if_gone-requires
+    shape_of-base-then-r-eq-TYPES
+    returns-then-r-eq-TYPES
+    take_out-requires-2
+    drop_if_gone-requires-2
+    drop_if_gone-requires-3
+    shape_of-base
+    returns)

@@ -4,17 +4,17 @@ use Rattle.change_presences.proofs.RemoveLaws.{refused_held, not_held}
 use Rattle.change_presences.proofs.remove.unheld.Statement.{statement}
 use Rattle.change_presences.proofs.remove.unheld.Tie as tie
 
-reverse-of-requires : tie.Need-reverse-of-requires
-reverse-of-requires c κs = c.before.requires
+reverse_of-reverse-requires : tie.Need-reverse_of-reverse-requires
+reverse_of-reverse-requires c κs = c.requires
 
-obstacle-requires : tie.Need-obstacle-requires
-obstacle-requires c κs = (c.before.before.requires.0, c.reverse-of.ensures)
+obstacle-held-requires : tie.Need-obstacle-held-requires
+obstacle-held-requires c κs = (c.requires.0, c.reverse_of-reverse.ensures)
+
+returns-then-held-ne0 : tie.Need-returns-then-held-ne0
+returns-then-held-ne0 c = refused_held c.obstacle-held.ensures c.if-held-ne0.true
 
 returns : tie.Need-returns
-returns c = refused_held c.before.before.obstacle.ensures c.if1.true
+returns c = not_held c.obstacle-held.ensures c.if-held-ne0.false (record { type = refl; pair = c.reverse_of-reverse.ensures })
 
-returns-2 : tie.Need-returns-2
-returns-2 c = not_held c.before.before.obstacle.ensures c.if1.false (record { type = refl; pair = c.before.before.before.reverse-of.ensures })
-
-pub unheld-spec : {M : Type 1} → statement M
-unheld-spec = tie.close (tie.spec reverse-of-requires obstacle-requires returns returns-2)
+pub unheld_spec : {M : Type 1} → statement M
+unheld_spec = tie.close (tie.spec reverse_of-reverse-requires obstacle-held-requires returns-then-held-ne0 returns)

@@ -22,47 +22,45 @@ use Rattle.change_presences.proofs.rename.give_name.Statement.{statement}
 use Rattle.change_presences.proofs.rename.give_name.Tie as tie
 
 -- the base as it was found
-abbrev found_1 : tie.After-presence-row → List ℕ
-found_1 c = c.before.before.before.before.args.base.now
+abbrev found_1 : tie.After-presence_row-row → List ℕ
+found_1 c = c.args.base.now
 
 -- the row that says that the type is in the SDS
-row_1 : (c : tie.After-presence-row) → c.presence_row.result < presence_count (found_1 c)
+row_1 : (c : tie.After-presence_row-row) → c.presence_row-row.result < presence_count (found_1 c)
 row_1 c =
-    let x = c.before.before.before.before.requires in
-    row_below (held (sound_good x.aim.sound) _ _ x.there) c.presence_row.ensures
+    let x = c.requires in
+    row_below (held (sound_good x.aim.sound) _ _ x.there) c.presence_row-row.ensures
 
 -- it can be read
-row_reads : (c : tie.After-presence-row) → (length (found_1 c) ≡ base_length) × (c.presence_row.result < limits.presences)
-row_reads c = (sound_long c.before.before.before.before.requires.aim.sound, omega (arith, row_1 c, rows_few presences (found_1 c)))
+row_reads : (c : tie.After-presence_row-row) → (length (found_1 c) ≡ base_length) × (c.presence_row-row.result < limits.presences)
+row_reads c = (sound_long c.requires.aim.sound, omega (arith, row_1 c, rows_few presences (found_1 c)))
 
 -- from where it is put in again to where it was found
-abbrev to_row : tie.After-put-with-modes-arg → tie.After-presence-row
-to_row c = c.before.before.before.before.before.before.before.before.before
+abbrev to_row : tie.After-put_with_modes-arg-1 → tie.After-presence_row-row
+to_row c = c.before.before.before.before.before.before.before
 
-presence-row-requires : tie.Need-presence-row-requires
-presence-row-requires c κs = sound_long c.before.before.before.requires.aim.sound
+presence_row-row-requires : tie.Need-presence_row-row-requires
+presence_row-row-requires c κs = sound_long c.requires.aim.sound
 
-presence-usage-requires : tie.Need-presence-usage-requires
-presence-usage-requires c κs = row_reads c.before
+presence_usage-usage-requires : tie.Need-presence_usage-usage-requires
+presence_usage-usage-requires c κs = row_reads c
 
-presence-definition-requires : tie.Need-presence-definition-requires
-presence-definition-requires c κs = row_reads c.before.before.before
+presence_definition-definition-requires : tie.Need-presence_definition-definition-requires
+presence_definition-definition-requires c κs = row_reads c.before
 
-take-presence-requires : tie.Need-take-presence-requires
-take-presence-requires c κs =
-    let row = c.before.before.before.before.before in
-    (sound_stored row.before.before.before.before.requires.aim.sound, row_1 row)
+take_presence-requires : tie.Need-take_presence-requires
+take_presence-requires c κs =
+    let row = c.before.before.before in
+    (sound_stored row.requires.aim.sound, row_1 row)
 
-put-with-modes-requires : tie.Need-put-with-modes-requires
-put-with-modes-requires c κs =
+put_with_modes-requires : tie.Need-put_with_modes-requires
+put_with_modes-requires c κs =
     let row = to_row c in
-    let x = row.before.before.before.before in
-    let p = x.pre in
+    let p = row.requires in
     let s = p.aim.sound in
-    let n = x.args.name.now in
-    let out = c.before.before.before.take-presence.ensures in
-    let read = c.before.before.before.before.before in
-    let found = row.presence_row.ensures in
+    let n = row.args.name.now in
+    let out = c.take_presence.ensures in
+    let found = row.presence_row-row.ensures in
     let there = row_1 row in (
       shows_stored out,
       (
@@ -73,33 +71,32 @@ put-with-modes-requires c κs =
             room_then s found there out,
             (
               inl (name_free s found there out n p.formed p.free),
-              (read.before.before.presence-usage.ensures.small, read.presence-definition.ensures.small),
+              (c.presence_usage-usage.ensures.small, c.presence_definition-definition.ensures.small),
             ),
           ),
         ),
       ),
     )
 
-same_length : tie.Need-same-length
-same_length c = search rules
+shape_of-base : tie.Need-shape_of-base
+shape_of-base c = search rules
 
 returns : tie.Need-returns
 returns c =
     let put = c.before.before in
     let row = to_row put.before in
-    let read = put.before.before.before.before.before.before in
-    put_again row.before.before.before.before.pre.aim.sound row.presence_row.ensures (row_1 row)
-    put.before.before.before.before.take-presence.ensures _
-    read.before.before.presence-usage.ensures.is read.presence-definition.ensures.is put.put-with-modes.ensures
+    put_again row.requires.aim.sound row.presence_row-row.ensures (row_1 row)
+    put.take_presence.ensures _
+    put.presence_usage-usage.ensures.is put.presence_definition-definition.ensures.is put.put_with_modes.ensures
 
-pub give-name-spec : {M : Type 1} → statement M
-give-name-spec =
+pub give_name_spec : {M : Type 1} → statement M
+give_name_spec =
     tie.close
     (tie.spec
-    presence-row-requires
-    presence-usage-requires
-    presence-definition-requires
-    take-presence-requires
-    put-with-modes-requires
-    same_length
+    presence_row-row-requires
+    presence_usage-usage-requires
+    presence_definition-definition-requires
+    take_presence-requires
+    put_with_modes-requires
+    shape_of-base
     returns)

@@ -3,14 +3,14 @@ use Rattle.change_presences.proofs.RenameLaws.{another_none, another_some}
 use Rattle.change_presences.proofs.rename.is_borne_by_another.Statement.{statement}
 use Rattle.change_presences.proofs.rename.is_borne_by_another.Tie as tie
 
-type-in-requires : tie.Need-type-in-requires
-type-in-requires c κs = c.before.before.requires.0
+type_in-other-requires : tie.Need-type_in-other-requires
+type_in-other-requires c κs = c.requires.0
+
+returns-then-other-eq-TYPES : tie.Need-returns-then-other-eq-TYPES
+returns-then-other-eq-TYPES c = another_none c.type_in-other.ensures _ c.if-other-eq-TYPES.true
 
 returns : tie.Need-returns
-returns c = another_none c.before.type_in.ensures _ c.if1.true
+returns c = another_some c.type_in-other.ensures _ c.if-other-eq-TYPES.false
 
-returns-2 : tie.Need-returns-2
-returns-2 c = another_some c.before.type_in.ensures _ c.if1.false
-
-pub is-borne-by-another-spec : {M : Type 1} → statement M
-is-borne-by-another-spec = tie.close (tie.spec type-in-requires returns returns-2)
+pub is_borne_by_another_spec : {M : Type 1} → statement M
+is_borne_by_another_spec = tie.close (tie.spec type_in-other-requires returns-then-other-eq-TYPES returns)

@@ -12,43 +12,43 @@ use Rattle.conditions.proofs.AimedLaws.{aimed_well, come_aimed}
 use Rattle.change_presences.proofs.rename.renamable_number.Statement.{statement}
 use Rattle.change_presences.proofs.rename.renamable_number.Tie as tie
 
-at_6 : (c : tie.Else1) → let x = c.before.before.before.before.args in
+at_6 : (c : tie.Else-no-ne0) → let x = c.args in
     Past x.base.now (rename_number_refusals x.sds x.t x.new.now (schema_of x.base.now)) 6
-at_6 c = come_aimed _ c.before.aimed.ensures c.if1.false _
+at_6 c = come_aimed _ c.aimed-no.ensures c.if-no-ne0.false _
 
-at_11 : (c : tie.Else2) → let x = c.before.before.before.before.before.before.args in
+at_11 : (c : tie.Else-not-is_present) → let x = c.args in
     Past x.base.now (rename_number_refusals x.sds x.t x.new.now (schema_of x.base.now)) 11
-at_11 c = come_next (at_6 c.before.before) (type_there _ _ _ (sym c.before.is-present.ensures ∙ not-false _ c.if2.false))
+at_11 c = come_next (at_6 c.before.before) (type_there _ _ _ (sym c.is_present.ensures ∙ not-false _ c.if-not-is_present.false-raw))
 
-aimed-requires : tie.Need-aimed-requires
-aimed-requires c κs = search rules
+aimed-no-requires : tie.Need-aimed-no-requires
+aimed-no-requires c κs = search rules
+
+returns-then-no-ne0 : tie.Need-returns-then-no-ne0
+returns-then-no-ne0 c = tested_first _ c.aimed-no.ensures c.if-no-ne0.true
+
+is_present-requires : tie.Need-is_present-requires
+is_present-requires c κs = sound_long (at_6 c).sound
+
+returns-then-not-is_present : tie.Need-returns-then-not-is_present
+returns-then-not-is_present c = come_stops (at_6 c.before.before) (type_missing _ _ _ (sym c.is_present.ensures ∙ not-true _ c.if-not-is_present.true-raw)) refl
+
+is_borne_by_another-requires : tie.Need-is_borne_by_another-requires
+is_borne_by_another-requires c κs = let aim = aimed_well _ c.aimed-no.ensures c.if-no-ne0.false in (aim.sound, aim.below)
+
+returns-then-is_borne_by_another : tie.Need-returns-then-is_borne_by_another
+returns-then-is_borne_by_another c = come_stops (at_11 c.before.before) (sym c.is_borne_by_another.ensures ∙ c.if-is_borne_by_another.true) refl
 
 returns : tie.Need-returns
-returns c = tested_first _ c.before.aimed.ensures c.if1.true
+returns c = come_through (come_next (at_11 c.before.before) (sym c.is_borne_by_another.ensures ∙ c.if-is_borne_by_another.false))
 
-is-present-requires : tie.Need-is-present-requires
-is-present-requires c κs = sound_long (at_6 c).sound
-
-returns-2 : tie.Need-returns-2
-returns-2 c = come_stops (at_6 c.before.before) (type_missing _ _ _ (sym c.before.is-present.ensures ∙ not-true _ c.if2.true)) refl
-
-is-borne-by-another-requires : tie.Need-is-borne-by-another-requires
-is-borne-by-another-requires c κs = let aim = aimed_well _ c.before.before.before.aimed.ensures c.before.before.if1.false in (aim.sound, aim.below)
-
-returns-3 : tie.Need-returns-3
-returns-3 c = come_stops (at_11 c.before.before) (sym c.before.is-borne-by-another.ensures ∙ c.if3.true) refl
-
-returns-4 : tie.Need-returns-4
-returns-4 c = come_through (come_next (at_11 c.before.before) (sym c.before.is-borne-by-another.ensures ∙ c.if3.false))
-
-pub renamable-number-spec : {M : Type 1} → statement M
-renamable-number-spec =
+pub renamable_number_spec : {M : Type 1} → statement M
+renamable_number_spec =
     tie.close
     (tie.spec
-    aimed-requires
-    returns
-    is-present-requires
-    returns-2
-    is-borne-by-another-requires
-    returns-3
-    returns-4)
+    aimed-no-requires
+    returns-then-no-ne0
+    is_present-requires
+    returns-then-not-is_present
+    is_borne_by_another-requires
+    returns-then-is_borne_by_another
+    returns)

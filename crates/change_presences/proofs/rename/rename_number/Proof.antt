@@ -7,45 +7,45 @@ use Rattle.change_presences.proofs.RenameLaws.{number_left, Through, number_thro
 use Rattle.change_presences.proofs.rename.rename_number.Statement.{statement}
 use Rattle.change_presences.proofs.rename.rename_number.Tie as tie
 
-through_1 : (c : tie.Else1) → let x = c.before.before.before.before.before.args in
+through_1 : (c : tie.Else-no-ne0) → let x = c.args in
     Through x.base.now x.sds x.t x.new.now (rename_number x.sds x.t x.new.now)
-through_1 c = number_through _ _ c.before.renamable-number.ensures c.if1.false
+through_1 c = number_through _ _ c.renamable_number-no.ensures c.if-no-ne0.false
 
-renamable-number-requires : tie.Need-renamable-number-requires
-renamable-number-requires c κs = search rules
+renamable_number-no-requires : tie.Need-renamable_number-no-requires
+renamable_number-no-requires c κs = search rules
 
 refused-requires : tie.Need-refused-requires
 refused-requires c κs = search rules
 
-same_length : tie.Need-same-length
-same_length c = search rules
+shape_of-base-then-no-ne0 : tie.Need-shape_of-base-then-no-ne0
+shape_of-base-then-no-ne0 c = search rules
 
-returns : tie.Need-returns
-returns c = tested_stops c.before.before.renamable-number.ensures c.before.if1.true (number_left _ _ _ _) c.refused.ensures
+returns-then-no-ne0 : tie.Need-returns-then-no-ne0
+returns-then-no-ne0 c = tested_stops c.renamable_number-no.ensures c.if-no-ne0.true (number_left _ _ _ _) c.refused.ensures
 
-give-name-requires : tie.Need-give-name-requires
-give-name-requires c κs = (through_1 c.before).nameable
+give_name-requires : tie.Need-give_name-requires
+give_name-requires c κs = (through_1 c.before).nameable
 
 done-requires : tie.Need-done-requires
 done-requires c κs = search rules
 
-same-length-2 : tie.Need-same-length-2
-same-length-2 c = search rules
+shape_of-base : tie.Need-shape_of-base
+shape_of-base c = search rules
 
-returns-2 : tie.Need-returns-2
-returns-2 c =
+returns : tie.Need-returns
+returns c =
     let th = through_1 c.before.before.before.before.before in
-    kept_done th.nameable.aim.sound th.done_so c.done.ensures c.before.before.before.give-name.ensures
+    kept_done th.nameable.aim.sound th.done_so c.done.ensures c.give_name.ensures
 
-pub rename-number-spec : {M : Type 1} → statement M
-rename-number-spec =
+pub rename_number_spec : {M : Type 1} → statement M
+rename_number_spec =
     tie.close
     (tie.spec
-    renamable-number-requires
+    renamable_number-no-requires
     refused-requires
-    same_length
-    returns
-    give-name-requires
+    shape_of-base-then-no-ne0
+    returns-then-no-ne0
+    give_name-requires
     done-requires
-    same-length-2
-    returns-2)
+    shape_of-base
+    returns)

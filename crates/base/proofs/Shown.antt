@@ -10,7 +10,7 @@ use borrow.Author.Tests.{ne_eqb}
 use Rattle.rules.specs.01-Lists.{◌∈◌}
 use Rattle.rules.specs.02-Limits.{limits}
 use Rattle.rules.specs.04-Schema.{Presence, Application, End, sds_name, kind_of}
-use Rattle.rules.specs.04-Schema.Kind.{unused, object, attribute, designation, paired}
+use Rattle.rules.specs.04-Schema.Kind.{unused, attribute, designation, paired}
 use Rattle.rules.specs.Read.{value_offset, reverse_offset, name_offset, type_offset, usage_offset, definition_offset, to_offset, attribute_offset, link_offset}
 use Rattle.rules.specs.Read.{side_offset, object_offset, strip, read_kind, read_presence, read_application, read_side, read_end}
 use Rattle.rows.specs.Rows.{part}

@@ -1,18 +1,19 @@
 // What is printed behind a line.
 use rules::Answer;
+use std::io;
+use std::io::Write;
 
-fn spaced(n: usize) -> bool {
-    io::write_all(1, b" ");
-    io::print_decimal(1, n as u64)
+fn spaced<W: Write>(writer: &mut W, n: usize) -> io::Result<()> {
+    write!(writer, " {n}")
 }
 
 // The number and the three values.
-pub fn answer(a: Answer) -> bool {
-    io::write_all(1, b" =");
-    spaced(a.no);
-    spaced(a.one);
-    spaced(a.two);
-    spaced(a.three)
+pub fn answer<W: Write>(writer: &mut W, a: Answer) -> io::Result<()> {
+    writer.write_all(b" =")?;
+    spaced(writer, a.no)?;
+    spaced(writer, a.one)?;
+    spaced(writer, a.two)?;
+    spaced(writer, a.three)
 }
 
 fn joined(low: u8, high: u8) -> usize {
@@ -32,10 +33,9 @@ fn entry(out: &[u8], i: usize) -> usize {
 }
 
 // The first n entries of the output.
-pub fn entries(out: &[u8], n: usize) {
-    let mut i = 0;
-    while i < n {
-        spaced(entry(out, i));
-        i += 1;
+pub fn entries<W: Write>(writer: &mut W, out: &[u8], n: usize) -> io::Result<()> {
+    for i in 0..n {
+        spaced(writer, entry(out, i))?;
     }
+    Ok(())
 }

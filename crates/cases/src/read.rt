@@ -1,6 +1,5 @@
 // The call that a line begins with, and its inputs, by the words of the line.
-ghost use Rattle.std.specs.Prelude.{◌≤◌, ◌<◌, ◌≡◌, length};
-ghost use Rattle.io.specs.Counts.{IsPrefixLen};
+ghost use Rattle.std.specs.Prelude.{◌≤◌, ◌<◌, ◌≡◌, length, take};
 
 use rules::Answer;
 use run_words::Word;
@@ -107,7 +106,7 @@ fn with_sds(list: &mut [u8], n: usize, c: u8) -> usize
 
 // Word i as a list of SDSs, a digit or a capital letter for each; - is the empty list. As many as there is room for in `list`.
 pub fn schema_at(line: &[u8], i: usize, list: &mut [u8]) -> usize
-    ensures { IsPrefixLen result list.new }
+    ensures { (result ≤ length list.new) × (result ≡ length (take result list.new)) }
 {
     let word = place_at(line, i);
     let end = word.end;
@@ -190,7 +189,7 @@ pub fn bytes_at(line: &[u8], i: usize, bytes: &mut [u8]) -> usize
 
 // Word i as the length of an output, no more than there is.
 pub fn room_at(line: &[u8], i: usize, out: &[u8]) -> usize
-    ensures { IsPrefixLen result out.now }
+    ensures { (result ≤ length out.now) × (result ≡ length (take result out.now)) }
 {
     let n = number_at(line, i);
     if n < out.len() { n } else { out.len() }

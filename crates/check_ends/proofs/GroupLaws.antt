@@ -15,7 +15,7 @@ use Rattle.lookup.proofs.KindBytes.{value_byte, reverse_byte}
 use Rattle.check_held.specs.Fine.{TypesFine}
 use Rattle.check_held.proofs.HeldLaws.{held_there}
 use Rattle.check_ends.specs.declared.Group.{Group}
-use Rattle.check_ends.specs.Ends.{sds_byte, link_byte, side_byte, object_byte, row_number, mirror_number, rank, turned, weight}
+use Rattle.check_ends.specs.Ends.{sds_byte, link_byte, side_byte, object_byte, row_number, mirror_number, rank, turned}
 use Rattle.check_ends.specs.Ends.{RowWith, RowPast, RowFine, Reached, LinkFine, GroupFine, Begun, First, Passed}
 use Rattle.check_ends.proofs.RowLaws.{four, Numbered, numbered, tells, rank_none, rank_behind, rank_ahead}
 use Rattle.check_ends.proofs.MirrorLaws.{behind_is, turned_behind, turned_own}

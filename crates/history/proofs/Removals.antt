@@ -12,7 +12,7 @@ use borrow.Author.Tests.{eqb-true, eqb-false, eq-eqb, leb-true, leb-false}
 use Rattle.rules.specs.01-Lists.{◌∈◌, any, among, without}
 use Rattle.rules.specs.03-Names.{Name}
 use Rattle.rules.specs.04-Schema.{Schema, Kind, Presence, Application, End, system_presence, kind_of, is_used, is_object, parents, parents_in}
-use Rattle.rules.specs.04-Schema.{is_parent, reverse, with_reverse, present, type_named, applied, is_application, has_end, with_types}
+use Rattle.rules.specs.04-Schema.{is_parent, with_reverse, present, type_named, applied, is_application, has_end, with_types}
 use Rattle.rules.specs.04-Schema.{with_presences}
 use Rattle.rules.specs.04-Schema.Kind.{unused, object, attribute, paired}
 use Rattle.rules.specs.05-Descent.{Parent}

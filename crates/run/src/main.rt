@@ -7,40 +7,55 @@ ghost use Rattle.rules.specs.07-Picture.{base_length};
 use base::Base;
 use run_words::Line;
 use run_words::input::Input;
+use std::io;
+use std::io::{Read, Write};
 
-const STDOUT: i32 = 1;
-
-fn answer(base: &mut [u8], line: &[u8], out: &mut [u8])
+fn answer<W: Write>(writer: &mut W, base: &mut [u8], line: &[u8], out: &mut [u8]) -> io::Result<()>
     requires { (length base.old ≡ base_length) × (length out.old ≡ 4096) }
     ensures { (length base.new ≡ base_length) × (length out.new ≡ 4096) }
 {
     let n = run_reply::reply(base, line, out);
-    io::write_all(STDOUT, &out[..n]);
-    io::write_all(STDOUT, b"\n");
+    writer.write_all(&out[..n])?;
+    writer.write_all(b"\n")
 }
 
-// Nothing that is typed stops it but the end of the input. The turns are counted down as `next_line` does it.
-fn answer_all(base: &mut [u8], read: &mut [u8], line: &mut [u8], out: &mut [u8])
+// Nothing that is typed stops it but the end of the input; a write that fails does. The turns are counted down as `next_line` does it.
+fn answer_all<R: Read, W: Write>(
+    reader: &mut R,
+    writer: &mut W,
+    base: &mut [u8],
+    read: &mut [u8],
+    line: &mut [u8],
+    out: &mut [u8],
+) -> io::Result<()>
     requires base_len { (length base.old ≡ base_length) × (length out.old ≡ 4096) }
     requires read_len { (length read.old ≡ 4096) × (length line.old ≡ 128) }
 {
     let mut input = Input::start();
     let mut turns = u64::MAX;
     while 0 < turns {
-        input = run_words::input::next_line(read, line, input);
+        input = run_words::input::next_line(reader, read, line, input);
         let n = input.kept;
         if input.over && n == 0 {
-            return;
+            return Ok(());
         }
-        answer(base, &line[..n], out);
+        answer(writer, base, &line[..n], out)?;
         turns -= 1;
     }
+    Ok(())
 }
 
-fn main() {
+fn main(rt: HostRuntime) -> io::Result<()> {
     let mut base = Base::fresh();
-    let mut read = io::buffer();
+    let mut read = [0u8; 4096];
     let mut line = [0u8; Line::KEPT];
-    let mut out = io::buffer();
-    answer_all(&mut base, &mut read, &mut line, &mut out);
+    let mut out = [0u8; 4096];
+    answer_all(
+        &mut rt.stdin(),
+        &mut rt.stdout(),
+        &mut base,
+        &mut read,
+        &mut line,
+        &mut out,
+    )
 }

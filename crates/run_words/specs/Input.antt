@@ -1,4 +1,5 @@
--- Standard input, line by line. Of a read the toolchain says how many bytes it put at the start of the buffer, and nothing of which.
+-- An input, line by line. Of a read of standard input the toolchain says how many bytes it put at the start of the buffer, and
+-- nothing of which.
 -- So what came is what stands in the buffer then; behind the next read it is a list that there is. That no read's bytes are passed
 -- over is seen in `fill`, which has the only one.
 use Rattle.std.specs.Prelude.{ℕ, ◌≤◌, ◌≡◌, ◌⊎◌, true, false, ◌||◌, List, [], ◌++◌, eqb, length, take, drop}

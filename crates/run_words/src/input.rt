@@ -1,6 +1,8 @@
-// Standard input, line by line.
+// An input, line by line.
 ghost use Rattle.std.specs.Prelude.{◌≡◌, false, length, take};
 ghost use Rattle.run_words.specs.Input.{Within, Ready, unread, Filled, Advanced, NextLine};
+
+use std::io::Read;
 
 // A place in the bytes that were read last, of which there are n; how many bytes are kept of the line at hand; whether the input is over.
 #[derive(Clone, Copy)]
@@ -31,15 +33,14 @@ impl Input {
 }
 
 // Reads on where all that was read is gathered. A read that fails ends the input.
-fn fill(read: &mut [u8], input: Input) -> Input
+fn fill<R: Read>(reader: &mut R, read: &mut [u8], input: Input) -> Input
     requires { (length read.old ≡ 4096) × (Within input × (input.over ≡ false)) }
     ensures { Filled (unread read.old input) input.kept read.new result }
 {
     if input.from < input.n {
         return input;
     }
-    let got = libc::read(0, read);
-    let n = io::count(got, read);
+    let n = reader.read(read).unwrap_or(0);
     Input {
         from: 0,
         n,
@@ -49,11 +50,11 @@ fn fill(read: &mut [u8], input: Input) -> Input
 }
 
 // One read at most, and what it brings gathered up to a newline. The line is whole there, and where the input is over.
-fn advance(read: &mut [u8], line: &mut [u8], input: Input) -> Step
+fn advance<R: Read>(reader: &mut R, read: &mut [u8], line: &mut [u8], input: Input) -> Step
     requires { Ready read.old line.old input × (input.over ≡ false) }
     ensures { Advanced (unread read.old input) (take input.kept line.old) read.new line.new result }
 {
-    let at = fill(read, input);
+    let at = fill(reader, read, input);
     if at.over {
         return Step {
             input: at,
@@ -76,7 +77,7 @@ fn advance(read: &mut [u8], line: &mut [u8], input: Input) -> Step
 
 // The next line: its first bytes stand in `line`, as many as are kept of it. Where the input is over and none are kept, there is none.
 // A proved loop has to end, and nothing says that a file does: the turns are counted down from a number that no run uses up.
-pub fn next_line(read: &mut [u8], line: &mut [u8], input: Input) -> Input
+pub fn next_line<R: Read>(reader: &mut R, read: &mut [u8], line: &mut [u8], input: Input) -> Input
     requires { Ready read.old line.old input }
     ensures { NextLine (unread read.old input) read.new line.new result }
 {
@@ -89,7 +90,7 @@ pub fn next_line(read: &mut [u8], line: &mut [u8], input: Input) -> Input
     let mut turns = u64::MAX;
     while 0 < turns {
         turns -= 1;
-        let step = advance(read, line, at);
+        let step = advance(reader, read, line, at);
         at = step.input;
         if step.whole {
             return at;

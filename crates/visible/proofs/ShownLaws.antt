@@ -13,7 +13,6 @@ use Rattle.rules.specs.04-Schema.{Presence, Application, End}
 use Rattle.rules.proofs.Bools.{same_test, or_cases, or_left, or_right, and_both, and_of}
 use Rattle.rules.proofs.01-Lists.{any_at, any_where}
 use Rattle.base.specs.Back.{schema_of, presence_count, application_count, end_count, presence_shown, application_shown, end_shown}
-use Rattle.lookup.proofs.SdsShown as SdsShown
 use Rattle.base.proofs.Shown.{presence_there, presence_in, application_there, application_in, end_there, end_in}
 use Rattle.visible.specs.Shown.{gathered}
 

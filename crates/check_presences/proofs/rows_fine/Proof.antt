@@ -14,7 +14,7 @@ use Rattle.rows.proofs.Scan.{zeros_room}
 use Rattle.base.specs.Rows.{presence_at}
 use Rattle.lookup.proofs.SdsShown.{used_below}
 use Rattle.check_presences.specs.Floor.{Last}
-use Rattle.check_presences.specs.Gathered.{RowsGathered, bits_in}
+use Rattle.check_presences.specs.Gathered.{RowsGathered}
 use Rattle.check_presences.proofs.HalfLaws.{field_low}
 use Rattle.check_presences.proofs.GatherLaws.{gathers_room}
 use Rattle.check_presences.proofs.PassedLaws.{Passed, rows_refused, passed_first, first_made, first_all, passed_more, fine_follows, passed_all, passed_twice}

@@ -7,21 +7,21 @@ use Rattle.run_command.proofs.CommandLaws.{command_long, command_blank, command_
 use Rattle.run_command.proofs.of.Statement.{statement}
 use Rattle.run_command.proofs.of.Tie as tie
 
-returns : tie.Need-returns
-returns c = command_long _ c.if1.true
+returns-then-line-ge-KEPT : tie.Need-returns-then-line-ge-KEPT
+returns-then-line-ge-KEPT c = command_long _ c.if-line-ge-KEPT.true
 
-has-blank-requires : tie.Need-has-blank-requires
-has-blank-requires c κs = search rules
+has_blank-requires : tie.Need-has_blank-requires
+has_blank-requires c κs = search rules
 
-returns-2 : tie.Need-returns-2
-returns-2 c = command_blank _ (omega (arith, c.before.before.if1.false)) (sym c.before.has-blank.ensures ∙ c.if2.true)
+returns-then-has_blank : tie.Need-returns-then-has_blank
+returns-then-has_blank c = command_blank _ (omega (arith, c.if-line-ge-KEPT.false)) (sym c.has_blank.ensures ∙ c.if-has_blank.true)
 
 code-requires : tie.Need-code-requires
 code-requires c κs = search rules
 
-returns-3 : tie.Need-returns-3
-returns-3 c =
-    command_code _ (omega (arith, c.before.before.before.if1.false)) (sym c.before.before.has-blank.ensures ∙ c.before.if2.false) c.code.ensures
+returns : tie.Need-returns
+returns c =
+    command_code _ (omega (arith, c.if-line-ge-KEPT.false)) (sym c.has_blank.ensures ∙ c.if-has_blank.false) c.code.ensures
 
 pub of_spec : {M : Type 1} → statement M
-of_spec = tie.close (tie.spec returns has-blank-requires returns-2 code-requires returns-3)
+of_spec = tie.close (tie.spec returns-then-line-ge-KEPT has_blank-requires returns-then-has_blank code-requires returns)

@@ -11,23 +11,23 @@ use Rattle.run_command.proofs.says.Tie as tie
 word-requires : tie.Need-word-requires
 word-requires c κs = search rules
 
-is-equal-requires : tie.Need-is-equal-requires
-is-equal-requires c κs = search rules
+is_equal-requires : tie.Need-is_equal-requires
+is_equal-requires c κs = search rules
 
-returns : tie.Need-returns
-returns c =
-    let x = c.before.before.before.before.before.args in
-    says_another (names_in x.line.now) x.command.now c.before.before.word.ensures x.many
-    (sym c.before.is-equal.ensures ∙ not-true _ c.if1.true)
+returns-then-not-is_equal : tie.Need-returns-then-not-is_equal
+returns-then-not-is_equal c =
+    let x = c.args in
+    says_another (names_in x.line.now) x.command.now c.word.ensures x.many
+    (sym c.is_equal.ensures ∙ not-true _ c.if-not-is_equal.true-raw)
 
 count-requires : tie.Need-count-requires
 count-requires c κs = search rules
 
-returns-2 : tie.Need-returns-2
-returns-2 c =
-    let x = c.before.before.before.before.before.before.args in
-    says_as_many (names_in x.line.now) x.command.now c.before.before.before.word.ensures x.many
-    (sym c.before.before.is-equal.ensures ∙ not-false _ c.before.if1.false) c.count.ensures
+returns : tie.Need-returns
+returns c =
+    let x = c.args in
+    says_as_many (names_in x.line.now) x.command.now c.word.ensures x.many
+    (sym c.is_equal.ensures ∙ not-false _ c.if-not-is_equal.false-raw) c.count.ensures
 
-pub says-spec : {M : Type 1} → statement M
-says-spec = tie.close (tie.spec word-requires is-equal-requires returns count-requires returns-2)
+pub says_spec : {M : Type 1} → statement M
+says_spec = tie.close (tie.spec word-requires is_equal-requires returns-then-not-is_equal count-requires returns)

@@ -7,32 +7,32 @@ use Rattle.run_print.proofs.SpokenLaws.{answer_refused, answer_done}
 use Rattle.run_print.proofs.answer.Statement.{statement}
 use Rattle.run_print.proofs.answer.Tie as tie
 
-number-requires : tie.Need-number-requires
-number-requires c κs = search rules
+number-end-requires : tie.Need-number-end-requires
+number-end-requires c κs = search rules
 
-same_length : tie.Need-same-length
-same_length c = search rules
+shape_of-out-then-no-ne0 : tie.Need-shape_of-out-then-no-ne0
+shape_of-out-then-no-ne0 c = search rules
 
-returns : tie.Need-returns
-returns c = answer_refused _ c.if1.true c.before.before.before.number.ensures
+returns-then-no-ne0 : tie.Need-returns-then-no-ne0
+returns-then-no-ne0 c = answer_refused _ c.if-no-ne0.true c.number-end.ensures
 
-next-number-requires : tie.Need-next-number-requires
-next-number-requires c κs =
+next_number-requires : tie.Need-next_number-requires
+next_number-requires c κs =
     omega (
       arith,
-      c.before.before.before.before.before.before.before.requires,
-      c.before.before.before.before.number.ensures.long,
-      c.before.before.before.before.number.ensures.end,
-      decimal_few 20 c.before.before.before.before.before.before.before.args.no,
+      c.requires,
+      c.number-end.ensures.long,
+      c.number-end.ensures.end,
+      decimal_few 20 c.args.no,
     )
 
-same-length-2 : tie.Need-same-length-2
-same-length-2 c = search rules
+shape_of-out : tie.Need-shape_of-out
+shape_of-out c = search rules
 
-returns-2 : tie.Need-returns-2
-returns-2 c = answer_done _ (omega (arith, c.before.before.before.before.if1.false)) c.before.before.before.before.before.before.before.number.ensures c.before.before.next_number.ensures
+returns : tie.Need-returns
+returns c = answer_done _ (omega (arith, c.if-no-ne0.false)) c.number-end.ensures c.next_number.ensures
 
-pub answer-spec : {M : Type 1} → statement M
-answer-spec =
+pub answer_spec : {M : Type 1} → statement M
+answer_spec =
     tie.close
-    (tie.spec number-requires same_length returns next-number-requires same-length-2 returns-2)
+    (tie.spec number-end-requires shape_of-out-then-no-ne0 returns-then-no-ne0 next_number-requires shape_of-out returns)

@@ -7,22 +7,22 @@ use Rattle.run_print.proofs.PrintLaws.{printed_byte, printed_next}
 use Rattle.run_print.proofs.next_number.Statement.{statement}
 use Rattle.run_print.proofs.next_number.Tie as tie
 
-slice-write-out : tie.Need-slice-write-out
-slice-write-out c = search rules
+bounds-out-at : tie.Need-bounds-out-at
+bounds-out-at c = search rules
 
-add-number : tie.Need-overflow-add-number
-add-number c = search rules
+overflow_add-at : tie.Need-overflow_add-at
+overflow_add-at c = search rules
 
 number-requires : tie.Need-number-requires
-number-requires c κs = omega (arith, c.before.before.requires, length-set c.before.before.args.out.now c.before.before.args.at 32)
+number-requires c κs = omega (arith, c.requires, length-set c.args.out.now c.args.at 32)
 
-same_length : tie.Need-same-length
-same_length c = c.before.before.number.ensures.long ∙ length-set c.before.before.before.before.before.args.out.now
-    c.before.before.before.before.before.args.at 32
+shape_of-out : tie.Need-shape_of-out
+shape_of-out c = c.number.ensures.long ∙ length-set c.args.out.now
+    c.args.at 32
 
 returns : tie.Need-returns
-returns c = printed_next (printed_byte c.before.before.before.before.before.args.out.now c.before.before.before.before.before.args.at 32 (omega (arith, c.before.before.before.before.before.requires))) c.before.before.number.ensures
+returns c = printed_next (printed_byte c.args.out.now c.args.at 32 (omega (arith, c.requires))) c.number.ensures
 
-pub next-number-spec : {M : Type 1} → statement M
-next-number-spec =
-    tie.close (tie.spec slice-write-out add-number number-requires same_length returns)
+pub next_number_spec : {M : Type 1} → statement M
+next_number_spec =
+    tie.close (tie.spec bounds-out-at overflow_add-at number-requires shape_of-out returns)

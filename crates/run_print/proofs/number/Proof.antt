@@ -6,48 +6,48 @@ use Rattle.run_print.proofs.PrintLaws.{places_few, number_printed}
 use Rattle.run_print.proofs.number.Statement.{statement}
 use Rattle.run_print.proofs.number.Tie as tie
 
-decimal-requires : tie.Need-decimal-requires
-decimal-requires c κs = search rules
+decimal-k-requires : tie.Need-decimal-k-requires
+decimal-k-requires c κs = search rules
 
-array-share-prefix-text : tie.Need-array-share-prefix-text
-array-share-prefix-text c = search rules
+slice_bounds-text-end : tie.Need-slice_bounds-text-end
+slice_bounds-text-end c = search rules
 
-slice-aggregate-write : tie.Need-slice-aggregate-write
-slice-aggregate-write c = search rules
+slice_bounds-write-end : tie.Need-slice_bounds-write-end
+slice_bounds-write-end c = search rules
 
 write-requires : tie.Need-write-requires
 write-requires c κs =
     omega (
       arith,
-      c.before.before.before.before.before.requires,
-      places_few _ _ c.before.before.before.before.before.ranges.n.fits c.before.before.decimal.ensures.1.0,
-      c.before.before.decimal.ensures.0.1,
+      c.requires,
+      places_few _ _ c.ranges.n.fits c.decimal-k.ensures.1.0,
+      c.decimal-k.ensures.0.1,
     )
 
-add-result : tie.Need-overflow-add-result
-add-result c = omega (
+overflow_add-result : tie.Need-overflow_add-result
+overflow_add-result c = omega (
   arith,
-  c.before.before.before.before.before.before.before.before.requires,
-  places_few _ _ c.before.before.before.before.before.before.before.before.ranges.n.fits c.before.before.before.before.before.decimal.ensures.1.0,
+  c.requires,
+  places_few _ _ c.ranges.n.fits c.decimal-k.ensures.1.0,
 )
 
-same_length : tie.Need-same-length
-same_length c = search rules
+shape_of-out : tie.Need-shape_of-out
+shape_of-out c = search rules
 
 returns : tie.Need-returns
 returns c =
-    number_printed _ _ _ _ _ _ c.before.before.before.before.before.before.before.before.requires c.before.before.before.before.before.before.before.before.ranges.n.fits c.before.before.before.before.before.decimal.ensures.1.0
-    c.before.before.before.before.before.decimal.ensures.0.1
-    c.before.before.before.before.before.decimal.ensures.1.1 c.before.before.write.ensures
+    number_printed _ _ _ _ _ _ c.requires c.ranges.n.fits c.decimal-k.ensures.1.0
+    c.decimal-k.ensures.0.1
+    c.decimal-k.ensures.1.1.0 c.write.ensures
 
-pub number-spec : {M : Type 1} → statement M
-number-spec =
+pub number_spec : {M : Type 1} → statement M
+number_spec =
     tie.close
     (tie.spec
-    decimal-requires
-    array-share-prefix-text
-    slice-aggregate-write
+    decimal-k-requires
+    slice_bounds-text-end
+    slice_bounds-write-end
     write-requires
-    add-result
-    same_length
+    overflow_add-result
+    shape_of-out
     returns)

@@ -7,87 +7,87 @@ use Rattle.run_print.proofs.PrintLaws.{Going, going_first, going_next, going_all
 use Rattle.run_print.proofs.numbers.Statement.{statement}
 use Rattle.run_print.proofs.numbers.Tie as tie
 
-abbrev invariant-loop : tie.invariant-loop
-invariant-loop out₀ at list count end₀ i₀ out end i = (i ≤ count) × Going out₀ at list i out end
+abbrev invariant-loop-i : tie.invariant-loop-i
+invariant-loop-i out₀ at list count end₀ i₀ out end i = (i ≤ count) × Going out₀ at list i out end
 
-abbrev decreases-loop : tie.decreases-loop
-decreases-loop out₀ at list count end₀ i₀ out end i = count - i
+abbrev decreases-loop-i : tie.decreases-loop-i
+decreases-loop-i out₀ at list count end₀ i₀ out end i = count - i
 
-loop-holds : tie.Need-loop-init invariant-loop decreases-loop
-loop-holds c = (omega arith, going_first _ _ _)
+loop-i-init : tie.Need-loop-i-init invariant-loop-i decreases-loop-i
+loop-i-init c = (omega arith, going_first _ _ _)
 
-mul_wide : tie.Need-overflow-mul-wide invariant-loop decreases-loop
-mul_wide c = search rules
+overflow_mul-i : tie.Need-overflow_mul-i invariant-loop-i decreases-loop-i
+overflow_mul-i c = search rules
 
-shared-slice-read-wide : tie.Need-shared-slice-read-wide invariant-loop decreases-loop
-shared-slice-read-wide c = search rules
+bounds-list-i : tie.Need-bounds-list-i invariant-loop-i decreases-loop-i
+bounds-list-i c = search rules
 
-wide-requires : tie.Need-wide-requires invariant-loop decreases-loop
-wide-requires c κs = search rules
+wide-low-requires : tie.Need-wide-low-requires invariant-loop-i decreases-loop-i
+wide-low-requires c κs = search rules
 
-mul-wide-2 : tie.Need-overflow-mul-wide-2 invariant-loop decreases-loop
-mul-wide-2 c = search rules
+overflow_mul-i-in-loop-i : tie.Need-overflow_mul-i-in-loop-i invariant-loop-i decreases-loop-i
+overflow_mul-i-in-loop-i c = search rules
 
-add_wide : tie.Need-overflow-add-wide invariant-loop decreases-loop
-add_wide c = search rules
+overflow_add-i : tie.Need-overflow_add-i invariant-loop-i decreases-loop-i
+overflow_add-i c = search rules
 
-shared-slice-read-wide-2 : tie.Need-shared-slice-read-wide-2 invariant-loop decreases-loop
-shared-slice-read-wide-2 c = search rules
+bounds-list-i-in-loop-i : tie.Need-bounds-list-i-in-loop-i invariant-loop-i decreases-loop-i
+bounds-list-i-in-loop-i c = search rules
 
-wide-requires-2 : tie.Need-wide-requires-2 invariant-loop decreases-loop
-wide-requires-2 c κs = search rules
+wide-high-requires : tie.Need-wide-high-requires invariant-loop-i decreases-loop-i
+wide-high-requires c κs = search rules
 
-mul-next-number : tie.Need-overflow-mul-next-number invariant-loop decreases-loop
-mul-next-number c = omega (arith, c.before.wide2.ensures.1)
+overflow_mul-high : tie.Need-overflow_mul-high invariant-loop-i decreases-loop-i
+overflow_mul-high c = omega (arith, c.wide-high.ensures.1)
 
-add-next-number : tie.Need-overflow-add-next-number invariant-loop decreases-loop
-add-next-number c = omega (arith, c.before.wide2.ensures.1, c.before.before.before.wide.ensures.1)
+overflow_add-high : tie.Need-overflow_add-high invariant-loop-i decreases-loop-i
+overflow_add-high c = omega (arith, c.wide-high.ensures.1, c.wide-low.ensures.1)
 
-next-number-requires : tie.Need-next-number-requires invariant-loop decreases-loop
-next-number-requires c κs = omega (
+next_number-end-requires : tie.Need-next_number-end-requires invariant-loop-i decreases-loop-i
+next_number-end-requires c κs = omega (
   arith,
-  c.before.before.before.before.before.before.before.before.before.requires,
-  c.before.before.before.before.before.before.loop.invariant.1.few,
-  c.before.before.before.before.before.before.loop.invariant.1.so_far.long,
-  c.before.before.before.before.before.loop-test.true,
+  c.requires,
+  c.loop-i.invariant.1.few,
+  c.loop-i.invariant.1.so_far.long,
+  c.loop-i-test.true,
 )
 
-add-i : tie.Need-overflow-add-i invariant-loop decreases-loop
-add-i c = search rules
+overflow_add-i-in-loop-i : tie.Need-overflow_add-i-in-loop-i invariant-loop-i decreases-loop-i
+overflow_add-i-in-loop-i c = search rules
 
-loop-less : tie.Need-loop-smaller invariant-loop decreases-loop
-loop-less c = omega (arith, c.before.before.before.before.before.before.before.before.loop-test.true)
+loop-i-smaller : tie.Need-loop-i-smaller invariant-loop-i decreases-loop-i
+loop-i-smaller c = omega (arith, c.loop-i-test.true)
 
-loop-again : tie.Need-loop-preserved invariant-loop decreases-loop
-loop-again c =
-    let next = going_next c.before.before.before.before.before.before.before.before.before.loop.invariant.1 c.before.before.before.before.before.before.wide.ensures.0 c.before.before.before.before.wide2.ensures.0 c.before.before.next_number.ensures in
-    (omega (arith, c.before.before.before.before.before.before.before.before.loop-test.true), next)
+loop-i-preserved : tie.Need-loop-i-preserved invariant-loop-i decreases-loop-i
+loop-i-preserved c =
+    let next = going_next c.loop-i.invariant.1 c.wide-low.ensures.0 c.wide-high.ensures.0 c.next_number-end.ensures in
+    (omega (arith, c.loop-i-test.true), next)
 
-same_length : tie.Need-same-length invariant-loop decreases-loop
-same_length c = c.before.loop.invariant.1.so_far.long
+shape_of-out : tie.Need-shape_of-out invariant-loop-i decreases-loop-i
+shape_of-out c = c.loop-i.invariant.1.so_far.long
 
-returns : tie.Need-returns invariant-loop decreases-loop
-returns c = going_all c.before.loop.invariant.1 (omega (arith, c.before.loop.invariant.0, c.loop-test.false))
+returns : tie.Need-returns invariant-loop-i decreases-loop-i
+returns c = going_all c.loop-i.invariant.1 (omega (arith, c.loop-i.invariant.0, c.loop-i-test.false))
 
-pub numbers-spec : {M : Type 1} → statement M
-numbers-spec =
+pub numbers_spec : {M : Type 1} → statement M
+numbers_spec =
     tie.close
     (tie.spec
-    invariant-loop
-    decreases-loop
-    loop-holds
-    mul_wide
-    shared-slice-read-wide
-    wide-requires
-    mul-wide-2
-    add_wide
-    shared-slice-read-wide-2
-    wide-requires-2
-    mul-next-number
-    add-next-number
-    next-number-requires
-    add-i
-    loop-less
-    loop-again
-    same_length
+    invariant-loop-i
+    decreases-loop-i
+    loop-i-init
+    overflow_mul-i
+    bounds-list-i
+    wide-low-requires
+    overflow_mul-i-in-loop-i
+    overflow_add-i
+    bounds-list-i-in-loop-i
+    wide-high-requires
+    overflow_mul-high
+    overflow_add-high
+    next_number-end-requires
+    overflow_add-i-in-loop-i
+    loop-i-smaller
+    loop-i-preserved
+    shape_of-out
     returns)

@@ -8,123 +8,123 @@ use Rattle.run_reply.proofs.SayLaws.{says_unreadable}
 use Rattle.run_reply.proofs.reply.Statement.{statement}
 use Rattle.run_reply.proofs.reply.Tie as tie
 
-of-requires : tie.Need-of-requires
-of-requires c κs = search rules
+of-code-requires : tie.Need-of-code-requires
+of-code-requires c κs = search rules
 
 sds-requires : tie.Need-sds-requires
 sds-requires c κs = search rules
 
-same_length : tie.Need-same-length
-same_length c = search rules
+shape_of-base-then-code-eq1 : tie.Need-shape_of-base-then-code-eq1
+shape_of-base-then-code-eq1 c = search rules
 
-same-length-2 : tie.Need-same-length-2
-same-length-2 c = search rules
+shape_of-out-then-code-eq1 : tie.Need-shape_of-out-then-code-eq1
+shape_of-out-then-code-eq1 c = search rules
 
-returns : tie.Need-returns
-returns c = replied_sds _ (sym c.before.before.before.before.before.before.before.before.of.ensures ∙ c.before.before.before.before.before.before.before.if1.true) c.before.before.before.before.sds.ensures
+returns-then-code-eq1 : tie.Need-returns-then-code-eq1
+returns-then-code-eq1 c = replied_sds _ (sym c.of-code.ensures ∙ c.if-code-eq1.true) c.sds.ensures
 
 import-requires : tie.Need-import-requires
 import-requires c κs = search rules
 
-same-length-3 : tie.Need-same-length-3
-same-length-3 c = search rules
+shape_of-base-then-code-eq2 : tie.Need-shape_of-base-then-code-eq2
+shape_of-base-then-code-eq2 c = search rules
 
-same-length-4 : tie.Need-same-length-4
-same-length-4 c = search rules
+shape_of-out-then-code-eq2 : tie.Need-shape_of-out-then-code-eq2
+shape_of-out-then-code-eq2 c = search rules
 
-returns-2 : tie.Need-returns-2
-returns-2 c = replied_import _ (sym c.before.before.before.before.before.before.before.before.before.of.ensures ∙ c.before.before.before.before.before.before.before.if2.true) c.before.before.before.before.import.ensures
+returns-then-code-eq2 : tie.Need-returns-then-code-eq2
+returns-then-code-eq2 c = replied_import _ (sym c.of-code.ensures ∙ c.if-code-eq2.true) c.import.ensures
 
 object-requires : tie.Need-object-requires
 object-requires c κs = search rules
 
-same-length-5 : tie.Need-same-length-5
-same-length-5 c = search rules
+shape_of-base-then-code-eq3 : tie.Need-shape_of-base-then-code-eq3
+shape_of-base-then-code-eq3 c = search rules
 
-same-length-6 : tie.Need-same-length-6
-same-length-6 c = search rules
+shape_of-out-then-code-eq3 : tie.Need-shape_of-out-then-code-eq3
+shape_of-out-then-code-eq3 c = search rules
 
-returns-3 : tie.Need-returns-3
-returns-3 c = replied_object _ (sym c.before.before.before.before.before.before.before.before.before.before.of.ensures ∙ c.before.before.before.before.before.before.before.if3.true) c.before.before.before.before.object.ensures
+returns-then-code-eq3 : tie.Need-returns-then-code-eq3
+returns-then-code-eq3 c = replied_object _ (sym c.of-code.ensures ∙ c.if-code-eq3.true) c.object.ensures
 
 remove-requires : tie.Need-remove-requires
 remove-requires c κs = search rules
 
-same-length-7 : tie.Need-same-length-7
-same-length-7 c = search rules
+shape_of-base-then-code-eq4 : tie.Need-shape_of-base-then-code-eq4
+shape_of-base-then-code-eq4 c = search rules
 
-same-length-8 : tie.Need-same-length-8
-same-length-8 c = search rules
+shape_of-out-then-code-eq4 : tie.Need-shape_of-out-then-code-eq4
+shape_of-out-then-code-eq4 c = search rules
 
-returns-4 : tie.Need-returns-4
-returns-4 c = replied_remove _ (sym c.before.before.before.before.before.before.before.before.before.before.before.of.ensures ∙ c.before.before.before.before.before.before.before.if4.true) c.before.before.before.before.remove.ensures
+returns-then-code-eq4 : tie.Need-returns-then-code-eq4
+returns-then-code-eq4 c = replied_remove _ (sym c.of-code.ensures ∙ c.if-code-eq4.true) c.remove.ensures
 
 desc-requires : tie.Need-desc-requires
 desc-requires c κs = search rules
 
-same-length-9 : tie.Need-same-length-9
-same-length-9 c = search rules
+shape_of-base-then-code-eq5 : tie.Need-shape_of-base-then-code-eq5
+shape_of-base-then-code-eq5 c = search rules
 
-same-length-10 : tie.Need-same-length-10
-same-length-10 c = search rules
+shape_of-out-then-code-eq5 : tie.Need-shape_of-out-then-code-eq5
+shape_of-out-then-code-eq5 c = search rules
 
-returns-5 : tie.Need-returns-5
-returns-5 c = replied_desc _ (sym c.before.before.before.before.before.before.before.before.before.before.of.ensures ∙ c.before.before.before.before.before.if5.true) c.before.before.desc.ensures
+returns-then-code-eq5 : tie.Need-returns-then-code-eq5
+returns-then-code-eq5 c = replied_desc _ (sym c.of-code.ensures ∙ c.if-code-eq5.true) c.desc.ensures
 
 depth-requires : tie.Need-depth-requires
 depth-requires c κs = search rules
 
-same-length-11 : tie.Need-same-length-11
-same-length-11 c = search rules
+shape_of-base-then-code-eq6 : tie.Need-shape_of-base-then-code-eq6
+shape_of-base-then-code-eq6 c = search rules
 
-same-length-12 : tie.Need-same-length-12
-same-length-12 c = search rules
+shape_of-out-then-code-eq6 : tie.Need-shape_of-out-then-code-eq6
+shape_of-out-then-code-eq6 c = search rules
 
-returns-6 : tie.Need-returns-6
-returns-6 c = replied_depth _ (sym c.before.before.before.before.before.before.before.before.before.before.before.of.ensures ∙ c.before.before.before.before.before.if6.true) c.before.before.depth.ensures
+returns-then-code-eq6 : tie.Need-returns-then-code-eq6
+returns-then-code-eq6 c = replied_depth _ (sym c.of-code.ensures ∙ c.if-code-eq6.true) c.depth.ensures
 
 unreadable-requires : tie.Need-unreadable-requires
 unreadable-requires c κs = search rules
 
-same-length-13 : tie.Need-same-length-13
-same-length-13 c = search rules
+shape_of-out : tie.Need-shape_of-out
+shape_of-out c = search rules
 
-returns-7 : tie.Need-returns-7
-returns-7 c =
-    replied_unreadable _ _ (sym c.before.before.before.before.before.before.before.before.before.before.of.ensures) c.before.before.before.before.before.before.before.before.before.if1.false c.before.before.before.before.before.before.before.before.if2.false c.before.before.before.before.before.before.before.if3.false c.before.before.before.before.before.before.if4.false
-    c.before.before.before.before.before.if5.false c.before.before.before.before.if6.false
-    (says_unreadable c.before.before.before.before.before.before.before.before.before.before.before.before.before.before.requires.0
-    c.before.before.unreadable.ensures)
+returns : tie.Need-returns
+returns c =
+    replied_unreadable _ _ (sym c.of-code.ensures) c.if-code-eq1.false c.if-code-eq2.false c.if-code-eq3.false c.if-code-eq4.false
+    c.if-code-eq5.false c.if-code-eq6.false
+    (says_unreadable c.requires.0
+    c.unreadable.ensures)
 
-pub reply-spec : {M : Type 1} → statement M
-reply-spec =
+pub reply_spec : {M : Type 1} → statement M
+reply_spec =
     tie.close
     (tie.spec
-    of-requires
+    of-code-requires
     sds-requires
-    same_length
-    same-length-2
-    returns
+    shape_of-base-then-code-eq1
+    shape_of-out-then-code-eq1
+    returns-then-code-eq1
     import-requires
-    same-length-3
-    same-length-4
-    returns-2
+    shape_of-base-then-code-eq2
+    shape_of-out-then-code-eq2
+    returns-then-code-eq2
     object-requires
-    same-length-5
-    same-length-6
-    returns-3
+    shape_of-base-then-code-eq3
+    shape_of-out-then-code-eq3
+    returns-then-code-eq3
     remove-requires
-    same-length-7
-    same-length-8
-    returns-4
+    shape_of-base-then-code-eq4
+    shape_of-out-then-code-eq4
+    returns-then-code-eq4
     desc-requires
-    same-length-9
-    same-length-10
-    returns-5
+    shape_of-base-then-code-eq5
+    shape_of-out-then-code-eq5
+    returns-then-code-eq5
     depth-requires
-    same-length-11
-    same-length-12
-    returns-6
+    shape_of-base-then-code-eq6
+    shape_of-out-then-code-eq6
+    returns-then-code-eq6
     unreadable-requires
-    same-length-13
-    returns-7)
+    shape_of-out
+    returns)

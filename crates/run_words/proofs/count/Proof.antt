@@ -13,54 +13,54 @@ use Rattle.run_words.proofs.WordLaws.{words_few}
 use Rattle.run_words.proofs.count.Statement.{statement}
 use Rattle.run_words.proofs.count.Tie as tie
 
-abbrev invariant-loop : tie.invariant-loop
-invariant-loop line cursor₀ n₀ cursor n = (cursor.more ≡ true → cursor.at ≤ length line) × (n + length (left line cursor) ≡ length (names_in line))
+abbrev invariant-loop-cursor : tie.invariant-loop-cursor
+invariant-loop-cursor line cursor₀ n₀ cursor n = (cursor.more ≡ true → cursor.at ≤ length line) × (n + length (left line cursor) ≡ length (names_in line))
 
-abbrev decreases-loop : tie.decreases-loop
-decreases-loop line cursor₀ n₀ cursor n = length (left line cursor)
+abbrev decreases-loop-cursor : tie.decreases-loop-cursor
+decreases-loop-cursor line cursor₀ n₀ cursor n = length (left line cursor)
 
-start-requires : tie.Need-start-requires invariant-loop decreases-loop
-start-requires c κs = search rules
+start-cursor-requires : tie.Need-start-cursor-requires invariant-loop-cursor decreases-loop-cursor
+start-cursor-requires c κs = search rules
 
-loop-holds : tie.Need-loop-init invariant-loop decreases-loop
-loop-holds c = (c.start.ensures.within, omega (arith, ap length c.start.ensures.names))
+loop-cursor-init : tie.Need-loop-cursor-init invariant-loop-cursor decreases-loop-cursor
+loop-cursor-init c = (c.start-cursor.ensures.within, omega (arith, ap length c.start-cursor.ensures.names))
 
-part-requires : tie.Need-part-requires invariant-loop decreases-loop
-part-requires c κs = record { more = c.loop-test.true; within = c.before.loop.invariant.0 c.loop-test.true }
+part-part-requires : tie.Need-part-part-requires invariant-loop-cursor decreases-loop-cursor
+part-part-requires c κs = record { more = c.loop-cursor-test.true; within = c.loop-cursor.invariant.0 c.loop-cursor-test.true }
 
-add-n : tie.Need-overflow-add-n invariant-loop decreases-loop
-add-n c = omega (
+overflow_add-n : tie.Need-overflow_add-n invariant-loop-cursor decreases-loop-cursor
+overflow_add-n c = omega (
   arith,
-  words_few c.before.before.before.before.before.before.args.line.now,
-  c.before.before.before.before.before.before.requires,
-  c.before.before.before.loop.invariant.1,
-  c.before.part.ensures.fewer,
+  words_few c.args.line.now,
+  c.requires,
+  c.loop-cursor.invariant.1,
+  c.part-part.ensures.fewer,
 )
 
-loop-less : tie.Need-loop-smaller invariant-loop decreases-loop
-loop-less c = c.before.part.ensures.fewer
+loop-cursor-smaller : tie.Need-loop-cursor-smaller invariant-loop-cursor decreases-loop-cursor
+loop-cursor-smaller c = c.part-part.ensures.fewer
 
-loop-again : tie.Need-loop-preserved invariant-loop decreases-loop
-loop-again c = (c.before.part.ensures.next_within, omega (arith, c.before.before.before.loop.invariant.1, ap length c.before.part.ensures.names))
+loop-cursor-preserved : tie.Need-loop-cursor-preserved invariant-loop-cursor decreases-loop-cursor
+loop-cursor-preserved c = (c.part-part.ensures.next_within, omega (arith, c.loop-cursor.invariant.1, ap length c.part-part.ensures.names))
 
-returns : tie.Need-returns invariant-loop decreases-loop
+returns : tie.Need-returns invariant-loop-cursor decreases-loop-cursor
 returns c = omega (
   arith,
-  c.before.loop.invariant.1,
-  ap length (left_none c.before.before.before.before.args.line.now c.before.loop.cursor
-      c.loop-test.false),
+  c.loop-cursor.invariant.1,
+  ap length (left_none c.args.line.now c.loop-cursor.cursor
+      c.loop-cursor-test.false),
 )
 
 pub count_spec : {M : Type 1} → statement M
 count_spec =
     tie.close
     (tie.spec
-    invariant-loop
-    decreases-loop
-    start-requires
-    loop-holds
-    part-requires
-    add-n
-    loop-less
-    loop-again
+    invariant-loop-cursor
+    decreases-loop-cursor
+    start-cursor-requires
+    loop-cursor-init
+    part-part-requires
+    overflow_add-n
+    loop-cursor-smaller
+    loop-cursor-preserved
     returns)

@@ -12,47 +12,47 @@ use Rattle.run_words.proofs.WordLaws.{one_blank, next_blank, none_blank}
 use Rattle.run_words.proofs.has_blank.Statement.{statement}
 use Rattle.run_words.proofs.has_blank.Tie as tie
 
-abbrev invariant-loop : tie.invariant-loop
-invariant-loop line cursor₀ cursor = (cursor.more ≡ true → cursor.at ≤ length line) × (any blank (left line cursor) ≡ any blank (names_in line))
+abbrev invariant-loop-cursor : tie.invariant-loop-cursor
+invariant-loop-cursor line cursor₀ cursor = (cursor.more ≡ true → cursor.at ≤ length line) × (any blank (left line cursor) ≡ any blank (names_in line))
 
-abbrev decreases-loop : tie.decreases-loop
-decreases-loop line cursor₀ cursor = length (left line cursor)
+abbrev decreases-loop-cursor : tie.decreases-loop-cursor
+decreases-loop-cursor line cursor₀ cursor = length (left line cursor)
 
-start-requires : tie.Need-start-requires invariant-loop decreases-loop
-start-requires c κs = search rules
+start-cursor-requires : tie.Need-start-cursor-requires invariant-loop-cursor decreases-loop-cursor
+start-cursor-requires c κs = search rules
 
-loop-holds : tie.Need-loop-init invariant-loop decreases-loop
-loop-holds c = (c.start.ensures.within, ap (any blank) c.start.ensures.names)
+loop-cursor-init : tie.Need-loop-cursor-init invariant-loop-cursor decreases-loop-cursor
+loop-cursor-init c = (c.start-cursor.ensures.within, ap (any blank) c.start-cursor.ensures.names)
 
-part-requires : tie.Need-part-requires invariant-loop decreases-loop
-part-requires c κs = record { more = c.loop-test.true; within = c.before.loop.invariant.0 c.loop-test.true }
+part-part-requires : tie.Need-part-part-requires invariant-loop-cursor decreases-loop-cursor
+part-part-requires c κs = record { more = c.loop-cursor-test.true; within = c.loop-cursor.invariant.0 c.loop-cursor-test.true }
 
-returns : tie.Need-returns invariant-loop decreases-loop
-returns c = one_blank c.before.before.part.ensures c.if1.true ∙ c.before.before.before.before.loop.invariant.1
+returns-then-part : tie.Need-returns-then-part invariant-loop-cursor decreases-loop-cursor
+returns-then-part c = one_blank c.part-part.ensures c.if-part.true ∙ c.loop-cursor.invariant.1
 
-loop-less : tie.Need-loop-smaller invariant-loop decreases-loop
-loop-less c = c.before.before.before.part.ensures.fewer
+loop-cursor-smaller : tie.Need-loop-cursor-smaller invariant-loop-cursor decreases-loop-cursor
+loop-cursor-smaller c = c.part-part.ensures.fewer
 
-loop-again : tie.Need-loop-preserved invariant-loop decreases-loop
-loop-again c = (
-  c.before.before.before.part.ensures.next_within,
-  next_blank c.before.before.before.part.ensures c.before.if1.false ∙
-      c.before.before.before.before.before.loop.invariant.1,
+loop-cursor-preserved : tie.Need-loop-cursor-preserved invariant-loop-cursor decreases-loop-cursor
+loop-cursor-preserved c = (
+  c.part-part.ensures.next_within,
+  next_blank c.part-part.ensures c.if-part.false ∙
+      c.loop-cursor.invariant.1,
 )
 
-returns-2 : tie.Need-returns-2 invariant-loop decreases-loop
-returns-2 c = none_blank c.before.before.before.before.args.line.now c.before.loop.cursor c.loop-test.false ∙ c.before.loop.invariant.1
+returns : tie.Need-returns invariant-loop-cursor decreases-loop-cursor
+returns c = none_blank c.args.line.now c.loop-cursor.cursor c.loop-cursor-test.false ∙ c.loop-cursor.invariant.1
 
-pub has-blank-spec : {M : Type 1} → statement M
-has-blank-spec =
+pub has_blank_spec : {M : Type 1} → statement M
+has_blank_spec =
     tie.close
     (tie.spec
-    invariant-loop
-    decreases-loop
-    start-requires
-    loop-holds
-    part-requires
-    returns
-    loop-less
-    loop-again
-    returns-2)
+    invariant-loop-cursor
+    decreases-loop-cursor
+    start-cursor-requires
+    loop-cursor-init
+    part-part-requires
+    returns-then-part
+    loop-cursor-smaller
+    loop-cursor-preserved
+    returns)

@@ -6,21 +6,21 @@ use Rattle.run_words.proofs.LineLaws.{keeps_room, keeps_full}
 use Rattle.run_words.proofs.keep.Statement.{statement}
 use Rattle.run_words.proofs.keep.Tie as tie
 
-slice-write-line : tie.Need-slice-write-line
-slice-write-line c = search rules
+bounds-line-n : tie.Need-bounds-line-n
+bounds-line-n c = search rules
 
-add-result : tie.Need-overflow-add-result
-add-result c = search rules
+overflow_add-result : tie.Need-overflow_add-result
+overflow_add-result c = search rules
 
-same_length : tie.Need-same-length
-same_length c = search rules
+shape_of-line-then-n-lt-KEPT : tie.Need-shape_of-line-then-n-lt-KEPT
+shape_of-line-then-n-lt-KEPT c = search rules
+
+returns-then-n-lt-KEPT : tie.Need-returns-then-n-lt-KEPT
+returns-then-n-lt-KEPT c = keeps_room c.args.line.now c.requires.0 c.args.n c.args.c c.if-n-lt-KEPT.true
 
 returns : tie.Need-returns
-returns c = keeps_room c.before.args.line.now c.before.requires.0 c.before.args.n c.before.args.c c.if1.true
-
-returns-2 : tie.Need-returns-2
-returns-2 c = keeps_full c.before.args.line.now c.before.requires.0 c.before.args.n c.before.args.c c.before.requires.1
-    (omega (arith, c.if1.false))
+returns c = keeps_full c.args.line.now c.requires.0 c.args.n c.args.c c.requires.1
+    (omega (arith, c.if-n-lt-KEPT.false))
 
 pub keep_spec : {M : Type 1} → statement M
-keep_spec = tie.close (tie.spec slice-write-line add-result same_length returns returns-2)
+keep_spec = tie.close (tie.spec bounds-line-n overflow_add-result shape_of-line-then-n-lt-KEPT returns-then-n-lt-KEPT returns)

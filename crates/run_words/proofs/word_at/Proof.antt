@@ -8,47 +8,47 @@ use Rattle.run_words.proofs.WordLaws.{Walking, walking_first, walking_next, stan
 use Rattle.run_words.proofs.word_at.Statement.{statement}
 use Rattle.run_words.proofs.word_at.Tie as tie
 
-abbrev invariant-loop : tie.invariant-loop
-invariant-loop line i cursor₀ before₀ cursor before = Walking line i cursor before
+abbrev invariant-loop-cursor : tie.invariant-loop-cursor
+invariant-loop-cursor line i cursor₀ before₀ cursor before = Walking line i cursor before
 
-abbrev decreases-loop : tie.decreases-loop
-decreases-loop line i cursor₀ before₀ cursor before = length (left line cursor)
+abbrev decreases-loop-cursor : tie.decreases-loop-cursor
+decreases-loop-cursor line i cursor₀ before₀ cursor before = length (left line cursor)
 
-start-requires : tie.Need-start-requires invariant-loop decreases-loop
-start-requires c κs = search rules
+start-cursor-requires : tie.Need-start-cursor-requires invariant-loop-cursor decreases-loop-cursor
+start-cursor-requires c κs = search rules
 
-loop-holds : tie.Need-loop-init invariant-loop decreases-loop
-loop-holds c = walking_first c.start.ensures _
+loop-cursor-init : tie.Need-loop-cursor-init invariant-loop-cursor decreases-loop-cursor
+loop-cursor-init c = walking_first c.start-cursor.ensures _
 
-part-requires : tie.Need-part-requires invariant-loop decreases-loop
-part-requires c κs = standing c.before.loop.invariant c.loop-test.true
+part-part-requires : tie.Need-part-part-requires invariant-loop-cursor decreases-loop-cursor
+part-part-requires c κs = standing c.loop-cursor.invariant c.loop-cursor-test.true
 
-returns : tie.Need-returns invariant-loop decreases-loop
-returns c = word_here c.before.before.before.loop.invariant c.before.before.loop-test.true c.before.part.ensures c.if1.true
+returns-then-before-eq0 : tie.Need-returns-then-before-eq0 invariant-loop-cursor decreases-loop-cursor
+returns-then-before-eq0 c = word_here c.loop-cursor.invariant c.loop-cursor-test.true c.part-part.ensures c.if-before-eq0.true
 
-sub-before : tie.Need-overflow-sub-before invariant-loop decreases-loop
-sub-before c = omega (arith, c.before.if1.false)
+overflow_sub-before : tie.Need-overflow_sub-before invariant-loop-cursor decreases-loop-cursor
+overflow_sub-before c = omega (arith, c.if-before-eq0.false)
 
-loop-less : tie.Need-loop-smaller invariant-loop decreases-loop
-loop-less c = c.before.before.part.ensures.fewer
+loop-cursor-smaller : tie.Need-loop-cursor-smaller invariant-loop-cursor decreases-loop-cursor
+loop-cursor-smaller c = c.part-part.ensures.fewer
 
-loop-again : tie.Need-loop-preserved invariant-loop decreases-loop
-loop-again c = walking_next c.before.before.before.before.loop.invariant c.before.before.part.ensures c.before.if1.false
+loop-cursor-preserved : tie.Need-loop-cursor-preserved invariant-loop-cursor decreases-loop-cursor
+loop-cursor-preserved c = walking_next c.loop-cursor.invariant c.part-part.ensures c.if-before-eq0.false
 
-returns-2 : tie.Need-returns-2 invariant-loop decreases-loop
-returns-2 c = word_none c.before.loop.invariant c.loop-test.false
+returns : tie.Need-returns invariant-loop-cursor decreases-loop-cursor
+returns c = word_none c.loop-cursor.invariant c.loop-cursor-test.false
 
-pub word-at-spec : {M : Type 1} → statement M
-word-at-spec =
+pub word_at_spec : {M : Type 1} → statement M
+word_at_spec =
     tie.close
     (tie.spec
-    invariant-loop
-    decreases-loop
-    start-requires
-    loop-holds
-    part-requires
-    returns
-    sub-before
-    loop-less
-    loop-again
-    returns-2)
+    invariant-loop-cursor
+    decreases-loop-cursor
+    start-cursor-requires
+    loop-cursor-init
+    part-part-requires
+    returns-then-before-eq0
+    overflow_sub-before
+    loop-cursor-smaller
+    loop-cursor-preserved
+    returns)

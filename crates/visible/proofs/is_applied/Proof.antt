@@ -1,6 +1,5 @@
 -- `visible::is_applied` meets its contract: the tests are the two that the promise joins; the numbers in a row of a sound base
 -- are small enough to be tested. Assumes nothing.
-use Prim.Native.Nat.{◌-◌}
 use native.Mathlib.Omega.{arith}
 use mathlib.Core.Path.{ap, ◌∙◌}
 use Rattle.base.proofs.Kept.{sound_long}

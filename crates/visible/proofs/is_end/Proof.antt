@@ -1,6 +1,6 @@
 -- `visible::is_end` meets its contract: the tests are the two that the promise joins; in a sound base the byte of a side is its
 -- code. Assumes nothing.
-use Prim.Native.Nat.{ℕ, ◌-◌}
+use Prim.Native.Nat.{ℕ}
 use native.Mathlib.Omega.{arith}
 use mathlib.Core.Path.{ap, ◌∙◌}
 use lib.Dec.{eqb}

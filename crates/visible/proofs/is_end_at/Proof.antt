@@ -1,7 +1,6 @@
 -- `visible::is_end_at` meets its contract: `is_end` and the test of the object type are the two that the promise joins.
 -- Assumes nothing.
 use borrow.Author.Rules.{rules}
-use Prim.Native.Nat.{◌-◌}
 use native.Mathlib.Omega.{arith}
 use mathlib.Core.Path.{ap, ◌∙◌}
 use Rattle.base.proofs.Kept.{sound_long}

@@ -1,7 +1,7 @@
 -- `visible::is_end_of` meets its contract: `is_end` and the test of the link type are the two that the promise joins.
 -- Assumes nothing.
 use borrow.Author.Rules.{rules}
-use Prim.Native.Nat.{ℕ, ◌-◌}
+use Prim.Native.Nat.{ℕ}
 use native.Mathlib.Omega.{arith}
 use mathlib.Core.Path.{ap}
 use lib.Dec.{eqb}

@@ -1,5 +1,4 @@
 -- `visible::is_shown` meets its contract: the tests are the two that the promise joins. Assumes nothing.
-use Prim.Native.Nat.{◌-◌}
 use native.Mathlib.Omega.{arith}
 use mathlib.Core.Path.{ap, ◌∙◌}
 use lib.Dec.{eqb}

@@ -10,24 +10,24 @@ use Rattle.run_command.proofs.CalledLaws.{called_unused, called_used}
 use Rattle.run_command.proofs.called.is_called.Statement.{statement}
 use Rattle.run_command.proofs.called.is_called.Tie as tie
 
-is-sds-requires : tie.Need-is-sds-requires
-is-sds-requires c κs = search rules
+is_sds-requires : tie.Need-is_sds-requires
+is_sds-requires c κs = search rules
+
+returns-then-not-is_sds : tie.Need-returns-then-not-is_sds
+returns-then-not-is_sds c = called_unused _ _ _ (sym c.is_sds.ensures ∙ not-true _ c.if-not-is_sds.true-raw)
+
+sds_name-requires : tie.Need-sds_name-requires
+sds_name-requires c κs = search rules
+
+is_same-requires : tie.Need-is_same-requires
+is_same-requires c κs = search rules
 
 returns : tie.Need-returns
-returns c = called_unused _ _ _ (sym c.before.is-sds.ensures ∙ not-true _ c.if1.true)
+returns c =
+    let x = c.args in
+    c.is_same.ensures ∙ ap (λ (m : List ℕ). same_name m x.name.now) c.sds_name.ensures
+    ∙ called_used _ _ _ (sym c.is_sds.ensures ∙ not-false _ c.if-not-is_sds.false-raw)
 
-sds-name-requires : tie.Need-sds-name-requires
-sds-name-requires c κs = search rules
-
-is-same-requires : tie.Need-is-same-requires
-is-same-requires c κs = search rules
-
-returns-2 : tie.Need-returns-2
-returns-2 c =
-    let x = c.before.before.before.before.before.before.args in
-    c.is_same.ensures ∙ ap (λ (m : List ℕ). same_name m x.name.now) c.before.sds_name.ensures
-    ∙ called_used _ _ _ (sym c.before.before.before.is-sds.ensures ∙ not-false _ c.before.before.if1.false)
-
-pub is-called-spec : {M : Type 1} → statement M
-is-called-spec =
-    tie.close (tie.spec is-sds-requires returns sds-name-requires is-same-requires returns-2)
+pub is_called_spec : {M : Type 1} → statement M
+is_called_spec =
+    tie.close (tie.spec is_sds-requires returns-then-not-is_sds sds_name-requires is_same-requires returns)

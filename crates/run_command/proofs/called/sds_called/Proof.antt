@@ -12,50 +12,50 @@ use Rattle.run_command.proofs.CalledLaws.{called_first, called_none}
 use Rattle.run_command.proofs.called.sds_called.Statement.{statement}
 use Rattle.run_command.proofs.called.sds_called.Tie as tie
 
-abbrev invariant-loop : tie.invariant-loop
-invariant-loop base name d₀ d = (d ≤ 16) × ((k : ℕ) → k < d → called (schema_of base) name k ≡ false)
+abbrev invariant-loop-d : tie.invariant-loop-d
+invariant-loop-d base name d₀ d = (d ≤ 16) × ((k : ℕ) → k < d → called (schema_of base) name k ≡ false)
 
-abbrev decreases-loop : tie.decreases-loop
-decreases-loop base name d₀ d = 16 - d
+abbrev decreases-loop-d : tie.decreases-loop-d
+decreases-loop-d base name d₀ d = 16 - d
 
-loop-holds : tie.Need-loop-init invariant-loop decreases-loop
-loop-holds c = (omega arith, below_none _)
+loop-d-init : tie.Need-loop-d-init invariant-loop-d decreases-loop-d
+loop-d-init c = (omega arith, below_none _)
 
-is-called-requires : tie.Need-is-called-requires invariant-loop decreases-loop
-is-called-requires c κs = search rules
+is_called-requires : tie.Need-is_called-requires invariant-loop-d decreases-loop-d
+is_called-requires c κs = search rules
 
-returns : tie.Need-returns invariant-loop decreases-loop
+returns-then-is_called : tie.Need-returns-then-is_called invariant-loop-d decreases-loop-d
+returns-then-is_called c =
+    let found = called_first _ _ _ c.loop-d.invariant.1 c.loop-d-test.true (sym c.is_called.ensures
+    ∙ c.if-is_called.true) in
+    (found, omega (arith, c.loop-d-test.true))
+
+overflow_add-d : tie.Need-overflow_add-d invariant-loop-d decreases-loop-d
+overflow_add-d c = search rules
+
+loop-d-smaller : tie.Need-loop-d-smaller invariant-loop-d decreases-loop-d
+loop-d-smaller c = omega (arith, c.loop-d-test.true)
+
+loop-d-preserved : tie.Need-loop-d-preserved invariant-loop-d decreases-loop-d
+loop-d-preserved c =
+    let more = below_more _ _ c.loop-d.invariant.1 (sym c.is_called.ensures ∙ c.if-is_called.false) in
+    (omega (arith, c.loop-d-test.true), more)
+
+returns : tie.Need-returns invariant-loop-d decreases-loop-d
 returns c =
-    let found = called_first _ _ _ c.before.before.before.loop.invariant.1 c.before.before.loop-test.true (sym c.before.is-called.ensures
-    ∙ c.if1.true) in
-    (found, omega (arith, c.before.before.loop-test.true))
-
-add-d : tie.Need-overflow-add-d invariant-loop decreases-loop
-add-d c = search rules
-
-loop-less : tie.Need-loop-smaller invariant-loop decreases-loop
-loop-less c = omega (arith, c.before.before.loop-test.true)
-
-loop-again : tie.Need-loop-preserved invariant-loop decreases-loop
-loop-again c =
-    let more = below_more _ _ c.before.before.before.loop.invariant.1 (sym c.before.is-called.ensures ∙ c.if1.false) in
-    (omega (arith, c.before.before.loop-test.true), more)
-
-returns-2 : tie.Need-returns-2 invariant-loop decreases-loop
-returns-2 c =
-    let all = called_none _ _ _ c.before.loop.invariant.1 (omega (arith, c.before.loop.invariant.0, c.loop-test.false)) in
+    let all = called_none _ _ _ c.loop-d.invariant.1 (omega (arith, c.loop-d.invariant.0, c.loop-d-test.false)) in
     (all, omega arith)
 
-pub sds-called-spec : {M : Type 1} → statement M
-sds-called-spec =
+pub sds_called_spec : {M : Type 1} → statement M
+sds_called_spec =
     tie.close
     (tie.spec
-    invariant-loop
-    decreases-loop
-    loop-holds
-    is-called-requires
-    returns
-    add-d
-    loop-less
-    loop-again
-    returns-2)
+    invariant-loop-d
+    decreases-loop-d
+    loop-d-init
+    is_called-requires
+    returns-then-is_called
+    overflow_add-d
+    loop-d-smaller
+    loop-d-preserved
+    returns)

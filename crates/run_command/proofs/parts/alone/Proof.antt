@@ -7,11 +7,11 @@ use mathlib.Core.List.{[], ◌∷◌}
 use Rattle.run_command.proofs.parts.alone.Statement.{statement}
 use Rattle.run_command.proofs.parts.alone.Tie as tie
 
-cast-schema : tie.Need-overflow-cast-schema
-cast-schema c = search rules
+overflow_cast-schema : tie.Need-overflow_cast-schema
+overflow_cast-schema c = search rules
 
-array-write-schema : tie.Need-array-write-schema
-array-write-schema c = search rules
+bounds-schema-0 : tie.Need-bounds-schema-0
+bounds-schema-0 c = search rules
 
 returns : tie.Need-returns
 returns c =
@@ -19,5 +19,5 @@ returns c =
     let small : d % 256 ≡ d = omega (arith, c.requires) in
     ap (λ (x : ℕ). x ∷ []) small
 
-pub alone-spec : {M : Type 1} → statement M
-alone-spec = tie.close (tie.spec cast-schema array-write-schema returns)
+pub alone_spec : {M : Type 1} → statement M
+alone_spec = tie.close (tie.spec overflow_cast-schema bounds-schema-0 returns)

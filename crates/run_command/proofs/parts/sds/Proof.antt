@@ -11,13 +11,13 @@ use Rattle.run_command.proofs.parts.sds.Tie as tie
 word-requires : tie.Need-word-requires
 word-requires c κs = search rules
 
-sds-called-requires : tie.Need-sds-called-requires
-sds-called-requires c κs = search rules
+sds_called-requires : tie.Need-sds_called-requires
+sds_called-requires c κs = search rules
 
 returns : tie.Need-returns
 returns c =
-    let b = c.before.before.before.before.args.base.now in
-    (c.sds_called.ensures.0 ∙ ap (λ (n : List ℕ). sds_called (schema_of b) n) c.before.word.ensures, c.sds_called.ensures.1)
+    let b = c.args.base.now in
+    (c.sds_called.ensures.0 ∙ ap (λ (n : List ℕ). sds_called (schema_of b) n) c.word.ensures, c.sds_called.ensures.1)
 
-pub sds-spec : {M : Type 1} → statement M
-sds-spec = tie.close (tie.spec word-requires sds-called-requires returns)
+pub sds_spec : {M : Type 1} → statement M
+sds_spec = tie.close (tie.spec word-requires sds_called-requires returns)

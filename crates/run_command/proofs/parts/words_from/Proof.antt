@@ -9,24 +9,24 @@ use lib.Seq.{take_all}
 use Rattle.run_command.proofs.parts.words_from.Statement.{statement}
 use Rattle.run_command.proofs.parts.words_from.Tie as tie
 
-word-at-requires : tie.Need-word-at-requires
-word-at-requires c κs = search rules
+word_at-found-requires : tie.Need-word_at-found-requires
+word_at-found-requires c κs = search rules
 
-sub-result : tie.Need-overflow-sub-result
-sub-result c = search rules
+slice_bounds-result-count : tie.Need-slice_bounds-result-count
+slice_bounds-result-count c = search rules
 
-part-result-start : tie.Need-slice-bounds-result-start
-part-result-start c = search rules
+slice_bounds-result-start : tie.Need-slice_bounds-result-start
+slice_bounds-result-start c = search rules
 
-part-result-end : tie.Need-slice-bounds-result-end
-part-result-end c = search rules
+slice_bounds-result-end : tie.Need-slice_bounds-result-end
+slice_bounds-result-end c = search rules
 
 returns : tie.Need-returns
 returns c =
-    let line = c.before.before.before.args.line.now in
-    let start = c.before.word_at.result.start in
-    take_all (length line - start) (drop start line) (omega (arith, length-drop start line)) ∙ c.before.word_at.ensures.rest
+    let line = c.args.line.now in
+    let start = c.word_at-found.result.start in
+    take_all (length line - start) (drop start line) (omega (arith, length-drop start line)) ∙ c.word_at-found.ensures.rest
 
-pub words-from-spec : {M : Type 1} → statement M
-words-from-spec =
-    tie.close (tie.spec word-at-requires sub-result part-result-start part-result-end returns)
+pub words_from_spec : {M : Type 1} → statement M
+words_from_spec =
+    tie.close (tie.spec word_at-found-requires slice_bounds-result-count slice_bounds-result-start slice_bounds-result-end returns)

@@ -6,41 +6,41 @@ use Rattle.run_reply.proofs.DoneLaws.{object_done}
 use Rattle.run_reply.proofs.change.object.Statement.{statement}
 use Rattle.run_reply.proofs.change.object.Tie as tie
 
-sds-requires : tie.Need-sds-requires
-sds-requires c κs = search rules
+sds-d-requires : tie.Need-sds-d-requires
+sds-d-requires c κs = search rules
 
-word-requires : tie.Need-word-requires
-word-requires c κs = search rules
+word-name-requires : tie.Need-word-name-requires
+word-name-requires c κs = search rules
 
-words-from-requires : tie.Need-words-from-requires
-words-from-requires c κs = search rules
+words_from-parents-requires : tie.Need-words_from-parents-requires
+words_from-parents-requires c κs = search rules
 
-new-object-requires : tie.Need-new-object-requires
-new-object-requires c κs = search rules
+new_object-answer-requires : tie.Need-new_object-answer-requires
+new_object-answer-requires c κs = search rules
 
 answer-requires : tie.Need-answer-requires
 answer-requires c κs = search rules
 
-same_length : tie.Need-same-length
-same_length c = search rules
+shape_of-base : tie.Need-shape_of-base
+shape_of-base c = search rules
 
-same-length-2 : tie.Need-same-length-2
-same-length-2 c = search rules
+shape_of-out : tie.Need-shape_of-out
+shape_of-out c = search rules
 
 returns : tie.Need-returns
 returns c =
-    object_done _ (same_length c ∙ c.before.before.before.before.before.before.before.before.before.before.before.before.before.before.before.requires.0) c.before.before.answer.ensures _ _ _ c.before.before.before.before.before.before.before.before.before.before.sds.ensures.0 c.before.before.before.before.before.before.before.before.before.word.ensures c.before.before.before.before.before.before.before.before.words-from.ensures
-    c.before.before.before.before.before.before.new_object.ensures
+    object_done _ (shape_of-base c ∙ c.requires.0) c.answer.ensures _ _ _ c.sds-d.ensures.0 c.word-name.ensures c.words_from-parents.ensures
+    c.new_object-answer.ensures
 
-pub object-spec : {M : Type 1} → statement M
-object-spec =
+pub object_spec : {M : Type 1} → statement M
+object_spec =
     tie.close
     (tie.spec
-    sds-requires
-    word-requires
-    words-from-requires
-    new-object-requires
+    sds-d-requires
+    word-name-requires
+    words_from-parents-requires
+    new_object-answer-requires
     answer-requires
-    same_length
-    same-length-2
+    shape_of-base
+    shape_of-out
     returns)

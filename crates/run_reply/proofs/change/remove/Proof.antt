@@ -6,37 +6,37 @@ use Rattle.run_reply.proofs.DoneLaws.{remove_done}
 use Rattle.run_reply.proofs.change.remove.Statement.{statement}
 use Rattle.run_reply.proofs.change.remove.Tie as tie
 
-sds-requires : tie.Need-sds-requires
-sds-requires c κs = search rules
+sds-d-requires : tie.Need-sds-d-requires
+sds-d-requires c κs = search rules
 
 word-requires : tie.Need-word-requires
 word-requires c κs = search rules
 
-remove-type-requires : tie.Need-remove-type-requires
-remove-type-requires c κs = search rules
+remove_type-answer-requires : tie.Need-remove_type-answer-requires
+remove_type-answer-requires c κs = search rules
 
 answer-requires : tie.Need-answer-requires
 answer-requires c κs = search rules
 
-same_length : tie.Need-same-length
-same_length c = search rules
+shape_of-base : tie.Need-shape_of-base
+shape_of-base c = search rules
 
-same-length-2 : tie.Need-same-length-2
-same-length-2 c = search rules
+shape_of-out : tie.Need-shape_of-out
+shape_of-out c = search rules
 
 returns : tie.Need-returns
 returns c =
-    remove_done _ (same_length c ∙ c.before.before.before.before.before.before.before.before.before.before.before.before.before.before.requires.0) c.before.before.answer.ensures _ _ c.before.before.before.before.before.before.before.before.before.sds.ensures.0 c.before.before.before.before.before.before.before.word.ensures
-    c.before.before.before.before.before.before.remove_type.ensures
+    remove_done _ (shape_of-base c ∙ c.requires.0) c.answer.ensures _ _ c.sds-d.ensures.0 c.word.ensures
+    c.remove_type-answer.ensures
 
-pub remove-spec : {M : Type 1} → statement M
-remove-spec =
+pub remove_spec : {M : Type 1} → statement M
+remove_spec =
     tie.close
     (tie.spec
-    sds-requires
+    sds-d-requires
     word-requires
-    remove-type-requires
+    remove_type-answer-requires
     answer-requires
-    same_length
-    same-length-2
+    shape_of-base
+    shape_of-out
     returns)

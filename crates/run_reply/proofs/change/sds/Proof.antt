@@ -9,23 +9,23 @@ use Rattle.run_reply.proofs.change.sds.Tie as tie
 word-requires : tie.Need-word-requires
 word-requires c κs = search rules
 
-new-sds-requires : tie.Need-new-sds-requires
-new-sds-requires c κs = search rules
+new_sds-answer-requires : tie.Need-new_sds-answer-requires
+new_sds-answer-requires c κs = search rules
 
 answer-requires : tie.Need-answer-requires
 answer-requires c κs = search rules
 
-same_length : tie.Need-same-length
-same_length c = search rules
+shape_of-base : tie.Need-shape_of-base
+shape_of-base c = search rules
 
-same-length-2 : tie.Need-same-length-2
-same-length-2 c = search rules
+shape_of-out : tie.Need-shape_of-out
+shape_of-out c = search rules
 
 returns : tie.Need-returns
-returns c = sds_done _ (same_length c ∙ c.before.before.before.before.before.before.before.before.before.before.before.before.requires.0) c.before.before.answer.ensures _ c.before.before.before.before.before.before.before.word.ensures
-    c.before.before.before.before.before.before.new_sds.ensures
+returns c = sds_done _ (shape_of-base c ∙ c.requires.0) c.answer.ensures _ c.word.ensures
+    c.new_sds-answer.ensures
 
-pub sds-spec : {M : Type 1} → statement M
-sds-spec =
+pub sds_spec : {M : Type 1} → statement M
+sds_spec =
     tie.close
-    (tie.spec word-requires new-sds-requires answer-requires same_length same-length-2 returns)
+    (tie.spec word-requires new_sds-answer-requires answer-requires shape_of-base shape_of-out returns)

@@ -12,65 +12,65 @@ use Rattle.run_reply.proofs.question.depth.Tie as tie
 sds-requires : tie.Need-sds-requires
 sds-requires c κs = search rules
 
-alone-requires : tie.Need-alone-requires
-alone-requires c κs = search rules
+alone-schema-requires : tie.Need-alone-schema-requires
+alone-schema-requires c κs = search rules
 
-slice-aggregate-find : tie.Need-slice-aggregate-find
-slice-aggregate-find c = search rules
+slice_bounds-find-end : tie.Need-slice_bounds-find-end
+slice_bounds-find-end c = search rules
 
 word-requires : tie.Need-word-requires
 word-requires c κs = search rules
 
-find-requires : tie.Need-find-requires
-find-requires c κs = search rules
+find-found-requires : tie.Need-find-found-requires
+find-found-requires c κs = search rules
 
 number-requires : tie.Need-number-requires
 number-requires c κs = search rules
 
-same_length : tie.Need-same-length
-same_length c = search rules
+shape_of-out-then-found-ne0 : tie.Need-shape_of-out-then-found-ne0
+shape_of-out-then-found-ne0 c = search rules
 
-returns : tie.Need-returns
-returns c =
-    depth_not_found _ _ _ _ c.before.before.before.before.before.before.before.before.before.before.before.before.before.before.requires.0 (c.before.before.before.before.before.before.before.before.before.alone.ensures ∙ ap (λ (d : ℕ). d ∷ []) c.before.before.before.before.before.before.before.before.before.before.sds.ensures.0)
-    c.before.before.before.before.before.before.before.word.ensures
-    c.before.before.before.before.before.before.find.ensures c.before.before.before.before.if1.true c.before.before.number.ensures
+returns-then-found-ne0 : tie.Need-returns-then-found-ne0
+returns-then-found-ne0 c =
+    depth_not_found _ _ _ _ c.requires.0 (c.alone-schema.ensures ∙ ap (λ (d : ℕ). d ∷ []) c.sds.ensures.0)
+    c.word.ensures
+    c.find-found.ensures c.if-found-ne0.true c.number.ensures
 
-slice-aggregate-depth : tie.Need-slice-aggregate-depth
-slice-aggregate-depth c = search rules
+slice_bounds-depth-end : tie.Need-slice_bounds-depth-end
+slice_bounds-depth-end c = search rules
 
-depth-requires : tie.Need-depth-requires
-depth-requires c κs = search rules
+depth-answer-requires : tie.Need-depth-answer-requires
+depth-answer-requires c κs = search rules
 
 answer-requires : tie.Need-answer-requires
 answer-requires c κs = search rules
 
-same-length-2 : tie.Need-same-length-2
-same-length-2 c = search rules
+shape_of-out : tie.Need-shape_of-out
+shape_of-out c = search rules
 
-returns-2 : tie.Need-returns-2
-returns-2 c =
-    depth_done _ _ _ _ c.before.before.before.before.before.before.before.before.before.before.before.before.before.before.before.before.requires.0 (c.before.before.before.before.before.before.before.before.before.before.before.alone.ensures ∙ ap (λ (d : ℕ).
-    d ∷ []) c.before.before.before.before.before.before.before.before.before.before.before.before.sds.ensures.0) c.before.before.before.before.before.before.before.before.before.word.ensures
-    c.before.before.before.before.before.before.before.before.find.ensures (omega (
+returns : tie.Need-returns
+returns c =
+    depth_done _ _ _ _ c.requires.0 (c.alone-schema.ensures ∙ ap (λ (d : ℕ).
+    d ∷ []) c.sds.ensures.0) c.word.ensures
+    c.find-found.ensures (omega (
       arith,
-      c.before.before.before.before.before.before.if1.false,
-    )) c.before.before.before.before.depth.ensures c.before.before.answer.ensures
+      c.if-found-ne0.false,
+    )) c.depth-answer.ensures c.answer.ensures
 
-pub depth-spec : {M : Type 1} → statement M
-depth-spec =
+pub depth_spec : {M : Type 1} → statement M
+depth_spec =
     tie.close
     (tie.spec
     sds-requires
-    alone-requires
-    slice-aggregate-find
+    alone-schema-requires
+    slice_bounds-find-end
     word-requires
-    find-requires
+    find-found-requires
     number-requires
-    same_length
-    returns
-    slice-aggregate-depth
-    depth-requires
+    shape_of-out-then-found-ne0
+    returns-then-found-ne0
+    slice_bounds-depth-end
+    depth-answer-requires
     answer-requires
-    same-length-2
-    returns-2)
+    shape_of-out
+    returns)

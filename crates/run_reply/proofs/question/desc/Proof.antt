@@ -14,104 +14,104 @@ use Rattle.run_reply.proofs.question.desc.Tie as tie
 sds-requires : tie.Need-sds-requires
 sds-requires c κs = search rules
 
-alone-requires : tie.Need-alone-requires
-alone-requires c κs = search rules
+alone-schema-requires : tie.Need-alone-schema-requires
+alone-schema-requires c κs = search rules
 
-slice-aggregate-find : tie.Need-slice-aggregate-find
-slice-aggregate-find c = search rules
+slice_bounds-find-end : tie.Need-slice_bounds-find-end
+slice_bounds-find-end c = search rules
 
 word-requires : tie.Need-word-requires
 word-requires c κs = search rules
 
-find-requires : tie.Need-find-requires
-find-requires c κs = search rules
+find-found-requires : tie.Need-find-found-requires
+find-found-requires c κs = search rules
 
 number-requires : tie.Need-number-requires
 number-requires c κs = search rules
 
-same_length : tie.Need-same-length
-same_length c = search rules
+shape_of-out-then-found-ne0 : tie.Need-shape_of-out-then-found-ne0
+shape_of-out-then-found-ne0 c = search rules
 
-returns : tie.Need-returns
-returns c =
-    desc_not_found _ _ _ _ c.before.before.before.before.before.before.before.before.before.before.before.before.before.before.requires.0 (c.before.before.before.before.before.before.before.before.before.alone.ensures ∙ ap (λ (d : ℕ). d ∷ []) c.before.before.before.before.before.before.before.before.before.before.sds.ensures.0)
-    c.before.before.before.before.before.before.before.word.ensures
-    c.before.before.before.before.before.before.find.ensures c.before.before.before.before.if1.true c.before.before.number.ensures
+returns-then-found-ne0 : tie.Need-returns-then-found-ne0
+returns-then-found-ne0 c =
+    desc_not_found _ _ _ _ c.requires.0 (c.alone-schema.ensures ∙ ap (λ (d : ℕ). d ∷ []) c.sds.ensures.0)
+    c.word.ensures
+    c.find-found.ensures c.if-found-ne0.true c.number.ensures
 
-slice-aggregate-scan-object : tie.Need-slice-aggregate-scan-object
-slice-aggregate-scan-object c = search rules
+slice_bounds-scan_object-end : tie.Need-slice_bounds-scan_object-end
+slice_bounds-scan_object-end c = search rules
 
-slice-aggregate-scan-object-2 : tie.Need-slice-aggregate-scan-object-2
-slice-aggregate-scan-object-2 c = search rules
+slice_bounds-scan_object-end-2 : tie.Need-slice_bounds-scan_object-end-2
+slice_bounds-scan_object-end-2 c = search rules
 
-scan-object-requires : tie.Need-scan-object-requires
-scan-object-requires c κs = search rules
+scan_object-answer-requires : tie.Need-scan_object-answer-requires
+scan_object-answer-requires c κs = search rules
 
-answer-requires : tie.Need-answer-requires
-answer-requires c κs = search rules
+answer-end-requires : tie.Need-answer-end-requires
+answer-end-requires c κs = search rules
 
-same-length-2 : tie.Need-same-length-2
-same-length-2 c = search rules
+shape_of-out-then-answer-ne0 : tie.Need-shape_of-out-then-answer-ne0
+shape_of-out-then-answer-ne0 c = search rules
 
-returns-2 : tie.Need-returns-2
-returns-2 c =
-    desc_refused _ _ _ _ c.before.before.before.before.before.before.before.before.before.before.before.before.before.before.before.before.before.before.before.before.requires.0 (c.before.before.before.before.before.before.before.before.before.before.before.before.before.before.before.alone.ensures ∙ ap (λ (d : ℕ). d ∷ []) c.before.before.before.before.before.before.before.before.before.before.before.before.before.before.before.before.sds.ensures.0) c.before.before.before.before.before.before.before.before.before.before.before.before.before.word.ensures
-    c.before.before.before.before.before.before.before.before.before.before.before.before.find.ensures (omega (
+returns-then-answer-ne0 : tie.Need-returns-then-answer-ne0
+returns-then-answer-ne0 c =
+    desc_refused _ _ _ _ c.requires.0 (c.alone-schema.ensures ∙ ap (λ (d : ℕ). d ∷ []) c.sds.ensures.0) c.word.ensures
+    c.find-found.ensures (omega (
       arith,
-      c.before.before.before.before.before.before.before.before.before.before.if1.false,
-    )) c.before.before.before.before.before.before.before.scan_object.ensures c.before.before.before.before.answer.ensures c.if2.true
+      c.if-found-ne0.false,
+    )) c.scan_object-answer.ensures c.answer-end.ensures c.if-answer-ne0.true
 
-slice-aggregate-numbers : tie.Need-slice-aggregate-numbers
-slice-aggregate-numbers c = search rules
+slice_bounds-numbers-end : tie.Need-slice_bounds-numbers-end
+slice_bounds-numbers-end c = search rules
 
 numbers-requires : tie.Need-numbers-requires
 numbers-requires c κs =
-    let a = c.before.before.before.before.before.before.before.before.before.scan_object.result in
-    let few = scan_few _ _ _ _ c.before.before.before.before.before.before.before.before.before.scan_object.ensures in
-    let short = spoken_few a.no a.one (omega (arith, c.before.before.if2.false)) in (
+    let a = c.scan_object-answer.result in
+    let few = scan_few _ _ _ _ c.scan_object-answer.ensures in
+    let short = spoken_few a.no a.one (omega (arith, c.if-answer-ne0.false)) in (
       omega (
         arith,
-        c.before.before.before.before.before.before.before.before.before.before.before.before.before.before.before.before.before.before.before.before.before.before.requires.1,
-        c.before.before.before.before.before.before.answer.ensures.long,
-        c.before.before.before.before.before.before.answer.ensures.end,
+        c.requires.1,
+        c.answer-end.ensures.long,
+        c.answer-end.ensures.end,
         short,
         few,
       ),
-      omega (arith, slice-aggregate-numbers c, few),
+      omega (arith, slice_bounds-numbers-end c, few),
     )
 
-same-length-3 : tie.Need-same-length-3
-same-length-3 c = search rules
+shape_of-out : tie.Need-shape_of-out
+shape_of-out c = search rules
 
-returns-3 : tie.Need-returns-3
-returns-3 c =
-    desc_done _ _ _ _ c.before.before.before.before.before.before.before.before.before.before.before.before.before.before.before.before.before.before.before.before.before.before.before.before.before.requires.0 (c.before.before.before.before.before.before.before.before.before.before.before.before.before.before.before.before.before.before.before.before.alone.ensures ∙ ap (λ (d :
-    ℕ). d ∷ []) c.before.before.before.before.before.before.before.before.before.before.before.before.before.before.before.before.before.before.before.before.before.sds.ensures.0) c.before.before.before.before.before.before.before.before.before.before.before.before.before.before.before.before.before.before.word.ensures
-    c.before.before.before.before.before.before.before.before.before.before.before.before.before.before.before.before.before.find.ensures (omega (
+returns : tie.Need-returns
+returns c =
+    desc_done _ _ _ _ c.requires.0 (c.alone-schema.ensures ∙ ap (λ (d :
+    ℕ). d ∷ []) c.sds.ensures.0) c.word.ensures
+    c.find-found.ensures (omega (
       arith,
-      c.before.before.before.before.before.before.before.before.before.before.before.before.before.before.before.if1.false,
-    )) c.before.before.before.before.before.before.before.before.before.before.before.before.scan_object.ensures c.before.before.before.before.before.before.before.before.before.answer.ensures
-    (omega (arith, c.before.before.before.before.before.if2.false)) c.before.before.numbers.ensures
+      c.if-found-ne0.false,
+    )) c.scan_object-answer.ensures c.answer-end.ensures
+    (omega (arith, c.if-answer-ne0.false)) c.numbers.ensures
 
-pub desc-spec : {M : Type 1} → statement M
-desc-spec =
+pub desc_spec : {M : Type 1} → statement M
+desc_spec =
     tie.close
     (tie.spec
     sds-requires
-    alone-requires
-    slice-aggregate-find
+    alone-schema-requires
+    slice_bounds-find-end
     word-requires
-    find-requires
+    find-found-requires
     number-requires
-    same_length
-    returns
-    slice-aggregate-scan-object
-    slice-aggregate-scan-object-2
-    scan-object-requires
-    answer-requires
-    same-length-2
-    returns-2
-    slice-aggregate-numbers
+    shape_of-out-then-found-ne0
+    returns-then-found-ne0
+    slice_bounds-scan_object-end
+    slice_bounds-scan_object-end-2
+    scan_object-answer-requires
+    answer-end-requires
+    shape_of-out-then-answer-ne0
+    returns-then-answer-ne0
+    slice_bounds-numbers-end
     numbers-requires
-    same-length-3
-    returns-3)
+    shape_of-out
+    returns)

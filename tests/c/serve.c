@@ -58,20 +58,8 @@ struct lent {
     CALL(modes, BASE, TEXT(0), NUMBER(0)) \
     CALL(write_file, BASE, OUTPUT)
 
-#ifdef ANSWER_BY_POINTER
-/* The library's x86-64 module compiled for another machine (tests/native): there as on x86-64 the caller hands over
- * the place of the answer, in front of the inputs, which are all of one word. */
-#define FUNCTION(name, ...) \
-    extern cf_answer *placed_##name(cf_answer *, ...) __asm__("cf_" #name); \
-    static cf_answer call_##name(const struct lent *c) \
-    { \
-        cf_answer answer; \
-        return *placed_##name(&answer, __VA_ARGS__); \
-    }
-#else
 #define FUNCTION(name, ...) \
     static cf_answer call_##name(const struct lent *c) { return cf_##name(__VA_ARGS__); }
-#endif
 EXPORTED(FUNCTION)
 
 #define ENTRY(name, ...) call_##name,

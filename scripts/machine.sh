@@ -57,7 +57,8 @@ prove() {
     case $1 in
     # as many crates at a time as there are processors
     all) rt "$@" --jobs "$(nproc)" ;;
-    *) (cd "crates/$2" && rt "$1") ;;
+    # for every x86-64, where rt's default asks for more of the processor
+    *) (cd "crates/$2" && rt "$1" --cpu x86-64) ;;
     esac 2>&1 | python3 scripts/progress "$log" "${@:2}" ||
         # on another machine rt builds a program and cannot run it
         { [ "$(uname -m)" != x86_64 ] && grep -q '^rt: running out/' "$log"; } ||

@@ -1,8 +1,8 @@
 """What a must-fail edit says: its bends, in the form that rt reads (crates/NAME/must-fail/*.edit, tests/bent/*.edit).
 
-A bend of a function keeps the names of the places in its code, which its proof cites: where a name is gone, the proof falls before any fact
-does. A condition is named after what it compares: with a literal or a constant, after that and how it is compared too (`c-gt90`, `d-ge-SDSS`).
-So the other side is bent, and `if c ^ 7 == b'\\n'` stands for `if c == b'\\r'`, `if d / 17 << 4 >= 16` for `if d > 16`.
+A proof cites the places of its function's code by name, and a condition is named after what it compares: with a literal or a constant, after
+that and how it is compared too (`c-gt90`, `d-ge-SDSS`). Where a bend takes such a name away and no fact falls beside it, the other side is
+bent, to the same meaning: `if d / 17 << 4 >= 16` for `if d > 16`.
 """
 
 

@@ -12,7 +12,8 @@ use Rattle.rules.specs.01-Lists.{any, put}
 use Rattle.rules.specs.02-Limits.{limits}
 use Rattle.rules.specs.03-Names.{same_name}
 use Rattle.rules.specs.04-Schema.{new_presence, with_modes}
-use Rattle.rules.specs.04-Schema.{Schema, Presence, Application, End, holds_type, present, holds_name, bears, is_application, applied, is_end, has_end, side_code}
+use Rattle.rules.specs.04-Schema.{Schema, Presence, Application, End, holds_type, present, holds_name}
+use Rattle.rules.specs.04-Schema.{bears, is_application, applied, is_end, has_end, side_code}
 use Rattle.rules.specs.07-Picture.{presence_width, presence_row, application_row, end_row}
 use Rattle.rules.specs.Read.{name_offset, type_offset, usage_offset, definition_offset, read_side}
 use Rattle.rules.proofs.Bools.{and_of}

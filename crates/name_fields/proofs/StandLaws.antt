@@ -1,5 +1,6 @@
 -- Which bytes can stand in a field, one by one and behind each other. Assumes nothing.
-use Rattle.std.proofs.Common.{◌≡◌, ℕ, zero, suc, ◌+◌, ◌-◌, ◌%◌, ◌^◌, ◌<◌, ◌≤◌, Bool, true, false, cond, not, ◌&&◌, ◌||◌, eqb, ltb, List, [], ◌∷◌, length, get_or, take, drop, set, sym, refl, ap, ◌∙◌, ap₂, arith, drop-cons, ltb-false, ltb-true, ne_eqb, eqb-true}
+use Rattle.std.proofs.Common.{◌≡◌, ℕ, zero, suc, ◌+◌, ◌-◌, ◌%◌, ◌^◌, ◌<◌, ◌≤◌, Bool, true, false, cond, not, ◌&&◌, ◌||◌, eqb, ltb, List, [], ◌∷◌}
+use Rattle.std.proofs.Common.{length, get_or, take, drop, set, sym, refl, ap, ◌∙◌, ap₂, arith, drop-cons, ltb-false, ltb-true, ne_eqb, eqb-true}
 use mathlib.Core.Bool.{and-true, and-false, and_assoc, false≢true}
 use lib.Dec.{eqb-zero-suc, eqb-suc-zero}
 use lib.Bits.{bit_or, bit_xor, or_lt}

@@ -1,6 +1,8 @@
 -- Eight bytes of a number folded at once: none carries into the next, so that each is by itself. Of names the folded bytes stand as the
 -- lowered ones do. Assumes nothing.
-use Rattle.std.proofs.Common.{◌≡◌, ℕ, zero, suc, ◌+◌, ◌*◌, ◌%◌, ◌^◌, ◌<◌, ◌≤◌, Bool, true, false, not, ◌&&◌, ◌||◌, eqb, ltb, leb, List, [], ◌∷◌, ◌++◌, length, get_or, take, replicate, sym, refl, ap, ◌∙◌, subst, true≢false, arith, take_all, ltb-false, ltb-true, lt-ltb, eq-eqb, ne_eqb, eqb-true, leb-true}
+use Rattle.std.proofs.Common.{◌≡◌, ℕ, zero, suc, ◌+◌, ◌*◌, ◌%◌, ◌^◌, ◌<◌, ◌≤◌, Bool, true, false, not, ◌&&◌, ◌||◌, eqb, ltb, leb}
+use Rattle.std.proofs.Common.{List, [], ◌∷◌, ◌++◌, length, get_or, take, replicate, sym, refl, ap, ◌∙◌, subst, true≢false, arith}
+use Rattle.std.proofs.Common.{take_all, ltb-false, ltb-true, lt-ltb, eq-eqb, ne_eqb, eqb-true, leb-true}
 use mathlib.Core.List.{map-append}
 use mathlib.Core.Bool.{and_assoc}
 use lib.Bits.{bit_and, and_block, and_mask}

@@ -1,5 +1,7 @@
 -- Bytes in numbers: the order of the numbers is that of the bytes. Assumes nothing.
-use Rattle.std.proofs.Common.{◌≡◌, ℕ, zero, suc, ◌+◌, ◌-◌, ◌*◌, ◌^◌, ◌<◌, ◌≤◌, Bool, true, false, ◌&&◌, ◌||◌, eqb, ltb, List, [], ◌∷◌, ◌++◌, map, length, get_or, replicate, sym, refl, ap, ◌∙◌, ap₂, append-nil, add-zero, zero-add, add-one, arith, pow_mono, pow-add, ltb-false, ltb-true, le-ltb, lt-ltb, eq-eqb, ne_eqb, eqb-true}
+use Rattle.std.proofs.Common.{◌≡◌, ℕ, zero, suc, ◌+◌, ◌-◌, ◌*◌, ◌^◌, ◌<◌, ◌≤◌, Bool, true, false, ◌&&◌, ◌||◌, eqb, ltb, List, [], ◌∷◌}
+use Rattle.std.proofs.Common.{◌++◌, map, length, get_or, replicate, sym, refl, ap, ◌∙◌, ap₂, append-nil, add-zero, zero-add, add-one}
+use Rattle.std.proofs.Common.{arith, pow_mono, pow-add, ltb-false, ltb-true, le-ltb, lt-ltb, eq-eqb, ne_eqb, eqb-true}
 use mathlib.Core.List.{map-append}
 use mathlib.Core.Bool.{and-false, or-false}
 use lib.Bits.{bit_and, and_le_r}
@@ -151,10 +153,10 @@ module _ (x : ℕ) (b : List ℕ) (start w n : ℕ) (small : (i : ℕ) → get_o
 
 -- ---- the bytes of a presence that are compared, the name less its case
 
-getD_mapped : (f : ℕ → ℕ) (l : List ℕ) (i : ℕ) → i < length l → get_or (map f l) i 0 ≡ f (get_or l i 0)
-getD_mapped f [] i h = absurd (omega arith)
-getD_mapped f (x ∷ l) zero h = refl
-getD_mapped f (x ∷ l) (suc i) h = getD_mapped f l i (omega arith)
+get_or_mapped : (f : ℕ → ℕ) (l : List ℕ) (i : ℕ) → i < length l → get_or (map f l) i 0 ≡ f (get_or l i 0)
+get_or_mapped f [] i h = absurd (omega arith)
+get_or_mapped f (x ∷ l) zero h = refl
+get_or_mapped f (x ∷ l) (suc i) h = get_or_mapped f l i (omega arith)
 
 fold_small : (c : ℕ) → fold c < 256
 unfolding fold
@@ -170,7 +172,7 @@ module _ (b : List ℕ) (at : ℕ) (small : (i : ℕ) → get_or b i 0 < 256) (f
 
   pub half_small : Small half
   half_small i h =
-      rw (getD_mapped fold (part b at 8) i (omega (arith, h, length-map (part b at 8) fold))) (fold_small (get_or (part b at 8) i 0))
+      rw (get_or_mapped fold (part b at 8) i (omega (arith, h, length-map (part b at 8) fold))) (fold_small (get_or (part b at 8) i 0))
 
   pub half_folded : {w r : ℕ} → Low (part b at 8) → w ≡ number 0 (part b at 8) → Folded w r → r ≡ number 0 half
   half_folded low e l = l.bytes (part b at 8) (length_part b at 8 fits) low e

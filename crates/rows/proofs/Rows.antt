@@ -1,5 +1,7 @@
 -- Laws of rows, over any width. Assumes nothing.
-use Rattle.std.proofs.Common.{◌≡◌, ℕ, zero, suc, ◌+◌, ◌-◌, ◌*◌, ◌<◌, ◌≤◌, Bool, true, false, cond, List, [], ◌∷◌, ◌++◌, length, get_or, take, drop, replicate, sym, refl, ap, ◌∙◌, ⊎_elim, append_assoc, suc-mul, zero-mul, arith, length-drop, take-append-drop, get_or-drop, get_or-take, take-take, drop-drop, take_at, drop_at}
+use Rattle.std.proofs.Common.{◌≡◌, ℕ, zero, suc, ◌+◌, ◌-◌, ◌*◌, ◌<◌, ◌≤◌, Bool, true, false, cond, List, [], ◌∷◌, ◌++◌, length, get_or}
+use Rattle.std.proofs.Common.{take, drop, replicate, sym, refl, ap, ◌∙◌, ⊎_elim, append_assoc, suc-mul, zero-mul, arith, length-drop}
+use Rattle.std.proofs.Common.{take-append-drop, get_or-drop, get_or-take, take-take, drop-drop, take_at, drop_at}
 use mathlib.Core.List.Memᴰ
 use lib.ListN.{replicate-append-replicate}
 use lib.Seq.{take-append-le, drop-append-le, take-nil}

@@ -1,5 +1,7 @@
 -- What loops over bytes need: a part's first byte, bytes that are all zero, rows that rise, counts. Assumes nothing.
-use Rattle.std.proofs.Common.{◌≡◌, ℕ, zero, suc, ◌+◌, ◌-◌, ◌*◌, ◌<◌, ◌≤◌, Bool, true, false, ltb, List, ◌∷◌, length, get_or, take, drop, replicate, sym, refl, ap, ◌∙◌, subst, true≢false, add-zero, add-one, arith, length-drop, length-take, drop-cons, drop-drop, ltb-false, ltb-true}
+use Rattle.std.proofs.Common.{◌≡◌, ℕ, zero, suc, ◌+◌, ◌-◌, ◌*◌, ◌<◌, ◌≤◌, Bool, true, false, ltb, List, ◌∷◌, length, get_or, take, drop, replicate}
+use Rattle.std.proofs.Common.{sym, refl, ap, ◌∙◌, subst, true≢false, add-zero, add-one, arith, length-drop, length-take, drop-cons, drop-drop}
+use Rattle.std.proofs.Common.{ltb-false, ltb-true}
 use lib.ListN.{length-replicate, get_or-replicate, get_or-eq_default}
 use Rattle.rules.specs.01-Lists.{same_bytes, bytes_before}
 use Rattle.rules.proofs.01-Lists.{same_bytes_is, same_bytes_refl, before_transitive, before_first}

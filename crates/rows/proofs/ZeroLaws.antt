@@ -1,5 +1,7 @@
 -- Laws of bytes that are zero, many at a time: no bit is set in them. Assumes nothing.
-use Rattle.std.proofs.Common.{◌≡◌, ℕ, zero, suc, ◌+◌, ◌-◌, ◌*◌, ◌%◌, ◌^◌, ◌<◌, ◌≤◌, Bool, true, false, ◌&&◌, eqb, List, [], ◌∷◌, ◌++◌, length, get_or, take, drop, replicate, sym, refl, ap, ◌∙◌, add-zero, mul-pos, zero-mul, add-one, arith, drop-drop, take-add, pow_pos, shl_exact, eq-eqb, ne_eqb}
+use Rattle.std.proofs.Common.{◌≡◌, ℕ, zero, suc, ◌+◌, ◌-◌, ◌*◌, ◌%◌, ◌^◌, ◌<◌, ◌≤◌, Bool, true, false, ◌&&◌, eqb, List, [], ◌∷◌, ◌++◌, length, get_or}
+use Rattle.std.proofs.Common.{take, drop, replicate, sym, refl, ap, ◌∙◌, add-zero, mul-pos, zero-mul, add-one, arith, drop-drop, take-add, pow_pos}
+use Rattle.std.proofs.Common.{shl_exact, eq-eqb, ne_eqb}
 use mathlib.Core.Bool.{and_assoc}
 use lib.Dec.{eqb-suc-zero, eqb-zero-suc}
 use lib.Bits.{bit_or}

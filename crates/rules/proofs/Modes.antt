@@ -12,7 +12,8 @@ use borrow.Author.Tests.{ltb-true, le-ltb, eqb-true, eq-eqb}
 use Rattle.rules.specs.01-Lists.{◌∈◌, any, rising, repeated}
 use Rattle.rules.specs.03-Names.{Name, same_name, name_before}
 use Rattle.rules.specs.04-Schema.{Schema, Modes, Presence, all_modes, has_mode, nowhere, system_presence, with_modes, with_presences}
-use Rattle.rules.specs.04-Schema.{used_sds, parents, is_parent, holds_type, holds_name, present, bears, type_named, type_presence, local_name, applied, has_end}
+use Rattle.rules.specs.04-Schema.{used_sds, parents, is_parent, holds_type, holds_name, present, bears}
+use Rattle.rules.specs.04-Schema.{type_named, type_presence, local_name, applied, has_end}
 use Rattle.rules.specs.05-Descent.{descends, members}
 use Rattle.rules.specs.06-Good.{by_type, presence_before, KnownModes, Good}
 use Rattle.rules.specs.07-Picture.{name_start}

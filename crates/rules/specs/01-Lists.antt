@@ -30,13 +30,13 @@
 --   a / b  a % b  a ^ b    the quotient of numbers, rounded down, the remainder, and the power
 --   λ k. ..             a function without a name, of k
 --   cond c a b          a where c is true, else b. `eqb`, `ltb`, `leb` test x = y, x < y, x ≤ y; `&&`, `||`, `not` are as everywhere
---   getD xs i d         the element at place i, from 0 on; d where there is none. `set xs i a` is xs with a there, `map f xs` f of each
+--   get_or xs i d       the element at place i, from 0 on; d where there is none. `set xs i a` is xs with a there, `map f xs` f of each
 --   a ≡ b   A × B   ⊥   the statements that a is b, that A and B both hold, and the one that nothing proves: `A → ⊥` says that A fails.
 --                       `p.0` and `p.1` are the halves of a pair. `(n : ℕ) → ..` says it for every n, `(n : ℕ) × ..` for some n
 --   x ∈ xs              x stands in the list
 --   record, data        a record of named fields; a choice between the shapes that are listed
 --   abbrev, unfoldable, pub    how the checker treats a name; they say nothing about its meaning. A name in braces, `{A : Type 0}`,
---                       is found by the checker and not written at a call
+--                       is found by the checker and not written at a call. `◌` in a name is where an argument goes: `◌∈◌` is x ∈ xs
 use Rattle.std.specs.Prelude.{ℕ, zero, suc, max, Bool, true, false, cond, ◌&&◌, ◌||◌, ltb, eqb}
 use Prim.Native.Char.{code}
 use Prim.Native.String as Text

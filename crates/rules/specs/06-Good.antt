@@ -96,7 +96,7 @@ pub record Good (s : Schema) : Type 0 where
   pub system_alone : (p : Presence) → p ∈ s.presences → p.sds ≡ 0 → p ≡ system_presence
   pub system_no_application : (x : Application) → x ∈ s.applications → x.sds ≡ 0 → ⊥
   pub system_no_end : (e : End) → e ∈ s.ends → e.sds ≡ 0 → ⊥
-  -- "no parent of a type, presence, application or end is stored twice" (the parents: parents-rising)
+  -- "no parent of a type, presence, application or end is stored twice" (the parents: parents_rising)
   pub presences_rising : rising presence_before s.presences ≡ true
   pub applications_rising : rising application_before s.applications ≡ true
   pub ends_rising : rising end_before s.ends ≡ true

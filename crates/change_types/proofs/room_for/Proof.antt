@@ -56,7 +56,8 @@ refused-requires-then-presence_count-ge-PRESENCES c κs = search rules
 returns-then-presence_count-ge-PRESENCES : tie.Need-returns-then-presence_count-ge-PRESENCES
 returns-then-presence_count-ge-PRESENCES c =
     refused_here (at_14 c.before.before.before.before.before)
-    (presences_short _ 1 (let h = c.if-presence_count-ge-PRESENCES.true in omega (arith, c.presence_count.ensures.is))) c.refused-then-presence_count-ge-PRESENCES.ensures (omega arith)
+    (presences_short _ 1 (let h = c.if-presence_count-ge-PRESENCES.true in omega (arith, c.presence_count.ensures.is)))
+    c.refused-then-presence_count-ge-PRESENCES.ensures (omega arith)
 
 returns : tie.Need-returns
 returns c =

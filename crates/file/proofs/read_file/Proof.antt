@@ -53,7 +53,9 @@ telling-requires : tie.Need-telling-requires
 telling-requires c κs = search rules
 
 returns-then-not-form : tie.Need-returns-then-not-form
-returns-then-not-form c = read_malformed (to_else1_from_telling c).if-base-ne-LENGTH.false (to_form_from_telling c).form-form.ensures (not-true _ c.if-not-form.true) c.telling.ensures
+returns-then-not-form c =
+    read_malformed (to_else1_from_telling c).if-base-ne-LENGTH.false
+    (to_form_from_telling c).form-form.ensures (not-true _ c.if-not-form.true) c.telling.ensures
 
 accept-requires : tie.Need-accept-requires
 accept-requires c κs = (to_else1_from_accept_arg c).if-base-ne-LENGTH.false

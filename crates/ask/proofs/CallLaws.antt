@@ -26,7 +26,6 @@ use Rattle.type_set.specs.declared.TypeSet.{TypeSet}
 use Rattle.type_set.specs.Set.{bit, has}
 use Rattle.type_set.proofs.Members.{members_alike}
 use Rattle.type_set.proofs.Set.{words_are}
-use Rattle.ask_scans.specs.declared.view.View.{View}
 use Rattle.ask_scans.specs.View.{type_refusals, Through}
 use Rattle.ask_scans.specs.Scans.{object_scan, link_scan, Scanned}
 use Rattle.ask_scans.specs.Lists.{listing, three_listing, Puts}
@@ -81,18 +80,18 @@ module _ (w : List ℕ) (t : ℕ) where
 
 -- ---- what is visible of a scan is its list
 
-module _ {b w : List ℕ} {t : ℕ} {link : Bool} {v : View} (through : Through b w t link v) (p : ℕ → Bool) where
-  pub object_list : (code : ℕ) → Scanned (schema_of b) (bit v.listed) (λ w. object_scan (schema_of b) w t code) p
+module _ {b w : List ℕ} {t : ℕ} {link : Bool} {word : ℕ} (through : Through b w t link word) (p : ℕ → Bool) where
+  pub object_list : (code : ℕ) → Scanned (schema_of b) (bit word) (λ w. object_scan (schema_of b) w t code) p
       → members p ≡ object_scan_list w t code (schema_of b)
   unfolding object_scan_list shown
   object_list code scanned = members_alike _ _ (λ k h. scanned.is w through.listed k)
 
-  pub link_list : (code : ℕ) → Scanned (schema_of b) (bit v.listed) (λ w. link_scan (schema_of b) w t code) p
+  pub link_list : (code : ℕ) → Scanned (schema_of b) (bit word) (λ w. link_scan (schema_of b) w t code) p
       → members p ≡ link_scan_list w t code (schema_of b)
   unfolding link_scan_list shown
   link_list code scanned = members_alike _ _ (λ k h. scanned.is w through.listed k)
 
-  pub descendants_seen : Scanned (schema_of b) (bit v.listed) (λ w. object_scan (schema_of b) w t 1) p → (k : ℕ)
+  pub descendants_seen : Scanned (schema_of b) (bit word) (λ w. object_scan (schema_of b) w t 1) p → (k : ℕ)
       → p k ≡ visible_descendant w t (schema_of b) k
   unfolding visible_descendant
   descendants_seen scanned k = scanned.is w through.listed k

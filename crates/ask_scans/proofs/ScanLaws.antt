@@ -102,16 +102,16 @@ module _ (p : ℕ → Bool) (t : ℕ) (small : t < 128) (is : (k : ℕ) → p k 
           }
 
     -- the type alone, and with its ancestors
-    pub source_alone : (all : Bool) → not all ≡ true → (k : ℕ) → p k ≡ among (sources s all t) k
-    source_alone true e k = absurd (false≢true e)
+    pub source_alone : (all : Bool) → all ≡ false → (k : ℕ) → p k ≡ among (sources s all t) k
+    source_alone true e k = absurd (true≢false e)
     source_alone false e k = one_among k
 
-    pub source_all : (all : Bool) → not all ≡ false → (q r : ℕ → Bool) → ((k : ℕ) → q k ≡ ancestors_of s p k) → ((k : ℕ) → 128 ≤ k → q k ≡ false)
+    pub source_all : (all : Bool) → all ≡ true → (q r : ℕ → Bool) → ((k : ℕ) → q k ≡ ancestors_of s p k) → ((k : ℕ) → 128 ≤ k → q k ≡ false)
         → ((k : ℕ) → r k ≡ p k || q k) → (k : ℕ) → r k ≡ among (sources s all t) k
     unfolding upward any
     source_all true e q r up past made k =
         made k ∙ ap₂ ◌||◌ (is k) (up k ∙ above p t small is s k ∙ sym (members_among (descends s t) k (λ h. sym (up k ∙ above p t small is s k) ∙ past k h)))
-    source_all false e q r up past made k = absurd (true≢false e)
+    source_all false e q r up past made k = absurd (false≢true e)
 
 -- ---- a code without "all", and the next with it
 

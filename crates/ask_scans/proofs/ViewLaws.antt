@@ -3,16 +3,18 @@ use Prim.Native.Nat.{ℕ, ◌<◌}
 use native.Mathlib.Omega.{arith}
 use mathlib.Core.Path.{◌≡◌, refl, sym, ap, ◌∙◌}
 use mathlib.Core.List.{List, ◌++◌}
-use mathlib.Core.Bool.{Bool, true, false, not, true≢false, false≢true}
+use mathlib.Core.Bool.{Bool, true, false, not, true≢false}
 use lib.Dec.{leb}
 use lib.ListN.{length, get_or}
 use borrow.Author.Tests.{not-false}
+use Rattle.std.specs.Prelude.{Ok, Err}
+use Rattle.rules.specs.declared.Refused.{Refused}
 use Rattle.rules.specs.01-Lists.{any, all}
 use Rattle.rules.specs.02-Limits.{limits}
-use Rattle.rules.specs.04-Schema.{Kind, used_sds, is_object, is_link}
+use Rattle.rules.specs.04-Schema.{used_sds}
 use Rattle.rules.specs.07-Picture.{Sound}
 use Rattle.rules.specs.08-Working.{visible}
-use Rattle.rules.specs.09-Refusals.{Outcome, Refusals, unknown_sds, not_visible}
+use Rattle.rules.specs.09-Refusals.{Outcome, Refusals, unknown_sds, not_visible, number_of, value_of}
 use Rattle.rules.proofs.Bools.{or_neither}
 use Rattle.rules.proofs.01-Lists.{any_at, place_in}
 use Rattle.rules.proofs.05-Descent.{used_below}
@@ -24,12 +26,11 @@ use Rattle.base.proofs.Back.{sound_good}
 use Rattle.base.proofs.Kept.{sound_long}
 use Rattle.base.proofs.TestedLaws.{begun_passes}
 use Rattle.lookup.proofs.SdsShown as SdsShown
-use Rattle.ask_scans.specs.declared.view.View.{View}
-use Rattle.ask_scans.specs.View.{of_kind, type_refusals, Viewed}
+use Rattle.ask_scans.specs.View.{type_refusals, Viewed}
 
-pub not_viewed : {b w : List ℕ} {t : ℕ} {link known : Bool} {v : View} → Tested b (type_refusals (schema_of b) w t link known) v.no 0
-    → (v.no ≡ 0 → ⊥) → Viewed b w t link known v
-not_viewed r z = record { told = r; code_known = λ e. absurd (z e); through = λ e. absurd (z e) }
+pub not_viewed : {b w : List ℕ} {t : ℕ} {link known : Bool} (e : Refused)
+    → Tested b (type_refusals (schema_of b) w t link known) (number_of e) (value_of e) → Viewed b w t link known (Err e)
+not_viewed e r = record { told = r; code_known = tt; through = tt }
 
 -- ---- what the tests say
 
@@ -63,18 +64,9 @@ module _ (b w : List ℕ) (t : ℕ) where
   unfolding not_visible
   seen e f = ap not (sym e) ∙ f
 
--- the kind that is asked about
-pub kind_link : (link : Bool) (k : Kind) {r : Bool} → link ≡ true → r ≡ is_link k → r ≡ of_kind link k
-kind_link true k e f = f
-kind_link false k e f = absurd (false≢true e)
-
-pub kind_object : (link : Bool) (k : Kind) {r : Bool} → link ≡ false → r ≡ is_object k → r ≡ of_kind link k
-kind_object true k e f = absurd (true≢false e)
-kind_object false k e f = f
-
 -- ---- of refusals that begin with these, the others are left where none of them holds
 
-pub viewed_passes : {Made : Type 0} {o effect : Outcome Made} {b w : List ℕ} {t : ℕ} {link known : Bool} {v : View} → Viewed b w t link known v
-    → (rest : Refusals) → Left o (type_refusals (schema_of b) w t link known ++ rest) effect → v.no ≡ 0 → Left o rest effect
+pub viewed_passes : {Made : Type 0} {o effect : Outcome Made} {b w : List ℕ} {t : ℕ} {link known : Bool} {listed : ℕ} → Viewed b w t link known (Ok listed)
+    → (rest : Refusals) → Left o (type_refusals (schema_of b) w t link known ++ rest) effect → Left o rest effect
 unfolding all
-viewed_passes viewed rest l z = begun_passes rest viewed.told z refl l
+viewed_passes viewed rest l = begun_passes rest viewed.told refl refl l

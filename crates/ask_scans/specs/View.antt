@@ -1,14 +1,14 @@
 -- What the calls that ask about a type have tested of their inputs.
-use Rattle.std.specs.Prelude.{ℕ, ◌<◌, ◌≡◌, List, [], ◌∷◌, Bool, true, false, not}
+use Rattle.std.specs.Prelude.{ℕ, ◌<◌, ◌≡◌, List, [], ◌∷◌, Bool, true, false, not, Result, IfOk, OnOk}
 use Rattle.rules.specs.01-Lists.{any, among, repeated}
 use Rattle.rules.specs.04-Schema.{Schema, Kind, kind_of, is_object, is_link}
 use Rattle.rules.specs.07-Picture.{Sound}
+use Rattle.rules.specs.declared.Refused.{Refused}
 use Rattle.rules.specs.09-Refusals.{◌when◌, Refusals, unknown_sds, not_visible}
 use Rattle.base.specs.Back.{schema_of}
-use Rattle.base.specs.Tested.{Tested}
+use Rattle.base.specs.Tested.{Tests}
 use Rattle.type_set.specs.Set.{bit}
 use Rattle.visible.specs.Shown.{held_in}
-use Rattle.ask_scans.specs.declared.view.View.{View}
 
 -- the kind that is asked about
 abbrev pub of_kind : Bool → Kind → Bool
@@ -26,14 +26,14 @@ type_refusals s w t link known =
     ∷ []
 
 -- what a call looks through where none holds
-pub record Through (b w : List ℕ) (t : ℕ) (link : Bool) (v : View) : Type 0 where
+pub record Through (b w : List ℕ) (t : ℕ) (link : Bool) (word : ℕ) : Type 0 where
   pub sound : Sound b
   pub below : t < 128
   pub kind : of_kind link (kind_of (schema_of b) t) ≡ true
-  pub listed : (d : ℕ) → bit v.listed d ≡ among w d
-  pub held : held_in (schema_of b) (bit v.listed) t ≡ true
+  pub listed : (d : ℕ) → bit word d ≡ among w d
+  pub held : held_in (schema_of b) (bit word) t ≡ true
 
-pub record Viewed (b w : List ℕ) (t : ℕ) (link known : Bool) (v : View) : Type 0 where
-  pub told : Tested b (type_refusals (schema_of b) w t link known) v.no 0
-  pub code_known : v.no ≡ 0 → known ≡ true
-  pub through : v.no ≡ 0 → Through b w t link v
+pub record Viewed (b w : List ℕ) (t : ℕ) (link known : Bool) (r : Result ℕ Refused) : Type 0 where
+  pub told : Tests b (type_refusals (schema_of b) w t link known) r
+  pub code_known : OnOk r (known ≡ true)
+  pub through : IfOk r (λ listed. Through b w t link listed)

@@ -1,5 +1,6 @@
 // The set that each code of a scan lists.
-ghost use Rattle.std.specs.Prelude.{◌≡◌, true, ℕ, ◌≤◌, ◌<◌, eqb};
+// A code stays 01's number, and is no enum: C gives it, and the rules (`object_scan`, `link_scan`) go by it.
+ghost use Rattle.std.specs.Prelude.{◌≡◌, true, ℕ, ◌≤◌, ◌<◌};
 ghost use Rattle.rules.specs.01-Lists.{among};
 ghost use Rattle.rules.specs.02-Limits.{limits};
 ghost use Rattle.rules.specs.07-Picture.{Sound};
@@ -10,14 +11,6 @@ ghost use Rattle.ask_scans.specs.Scans.{object_scan, link_scan, sources, Scanned
 
 use type_set::TypeSet;
 
-fn one(t: usize) -> TypeSet
-    requires { t < limits.types }
-    ensures { (k : ℕ) → has result k ≡ eqb k t }
-{
-    let none = TypeSet::empty();
-    none.add(t)
-}
-
 // ---- of an object type
 
 // Codes 0 to 3: child, descendant, parent, ancestor. What is above a visible type is visible; a child need not be.
@@ -25,17 +18,13 @@ fn kin(base: &[u8], sdss: u16, t: usize, code: usize) -> TypeSet
     requires { Sound base.now × ((t < limits.types) × ((code < 4) × (held_in (schema_of base.now) (bit sdss) t ≡ true))) }
     ensures { Scanned (schema_of base.now) (bit sdss) (λ w. object_scan (schema_of base.now) w t code) (has result) }
 {
-    let s = one(t);
-    if code == 0 {
-        return visible::visible(base, sdss).meet(kin::children_of(base, s));
+    let s = TypeSet::only(t);
+    match code {
+        0 => visible::visible(base, sdss).meet(kin::children_of(base, s)),
+        1 => kin::with_descendants(base, sdss, s).less(t),
+        2 => kin::parents_of(base, s),
+        _ => kin::ancestors_of(base, s),
     }
-    if code == 1 {
-        return kin::with_descendants(base, sdss, s).less(t);
-    }
-    if code == 2 {
-        return kin::parents_of(base, s);
-    }
-    kin::ancestors_of(base, s)
 }
 
 // The types whose attribute and link types count: the type, and with "all" its ancestors.
@@ -43,11 +32,12 @@ fn sources(base: &[u8], t: usize, all: bool) -> TypeSet
     requires { Sound base.now × (t < limits.types) }
     ensures { (k : ℕ) → has result k ≡ among (sources (schema_of base.now) all t) k }
 {
-    let s = one(t);
-    if !all {
-        return s;
+    let s = TypeSet::only(t);
+    if all {
+        s.join(kin::ancestors_of(base, s))
+    } else {
+        s
     }
-    s.join(kin::ancestors_of(base, s))
 }
 
 // Codes 4 to 9: attribute, link-origin and link-destination, each without and with "all".
@@ -56,13 +46,11 @@ fn had(base: &[u8], sdss: u16, t: usize, code: usize) -> TypeSet
     ensures { Scanned (schema_of base.now) (bit sdss) (λ w. object_scan (schema_of base.now) w t code) (has result) }
 {
     let types = sources(base, t, code % 2 == 1);
-    if code < 6 {
-        return visible::attributes(base, sdss, types);
+    match code / 2 {
+        2 => visible::attributes(base, sdss, types),
+        3 => visible::links(base, sdss, 0, types),
+        _ => visible::links(base, sdss, 1, types),
     }
-    if code < 8 {
-        return visible::links(base, sdss, 0, types);
-    }
-    visible::links(base, sdss, 1, types)
 }
 
 pub fn of_object(base: &[u8], sdss: u16, t: usize, code: usize) -> TypeSet
@@ -70,9 +58,10 @@ pub fn of_object(base: &[u8], sdss: u16, t: usize, code: usize) -> TypeSet
     ensures { Scanned (schema_of base.now) (bit sdss) (λ w. object_scan (schema_of base.now) w t code) (has result) }
 {
     if code < 4 {
-        return kin(base, sdss, t, code);
+        kin(base, sdss, t, code)
+    } else {
+        had(base, sdss, t, code)
     }
-    had(base, sdss, t, code)
 }
 
 // What a profile lists.
@@ -88,7 +77,7 @@ pub fn of_profile(base: &[u8], sdss: u16, t: usize) -> Profile
     requires { Sound base.now × ((t < limits.types) × (held_in (schema_of base.now) (bit sdss) t ≡ true)) }
     ensures { Profiled (schema_of base.now) (bit sdss) t result }
 {
-    let s = one(t);
+    let s = TypeSet::only(t);
     let ancestors = kin::ancestors_of(base, s);
     let types = s.join(ancestors);
     let attributes = visible::attributes(base, sdss, types);
@@ -109,9 +98,10 @@ fn ends(base: &[u8], sdss: u16, t: usize, code: usize) -> TypeSet
 {
     let objects = visible::objects(base, sdss, code / 2, t);
     if code % 2 == 0 {
-        return objects;
+        objects
+    } else {
+        kin::with_descendants(base, sdss, objects)
     }
-    kin::with_descendants(base, sdss, objects)
 }
 
 // Code 4 besides: the attribute types that are applied to it.
@@ -120,7 +110,8 @@ pub fn of_link(base: &[u8], sdss: u16, t: usize, code: usize) -> TypeSet
     ensures { Scanned (schema_of base.now) (bit sdss) (λ w. link_scan (schema_of base.now) w t code) (has result) }
 {
     if code < 4 {
-        return ends(base, sdss, t, code);
+        ends(base, sdss, t, code)
+    } else {
+        visible::attributes(base, sdss, TypeSet::only(t))
     }
-    visible::attributes(base, sdss, one(t))
 }

@@ -1,7 +1,7 @@
 -- The refusals of a call test by test, and its verdict where they were told at once. Assumes nothing.
 use Prim.Native.Nat.{ℕ}
 use native.Mathlib.Omega.{arith}
-use mathlib.Core.Path.{◌≡◌, refl, sym, ap, ◌∙◌}
+use mathlib.Core.Path.{◌≡◌, refl, sym, ap, ◌∙◌, subst}
 use mathlib.Core.List.{List, [], ◌∷◌, ◌++◌, append-nil}
 use mathlib.Core.Bool.{Bool, true, false, cond, true≢false}
 use lib.Dec.{ltb}
@@ -9,13 +9,19 @@ use Rattle.rules.specs.declared.Answer.{Answer}
 use Rattle.rules.specs.01-Lists.{all}
 use Rattle.rules.specs.04-Schema.{Schema}
 use Rattle.rules.specs.07-Picture.{Sound}
-use Rattle.rules.specs.09-Refusals.{Outcome, Refusal, Refusals, verdict, telling}
+use Rattle.std.specs.Prelude.{Result, Ok, Err, IsErr, IsErrAnd}
+use Rattle.rules.specs.declared.Done.{Done}
+use Rattle.rules.specs.declared.Refused.{Refused}
+use Rattle.rules.specs.declared.Refused.TheVariants.{NotSound, UnknownSds, SystemSds, Malformed, UnknownCode, NoSuchType, WrongKind, Repeated}
+use Rattle.rules.specs.declared.Refused.TheVariants.{AlreadyThere, NameTaken, SdsInUse, NotThere, NoRoom, ShortOutput, ChildPresent}
+use Rattle.rules.specs.declared.Refused.TheVariants.{ApplicationPresent, EndPresent, UnknownMode, MalformedFile, UnsoundFile}
+use Rattle.rules.specs.09-Refusals.{Outcome, Refusal, Refusals, verdict, telling, number_of, value_of, answered}
 use Rattle.rules.specs.09-Refusals.Outcome.{refused}
 use Rattle.rules.specs.12-Contracts.{Kept, Listed, Answered}
 use Rattle.rules.proofs.Bools.{and_both}
 use Rattle.rules.proofs.09-Refusals.{Left, ends, numbers_beyond}
 use Rattle.base.specs.Back.{schema_of}
-use Rattle.base.specs.Tested.{told, told_value, Tested, onward}
+use Rattle.base.specs.Tested.{told, told_value, Tested, Tests, onward}
 use Rattle.base.specs.Tested.Tested.{spoiled, tested}
 use Rattle.base.proofs.Kept.{kept_spoiled, kept_refused, listed_spoiled, listed_as, answered_spoiled, answered_as}
 
@@ -139,6 +145,52 @@ module _ {b : List ℕ} {whole : Refusals} (rs rest : Refusals) {no value : ℕ}
   come_past h (tested s e f) z =
       let g = rest_told rs rest h (sym e ∙ z) in
       record { sound = s; no = c.no ∙ g.no; value = c.value ∙ g.value }
+
+-- ---- what `?` hands on: r is the refusal e that it met
+
+-- no refusal has the number of none
+pub positive : (e : Refused) → number_of e ≡ 0 → ⊥
+positive NotSound z = omega arith
+positive UnknownSds z = omega arith
+positive SystemSds z = omega arith
+positive Malformed z = omega arith
+positive UnknownCode z = omega arith
+positive NoSuchType z = omega arith
+positive WrongKind z = omega arith
+positive Repeated z = omega arith
+positive AlreadyThere z = omega arith
+positive NameTaken z = omega arith
+positive (SdsInUse t) z = omega arith
+positive NotThere z = omega arith
+positive NoRoom z = omega arith
+positive ShortOutput z = omega arith
+positive (ChildPresent t) z = omega arith
+positive (ApplicationPresent t) z = omega arith
+positive (EndPresent t) z = omega arith
+positive UnknownMode z = omega arith
+positive (MalformedFile at) z = omega arith
+positive UnsoundFile z = omega arith
+
+handed : {A : Type 0} (r : Result A Refused) (e : Refused) → IsErrAnd r (λ y. y ≡ e) → r ≡ Err e
+handed (Ok x) e h = absurd h
+handed (Err y) e h = ap Err h
+
+module _ {A : Type 0} {b : List ℕ} (r : Result A Refused) (e : Refused) (on : IsErr r × IsErrAnd r (λ y. y ≡ e)) where
+  -- a function that was called tests the conditions of its caller
+  pub tests_on : {rs : Refusals} → Tested b rs (number_of e) (value_of e) → Tests b rs r
+  tests_on {rs} t = subst (λ (x : Result A Refused). Tests b rs x) (sym (handed r e on.1)) t
+
+  -- the first of them
+  pub first_on : {rs : Refusals} (rest : Refusals) → Tested b rs (number_of e) (value_of e) → Tests b (rs ++ rest) r
+  first_on rest t = tests_on (tested_first rest t (positive e))
+
+  -- those that are left
+  pub rest_on : {whole rs : Refusals} → Come b whole rs → Tested b rs (number_of e) (value_of e) → Tests b whole r
+  rest_on c t = tests_on (come_rest c t)
+
+-- the answer of what is handed on
+pub answer_on : (r : Result Done Refused) (e : Refused) → IsErr r × IsErrAnd r (λ y. y ≡ e) → answered r ≡ telling (number_of e) (value_of e)
+answer_on r e on = ap answered (handed r e on.1)
 
 -- ---- the verdict of a call whose first conditions were told at once; rest is what it tests besides
 

@@ -1,7 +1,8 @@
 -- What a function that makes several tests of a call tells of them.
-use Rattle.std.specs.Prelude.{ℕ, ◌≡◌, List, [], ◌∷◌, cond, eqb}
+use Rattle.std.specs.Prelude.{ℕ, ◌≡◌, List, [], ◌∷◌, cond, eqb, Result, Ok, Err}
 use Rattle.rules.specs.07-Picture.{Sound}
-use Rattle.rules.specs.09-Refusals.{Refusals}
+use Rattle.rules.specs.declared.Refused.{Refused}
+use Rattle.rules.specs.09-Refusals.{Refusals, number_of, value_of}
 
 -- the number of the first condition that holds, 0 where none does
 unfoldable pub told : Refusals → ℕ
@@ -17,6 +18,19 @@ told_value (r ∷ rs) = cond r.holds r.value (told_value rs)
 pub data Tested (b : List ℕ) (rs : Refusals) (no value : ℕ) : Type 0 where
   spoiled : (Sound b → ⊥) → no ≡ 1 → value ≡ 0 → Tested b rs no value
   tested : Sound b → no ≡ told rs → value ≡ told_value rs → Tested b rs no value
+
+-- of what a function returns that makes such tests: the number of the refusal, and what it tells, zeros where it is none
+abbrev pub number_in : {A : Type 0} → Result A Refused → ℕ
+number_in (Ok x) = 0
+number_in (Err e) = number_of e
+
+abbrev pub value_in : {A : Type 0} → Result A Refused → ℕ
+value_in (Ok x) = 0
+value_in (Err e) = value_of e
+
+-- it returns the refusal of the first condition that holds, and none where none does
+abbrev pub Tests : {A : Type 0} → List ℕ → Refusals → Result A Refused → Type 0
+Tests b rs r = Tested b rs (number_in r) (value_in r)
 
 -- the conditions that come before that of number n, and those from it on
 abbrev pub until : ℕ → Refusals → Refusals

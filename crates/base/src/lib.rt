@@ -5,7 +5,7 @@
 pub mod order;
 pub mod used;
 
-ghost use Rattle.std.specs.Prelude.{◌≡◌, ◌+◌, ◌<◌, length, replicate};
+ghost use Rattle.std.specs.Prelude.{◌≡◌, ◌+◌, ◌*◌, ◌<◌, ◌≤◌, length, replicate};
 ghost use Rattle.rules.specs.02-Limits.{limits};
 ghost use Rattle.rules.specs.04-Schema.{fresh};
 ghost use Rattle.rules.specs.07-Picture.{picture, base_length, type_width};
@@ -95,9 +95,69 @@ impl Base {
     pub fn fresh() -> [u8; Base::LENGTH]
         ensures { (result ≡ picture fresh) × (base_length ≡ length result) }
     {
-        let mut base: [u8; Base::LENGTH] = [0; Base::LENGTH];
+        let mut base = [0; Base::LENGTH];
         write_fresh(&mut base);
         base
+    }
+}
+
+// A table: where its first row starts, how wide a row is, how many there is room for.
+#[derive(Clone, Copy)]
+pub struct Table {
+    pub start: usize,
+    pub width: usize,
+    pub room: usize,
+    pub ghost wide: { 0 < width },
+    pub ghost lies: { start + room * width ≤ base_length },
+}
+
+impl Table {
+    pub const SDSS: Table = Table {
+        start: Base::SDSS_AT,
+        width: Base::SDS_WIDTH,
+        room: Limits::SDSS,
+    };
+
+    pub const TYPES: Table = Table {
+        start: Base::TYPES_AT,
+        width: Base::TYPE_WIDTH,
+        room: Limits::TYPES,
+    };
+
+    pub const PRESENCES: Table = Table {
+        start: Base::PRESENCES_AT,
+        width: Base::PRESENCE_WIDTH,
+        room: Limits::PRESENCES,
+    };
+
+    pub const APPLICATIONS: Table = Table {
+        start: Base::APPLICATIONS_AT,
+        width: Base::APPLICATION_WIDTH,
+        room: Limits::APPLICATIONS,
+    };
+
+    pub const ENDS: Table = Table {
+        start: Base::ENDS_AT,
+        width: Base::END_WIDTH,
+        room: Limits::ENDS,
+    };
+
+    // Where row i starts. Inline, as what stands on it: the compiler then knows the table.
+    #[inline]
+    pub fn row(self, i: usize) -> usize
+        requires { i ≤ self.room }
+        ensures { result ≡ self.start + i * self.width }
+    {
+        self.start + i * self.width
+    }
+
+    // The byte that stands so many behind the first of row i.
+    #[inline]
+    fn byte(self, base: &[u8], i: usize, offset: usize) -> usize
+        requires { (length base.now ≡ base_length) × ((i < self.room) × (offset < self.width)) }
+        ensures { Reads base.now (self.start + i * self.width + offset) result }
+    {
+        rows::byte(base, self.row(i) + offset)
     }
 }
 
@@ -123,9 +183,8 @@ pub fn sds_field(base: &[u8], d: usize) -> &[u8]
     requires { (length base.now ≡ base_length) × (d < limits.sdss) }
     ensures { result.now ≡ part base.now (sds_at d) limits.name }
 {
-    let at = Base::SDSS_AT + d * Base::SDS_WIDTH;
-    let end = at + Base::SDS_WIDTH;
-    &base[at..end]
+    let at = Table::SDSS.row(d);
+    &base[at..at + Base::SDS_WIDTH]
 }
 
 // ---- types
@@ -134,7 +193,7 @@ pub fn kind(base: &[u8], t: usize) -> usize
     requires { (length base.now ≡ base_length) × (t < limits.types) }
     ensures { Reads base.now (type_at t) result }
 {
-    rows::byte(base, Base::TYPES_AT + t * Base::TYPE_WIDTH)
+    Table::TYPES.byte(base, t, 0)
 }
 
 // An attribute type's value kind, or a link type's category.
@@ -142,30 +201,21 @@ pub fn value(base: &[u8], t: usize) -> usize
     requires { (length base.now ≡ base_length) × (t < limits.types) }
     ensures { Reads base.now (type_at t + value_offset) result }
 {
-    rows::byte(
-        base,
-        Base::TYPES_AT + t * Base::TYPE_WIDTH + Base::VALUE_OFFSET,
-    )
+    Table::TYPES.byte(base, t, Base::VALUE_OFFSET)
 }
 
 pub fn reverse(base: &[u8], t: usize) -> usize
     requires { (length base.now ≡ base_length) × (t < limits.types) }
     ensures { Reads base.now (type_at t + reverse_offset) result }
 {
-    rows::byte(
-        base,
-        Base::TYPES_AT + t * Base::TYPE_WIDTH + Base::REVERSE_OFFSET,
-    )
+    Table::TYPES.byte(base, t, Base::REVERSE_OFFSET)
 }
 
 pub fn parent_count(base: &[u8], t: usize) -> usize
     requires { (length base.now ≡ base_length) × (t < limits.types) }
     ensures { Reads base.now (type_at t + count_offset) result }
 {
-    rows::byte(
-        base,
-        Base::TYPES_AT + t * Base::TYPE_WIDTH + Base::COUNT_OFFSET,
-    )
+    Table::TYPES.byte(base, t, Base::COUNT_OFFSET)
 }
 
 // The parent in place i of 4.
@@ -173,10 +223,7 @@ pub fn parent(base: &[u8], t: usize, i: usize) -> usize
     requires { (length base.now ≡ base_length) × ((t < limits.types) × (i < 4)) }
     ensures { Reads base.now (type_at t + parents_offset + i) result }
 {
-    rows::byte(
-        base,
-        Base::TYPES_AT + t * Base::TYPE_WIDTH + Base::PARENTS_OFFSET + i,
-    )
+    Table::TYPES.byte(base, t, Base::PARENTS_OFFSET + i)
 }
 
 // Whether all of its row is zero, as that of an unused type is.
@@ -184,7 +231,7 @@ pub fn is_type_unused(base: &[u8], t: usize) -> bool
     requires { (length base.now ≡ base_length) × (t < limits.types) }
     ensures { Decides (part base.now (type_at t) type_width ≡ replicate type_width 0) result }
 {
-    let at = Base::TYPES_AT + t * Base::TYPE_WIDTH;
+    let at = Table::TYPES.row(t);
     rows::used::is_zero(base, at, at + Base::TYPE_WIDTH)
 }
 
@@ -194,7 +241,7 @@ pub fn presence_sds(base: &[u8], i: usize) -> usize
     requires { (length base.now ≡ base_length) × (i < limits.presences) }
     ensures { Reads base.now (presence_at i) result }
 {
-    rows::byte(base, Base::PRESENCES_AT + i * Base::PRESENCE_WIDTH)
+    Table::PRESENCES.byte(base, i, 0)
 }
 
 // The field of 16 bytes that holds the local name.
@@ -203,8 +250,7 @@ pub fn presence_field(base: &[u8], i: usize) -> &[u8]
     ensures { result.now ≡ part base.now (presence_at i + name_offset) limits.name }
 {
     let at = name_at(i);
-    let end = at + Limits::NAME;
-    &base[at..end]
+    &base[at..at + Limits::NAME]
 }
 
 // Where that name starts.
@@ -212,37 +258,28 @@ pub fn name_at(i: usize) -> usize
     requires { i < limits.presences }
     ensures { result ≡ presence_at i + name_offset }
 {
-    Base::PRESENCES_AT + i * Base::PRESENCE_WIDTH + Base::NAME_OFFSET
+    Table::PRESENCES.row(i) + Base::NAME_OFFSET
 }
 
 pub fn presence_type(base: &[u8], i: usize) -> usize
     requires { (length base.now ≡ base_length) × (i < limits.presences) }
     ensures { Reads base.now (presence_at i + type_offset) result }
 {
-    rows::byte(
-        base,
-        Base::PRESENCES_AT + i * Base::PRESENCE_WIDTH + Base::TYPE_OFFSET,
-    )
+    Table::PRESENCES.byte(base, i, Base::TYPE_OFFSET)
 }
 
 pub fn presence_usage(base: &[u8], i: usize) -> usize
     requires { (length base.now ≡ base_length) × (i < limits.presences) }
     ensures { Reads base.now (presence_at i + usage_offset) result }
 {
-    rows::byte(
-        base,
-        Base::PRESENCES_AT + i * Base::PRESENCE_WIDTH + Base::USAGE_OFFSET,
-    )
+    Table::PRESENCES.byte(base, i, Base::USAGE_OFFSET)
 }
 
 pub fn presence_definition(base: &[u8], i: usize) -> usize
     requires { (length base.now ≡ base_length) × (i < limits.presences) }
     ensures { Reads base.now (presence_at i + definition_offset) result }
 {
-    rows::byte(
-        base,
-        Base::PRESENCES_AT + i * Base::PRESENCE_WIDTH + Base::DEFINITION_OFFSET,
-    )
+    Table::PRESENCES.byte(base, i, Base::DEFINITION_OFFSET)
 }
 
 // ---- applications
@@ -251,27 +288,21 @@ pub fn application_sds(base: &[u8], i: usize) -> usize
     requires { (length base.now ≡ base_length) × (i < limits.applications) }
     ensures { Reads base.now (application_at i) result }
 {
-    rows::byte(base, Base::APPLICATIONS_AT + i * Base::APPLICATION_WIDTH)
+    Table::APPLICATIONS.byte(base, i, 0)
 }
 
 pub fn application_to(base: &[u8], i: usize) -> usize
     requires { (length base.now ≡ base_length) × (i < limits.applications) }
     ensures { Reads base.now (application_at i + to_offset) result }
 {
-    rows::byte(
-        base,
-        Base::APPLICATIONS_AT + i * Base::APPLICATION_WIDTH + Base::TO_OFFSET,
-    )
+    Table::APPLICATIONS.byte(base, i, Base::TO_OFFSET)
 }
 
 pub fn application_attribute(base: &[u8], i: usize) -> usize
     requires { (length base.now ≡ base_length) × (i < limits.applications) }
     ensures { Reads base.now (application_at i + attribute_offset) result }
 {
-    rows::byte(
-        base,
-        Base::APPLICATIONS_AT + i * Base::APPLICATION_WIDTH + Base::ATTRIBUTE_OFFSET,
-    )
+    Table::APPLICATIONS.byte(base, i, Base::ATTRIBUTE_OFFSET)
 }
 
 // ---- ends
@@ -280,17 +311,14 @@ pub fn end_sds(base: &[u8], i: usize) -> usize
     requires { (length base.now ≡ base_length) × (i < limits.ends) }
     ensures { Reads base.now (end_at i) result }
 {
-    rows::byte(base, Base::ENDS_AT + i * Base::END_WIDTH)
+    Table::ENDS.byte(base, i, 0)
 }
 
 pub fn end_link(base: &[u8], i: usize) -> usize
     requires { (length base.now ≡ base_length) × (i < limits.ends) }
     ensures { Reads base.now (end_at i + link_offset) result }
 {
-    rows::byte(
-        base,
-        Base::ENDS_AT + i * Base::END_WIDTH + Base::LINK_OFFSET,
-    )
+    Table::ENDS.byte(base, i, Base::LINK_OFFSET)
 }
 
 // 0 origin, 1 destination.
@@ -298,18 +326,12 @@ pub fn end_side(base: &[u8], i: usize) -> usize
     requires { (length base.now ≡ base_length) × (i < limits.ends) }
     ensures { Reads base.now (end_at i + side_offset) result }
 {
-    rows::byte(
-        base,
-        Base::ENDS_AT + i * Base::END_WIDTH + Base::SIDE_OFFSET,
-    )
+    Table::ENDS.byte(base, i, Base::SIDE_OFFSET)
 }
 
 pub fn end_object(base: &[u8], i: usize) -> usize
     requires { (length base.now ≡ base_length) × (i < limits.ends) }
     ensures { Reads base.now (end_at i + object_offset) result }
 {
-    rows::byte(
-        base,
-        Base::ENDS_AT + i * Base::END_WIDTH + Base::OBJECT_OFFSET,
-    )
+    Table::ENDS.byte(base, i, Base::OBJECT_OFFSET)
 }

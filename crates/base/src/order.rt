@@ -6,7 +6,7 @@ ghost use Rattle.rows.specs.Rows.{part};
 ghost use Rattle.rows.specs.Order.{number, LowName, Keyed};
 ghost use Rattle.base.specs.Rows.{presence_at, application_at, end_at};
 
-use super::Base;
+use super::Table;
 use rows::order::Key;
 
 // By SDS and name.
@@ -15,7 +15,7 @@ pub fn presence_key(base: &[u8], i: usize) -> Key
     requires low_name { LowName base.now (presence_at i) }
     ensures { Keyed base.now (presence_at i) result }
 {
-    rows::order::key_at(base, Base::PRESENCES_AT + i * Base::PRESENCE_WIDTH)
+    rows::order::key_at(base, Table::PRESENCES.row(i))
 }
 
 // ---- a row as one number, its first byte highest, whose order is that of the rows: one expression, of which the compiler makes one load

@@ -1,31 +1,27 @@
 // The call that a line begins with.
 use super::{asks, changes, files, read};
-use rules::Answer;
+use rules::{Done, Refused};
 
-fn change(base: &mut [u8], line: &[u8]) -> Answer {
-    let one = changes::with_one_name(base, line);
-    if read::is_call(one.no) {
-        return one;
+fn change(base: &mut [u8], line: &[u8]) -> Option<Result<Done, Refused>> {
+    if let Some(call) = changes::with_one_name(base, line) {
+        return Some(call);
     }
-    let two = changes::with_two_names(base, line);
-    if read::is_call(two.no) {
-        return two;
+    if let Some(call) = changes::with_two_names(base, line) {
+        return Some(call);
     }
     changes::other(base, line)
 }
 
-pub fn call(base: &mut [u8], line: &[u8], out: &mut [u8]) -> Answer {
-    let changed = change(base, line);
-    if read::is_call(changed.no) {
-        return changed;
+// Its answer; none where the line begins with no call.
+pub fn call(base: &mut [u8], line: &[u8], out: &mut [u8]) -> Option<Result<Done, Refused>> {
+    if let Some(call) = change(base, line) {
+        return Some(call);
     }
-    let filed = files::any(base, line, out);
-    if read::is_call(filed.no) {
-        return filed;
+    if let Some(call) = files::any(base, line, out) {
+        return Some(call);
     }
-    let asked = asks::with_type(base, line, out);
-    if read::is_call(asked.no) {
-        return asked;
+    if let Some(call) = asks::with_type(base, line, out) {
+        return Some(call);
     }
     asks::other(base, line, out)
 }

@@ -9,11 +9,12 @@ mod files;
 mod print;
 mod read;
 
-ghost use Rattle.std.specs.Prelude.{◌≤◌, ◌≡◌, length};
-ghost use Rattle.run_words.specs.Input.{Within};
+ghost use Rattle.std.specs.Prelude.{◌≤◌};
 
 use base::Base;
-use run_words::input::{Input, next_line};
+use rules::Answer;
+use run_words::input::Input;
+use run_words::line::Line;
 use std::io;
 use std::io::{Read, Write};
 
@@ -38,10 +39,10 @@ fn tell_call<W: Write>(
     line: &[u8],
     out: &mut [u8],
 ) -> io::Result<()> {
-    let a = calls::call(base, line, out);
-    if !read::is_call(a.no) {
+    let Some(call) = calls::call(base, line, out) else {
         return writer.write_all(b" = ?\n");
-    }
+    };
+    let a = Answer::from(call);
     let listed = count(a.one) + count(a.two) + count(a.three);
     let no = a.no;
     print::answer(writer, a)?;
@@ -55,13 +56,13 @@ fn tell_call<W: Write>(
     writer.write_all(b"\n")
 }
 
-// A line, and what is printed behind it. One of 128 bytes is the beginning of a longer one.
+// A line, and what is printed behind it. One of as many bytes as are kept is the beginning of a longer one.
 fn tell<W: Write>(writer: &mut W, base: &mut [u8], line: &[u8], out: &mut [u8]) -> io::Result<()> {
     writer.write_all(line)?;
     if is_heading(line) {
         return writer.write_all(b"\n");
     }
-    if line.len() == 128 {
+    if line.len() == Line::KEPT {
         return writer.write_all(b" = ?\n");
     }
     if read::begins(line, b"output") {
@@ -72,64 +73,26 @@ fn tell<W: Write>(writer: &mut W, base: &mut [u8], line: &[u8], out: &mut [u8]) 
     tell_call(writer, base, line, out)
 }
 
-// Whether the input had a line more.
-fn is_line(at: Input) -> bool {
-    if at.over {
-        return 0 < at.kept;
-    }
-    true
-}
-
-fn tell_next<W: Write>(
-    writer: &mut W,
-    base: &mut [u8],
-    line: &[u8],
-    at: Input,
-    out: &mut [u8],
-) -> io::Result<bool>
-    requires { (length line.now ≡ 128) × Within at }
-{
-    let kept = at.kept;
-    if is_line(at) {
-        tell(writer, base, &line[..kept], out)?;
-        return Ok(true);
-    }
-    Ok(false)
-}
-
-// The turns are counted down from a number that no run uses up, as in `next_line`.
+// The turns are as many as no run uses up, as in `next_line`.
 fn tell_all<R: Read, W: Write>(
     reader: &mut R,
     writer: &mut W,
     base: &mut [u8],
-    read: &mut [u8],
-    line: &mut [u8],
     out: &mut [u8],
-) -> io::Result<()>
-    requires { (length read.old ≡ 4096) × (length line.old ≡ 128) }
-{
-    let mut at = Input::start();
-    let mut more = true;
-    let mut turns = u64::MAX;
-    while 0 < turns && more {
-        turns -= 1;
-        at = next_line(reader, read, line, at);
-        more = tell_next(writer, base, line, at, out)?;
+) -> io::Result<()> {
+    let mut input = Input::new();
+    let mut line = Line::new();
+    for _ in 0..u64::MAX {
+        if !input.next_line(reader, &mut line) {
+            return Ok(());
+        }
+        tell(writer, base, line.as_bytes(), out)?;
     }
     Ok(())
 }
 
 fn main(rt: HostRuntime) -> io::Result<()> {
     let mut base = [0u8; Base::LENGTH];
-    let mut read = [0u8; 4096];
-    let mut line = [0u8; 128];
     let mut out = [0u8; 512];
-    tell_all(
-        &mut rt.stdin(),
-        &mut rt.stdout(),
-        &mut base,
-        &mut read,
-        &mut line,
-        &mut out,
-    )
+    tell_all(&mut rt.stdin(), &mut rt.stdout(), &mut base, &mut out)
 }

@@ -1,58 +1,21 @@
 // The call that a line begins with, and its inputs, by the words of the line.
 ghost use Rattle.std.specs.Prelude.{◌≤◌, ◌<◌, ◌≡◌, length, take};
 
-use rules::Answer;
-use run_words::Word;
-
-// Word i as it is.
-pub fn word_at(line: &[u8], i: usize) -> &[u8] {
-    let word = run_words::word_at(line, i);
-    let start = word.start;
-    let end = word.end;
-    &line[start..end]
-}
-
-// From word i to the end of the line.
-pub fn rest_at(line: &[u8], i: usize) -> &[u8] {
-    let word = run_words::word_at(line, i);
-    let start = word.start;
-    &line[start..]
-}
+// Word i as it is, and from it to the end of the line.
+pub use run_words::{word as word_at, words_from as rest_at};
 
 // Whether the line begins with that word.
 pub fn begins(line: &[u8], call: &[u8]) -> bool {
     names::is_equal(word_at(line, 0), call)
 }
 
-// What a line comes to that begins with no call: a number that none gives.
-pub fn no_call() -> Answer {
-    Answer::refused(100)
-}
-
-// Whether the number is that of a call.
-pub fn is_call(no: usize) -> bool {
-    no != 100
-}
-
-// Where word i stands; - is a blank one.
-fn place_at(line: &[u8], i: usize) -> Word
-    ensures { (result.start ≤ result.end) × (result.end ≤ length line.now) }
-{
-    let word = run_words::word_at(line, i);
-    if names::is_equal(word_at(line, i), b"-") {
-        return Word {
-            start: word.start,
-            end: word.start,
-        };
+// Word i; - is a blank one.
+pub fn name_at(line: &[u8], i: usize) -> &[u8] {
+    let word = word_at(line, i);
+    if names::is_equal(word, b"-") {
+        return b"";
     }
     word
-}
-
-pub fn name_at(line: &[u8], i: usize) -> &[u8] {
-    let place = place_at(line, i);
-    let start = place.start;
-    let end = place.end;
-    &line[start..end]
 }
 
 // The number that a digit or a capital letter stands for: A is 10.
@@ -81,13 +44,9 @@ fn with_digit(n: usize, c: u8) -> usize
 
 // Word i as a number in decimal.
 pub fn number_at(line: &[u8], i: usize) -> usize {
-    let word = run_words::word_at(line, i);
-    let end = word.end;
-    let mut at = word.start;
     let mut n = 0;
-    while at < end {
-        n = with_digit(n, line[at]);
-        at += 1;
+    for &c in word_at(line, i) {
+        n = with_digit(n, c);
     }
     n
 }
@@ -108,13 +67,9 @@ fn with_sds(list: &mut [u8], n: usize, c: u8) -> usize
 pub fn schema_at(line: &[u8], i: usize, list: &mut [u8]) -> usize
     ensures { (result ≤ length list.new) × (result ≡ length (take result list.new)) }
 {
-    let word = place_at(line, i);
-    let end = word.end;
-    let mut at = word.start;
     let mut n = 0;
-    while at < end {
-        n = with_sds(list, n, line[at]);
-        at += 1;
+    for &c in name_at(line, i) {
+        n = with_sds(list, n, c);
     }
     n
 }
@@ -138,16 +93,15 @@ fn hexadecimal(c: u8) -> usize
     16
 }
 
-// The byte of the two digits at `at`, 256 where they are none.
-fn pair_at(line: &[u8], at: usize, end: usize) -> usize
-    requires { (at < end) × (end ≤ length line.now) }
+// The byte of two digits, 256 where they are none.
+fn pair(digits: &[u8]) -> usize
     ensures { result ≤ 256 }
 {
-    if end - at < 2 {
+    if digits.len() < 2 {
         return 256;
     }
-    let high = hexadecimal(line[at]);
-    let low = hexadecimal(line[at + 1]);
+    let high = hexadecimal(digits[0]);
+    let low = hexadecimal(digits[1]);
     if high == 16 {
         return 256;
     }
@@ -176,13 +130,9 @@ fn with_byte(bytes: &mut [u8], n: usize, x: usize) -> usize
 pub fn bytes_at(line: &[u8], i: usize, bytes: &mut [u8]) -> usize
     ensures { length bytes.new ≡ length bytes.old }
 {
-    let word = place_at(line, i);
-    let end = word.end;
-    let mut at = word.start;
     let mut n = 0;
-    while at < end {
-        n = with_byte(bytes, n, pair_at(line, at, end));
-        at += 2;
+    for digits in name_at(line, i).chunks(2) {
+        n = with_byte(bytes, n, pair(digits));
     }
     n
 }

@@ -3,10 +3,12 @@ use Prim.Native.Nat.{ℕ, zero, suc, ◌+◌, ◌-◌, ◌≤◌, ◌<◌}
 use native.Mathlib.Omega.{arith}
 use mathlib.Core.Path.{◌≡◌, refl, sym, ap, ◌∙◌, subst}
 use mathlib.Core.List.{List, [], ◌∷◌, ◌++◌, map}
-use mathlib.Core.Bool.{Bool, true, false, not, ◌||◌, true≢false, or-false}
+use mathlib.Core.Bool.{Bool, true, false, not, cond, ◌||◌, true≢false, or-false}
 use lib.Dec.{ltb}
 use lib.ListN.{length}
 use borrow.Author.Tests.{eq-eqb, ne_eqb, ltb-true, ltb-false, lt-ltb, le-ltb}
+use Rattle.std.specs.Prelude.{Option, Some, None, IfSome, IsSome, is_some}
+use Rattle.std.specs.Option.{unwrap_or}
 use Rattle.rules.specs.01-Lists.{any, all, without, put, put_all}
 use Rattle.rules.specs.02-Limits.{limits}
 use Rattle.rules.specs.03-Names.{Name}
@@ -36,8 +38,9 @@ use Rattle.lookup.proofs.KindBytes.{object_byte, link_byte}
 use Rattle.conditions.proofs.ReverseLaws.{one_is, none_is}
 use Rattle.conditions.specs.Aimed.{Both}
 use Rattle.conditions.proofs.AimedLaws.{aimed_well, neither}
-use Rattle.change_ends.specs.Ends.{EndsTold}
-use Rattle.conditions.specs.Reverse.{one_or_none, ReverseOf}
+use Rattle.change_ends.specs.Ends.{AimPassed, kind_refusals}
+use Rattle.conditions.specs.Reverse.{ReverseOf}
+use Rattle.base.specs.Tested.{Tested}
 use Rattle.lookup.specs.Found.{EndPlace}
 use Rattle.base.proofs.TestedLaws.{begun_passes}
 use Rattle.conditions.proofs.ConditionLaws.{end_place_has}
@@ -87,39 +90,43 @@ pub record Through (b : List ℕ) (d l o : ℕ) : Type 0 where
   pub link_below : l < 128
   pub object_below : o < 128
 
-module _ {b : List ℕ} {d : ℕ} {n m : Name} {no l o : ℕ} (told : EndsTold b d n m no l o) (z : no ≡ 0) where
-  pub goes_through : Through b d l o
-  goes_through =
-      let aim = aimed_well _ told.told z in
-      let both = told.so z in
-      record { sound = aim.sound; outside = aim.outside; below = aim.below; link_below = both.one.below; object_below = both.two.below }
-
-  -- what it tests besides, and its effect
-  told_passes : {u : Outcome Schema} (rest : ℕ → ℕ → Refusals) (effect : ℕ → ℕ → Outcome Schema)
-      → let x = type_named (schema_of b) d n in let y = type_named (schema_of b) d m in
-      Left u (end_refusals d n m (schema_of b) ++ rest x y) (effect x y) → Left u (rest l o) (effect l o)
+module _ {b : List ℕ} (d : ℕ) (n m : Name) (aimed : AimPassed b d n m) where
+  -- what is left of a call
+  pub past_aimed : {u effect : Outcome Schema} {rest : Refusals} → Left u (end_refusals d n m (schema_of b) ++ rest) effect
+      → Left u (kind_refusals (schema_of b) d n m ++ rest) effect
   unfolding all
-  told_passes rest effect left =
-      let both = told.so z in
-      let passed = begun_passes (rest (type_named (schema_of b) d n) (type_named (schema_of b) d m)) told.told z refl left in
-      record {
-        is = passed.is ∙ sym (λ i. verdict (rest (both.one.named i) (both.two.named i)) (effect (both.one.named i) (both.two.named i)));
-      }
+  past_aimed left = begun_passes _ aimed refl refl left
+
+  module _ {l o : ℕ} (both : Both b d n m l o) where
+    pub goes_through : Through b d l o
+    goes_through =
+        let aim = aimed_well _ aimed refl in
+        record { sound = aim.sound; outside = aim.outside; below = aim.below; link_below = both.one.below; object_below = both.two.below }
+
+    -- what it tests besides, and its effect
+    kinds_passed : Tested b (kind_refusals (schema_of b) d n m) 0 0 → {u : Outcome Schema} (rest : ℕ → ℕ → Refusals)
+        (effect : ℕ → ℕ → Outcome Schema) → let x = type_named (schema_of b) d n in let y = type_named (schema_of b) d m in
+        Left u (end_refusals d n m (schema_of b) ++ rest x y) (effect x y) → Left u (rest l o) (effect l o)
+    unfolding all
+    kinds_passed kinds rest effect left =
+        let passed = begun_passes (rest (type_named (schema_of b) d n) (type_named (schema_of b) d m)) kinds refl refl (past_aimed left) in
+        record {
+          is = passed.is ∙ sym (λ i. verdict (rest (both.one.named i) (both.two.named i)) (effect (both.one.named i) (both.two.named i)));
+        }
 
 -- ---- room for the ends of a link type and its reverse
 
-module _ (b : List ℕ) {r k : ℕ} (c : Counted (end_count b) limits.ends k) where
-  pub full_two : r < 128 → ltb 512 (k + 2) ≡ ends_full (schema_of b) (suc (length (one_or_none r)))
-  unfolding ends_full
-  full_two h =
-      let many : k + 2 ≡ length (schema_of b).ends + 2 = omega (arith, c.is, ends_long b) in
-      ap (ltb 512) many ∙ ap (λ (l : List ℕ). ltb 512 (length (schema_of b).ends + suc (length l))) (sym (one_is h))
+pub full_told : (b : List ℕ) {k : ℕ} → Counted (end_count b) limits.ends k → (r : Option ℕ) {x y : Bool} → x ≡ is_some r → x ≡ y
+    → ltb 512 (k + cond y 2 1) ≡ ends_full (schema_of b) (cond (is_some r) 2 1)
+unfolding ends_full
+full_told b {k} c r {y = y} e q =
+    let many : k ≡ length (schema_of b).ends = omega (arith, c.is, ends_long b) in
+    ap (λ (j : ℕ). ltb 512 (j + cond y 2 1)) many ∙ ap (λ (z : Bool). ltb 512 (length (schema_of b).ends + cond z 2 1)) (sym q ∙ e)
 
-  pub full_one : 128 ≤ r → ltb 512 (k + 1) ≡ ends_full (schema_of b) (suc (length (one_or_none r)))
-  unfolding ends_full
-  full_one h =
-      let many : k + 1 ≡ length (schema_of b).ends + 1 = omega (arith, c.is, ends_long b) in
-      ap (ltb 512) many ∙ ap (λ (l : List ℕ). ltb 512 (length (schema_of b).ends + suc (length l))) (sym (none_is h))
+pub full_is : {s : Schema} {l : ℕ} (r : Option ℕ) → ReverseOf s l (unwrap_or r limits.types) → IfSome r (λ x. x < limits.types)
+    → ends_full s (length (with_reverse s l)) ≡ ends_full s (cond (is_some r) 2 1)
+full_is {s} (Some x) rev h = ap (λ (ls : List ℕ). ends_full s (suc (length ls))) (rev.is ∙ one_is h)
+full_is {s} None rev h = ap (λ (ls : List ℕ). ends_full s (suc (length ls))) (rev.is ∙ none_is {r = 128} (omega arith))
 
 -- ---- an end and its mirror
 
@@ -174,50 +181,55 @@ pub add_left : (side : Side) (d : ℕ) (n m : Name) (s : Schema) → Left (add_e
 unfolding add_end
 add_left side d n m s = record { is = refl }
 
--- the tests that are left, of the types that were found
-pub add_tests : {b : List ℕ} {d : ℕ} {n m : Name} {no l o : ℕ} → EndsTold b d n m no l o → no ≡ 0 → (side : Side)
-    → Left (add_end side d n m (schema_of b)) (add_rest side d l o (schema_of b))
-    (done 0 0 0 (added side d l o (schema_of b)))
-add_tests {b} {d} {n} {m} told z side =
-    told_passes told z (λ l o. add_rest side d l o (schema_of b)) (λ l o. done 0 0 0 (added side d l o (schema_of b))) (add_left side d n m (schema_of b))
-
-full_is : {s : Schema} {l r : ℕ} → ReverseOf s l r → ends_full s (suc (length (one_or_none r))) ≡ ends_full s (length (with_reverse s l))
-full_is {s} rev = ap (λ (l : List ℕ). ends_full s (suc (length l))) (sym rev.is)
-
 -- what the call goes on with where nothing refuses
-pub record Addable (b : List ℕ) (d : ℕ) (n m : Name) (l o r : ℕ) (side : Side) : Type 0 where
+pub record Addable (b : List ℕ) (d : ℕ) (n m : Name) (l o : ℕ) (side : Side) : Type 0 where
   pub through : Through b d l o
-  pub reversed : ReverseOf (schema_of b) l r
   pub free : has_end (schema_of b) d l side o ≡ false
-  pub room : ends_full (schema_of b) (suc (length (one_or_none r))) ≡ false
+  pub room : ends_full (schema_of b) (length (with_reverse (schema_of b) l)) ≡ false
   pub rule : add_end side d n m (schema_of b) ≡ done 0 0 0 (added side d l o (schema_of b))
 
-module _ (side : Side) {b : List ℕ} {d : ℕ} {n m : Name} {no l o : ℕ} (told : EndsTold b d n m no l o) (z : no ≡ 0)
-    (free : has_end (schema_of b) d l side o ≡ false) {r : ℕ} (rev : ReverseOf (schema_of b) l r) where
-  full_left : Left (add_end side d n m (schema_of b)) ((14 when ends_full (schema_of b) (length (with_reverse (schema_of b) l))) ∷ [])
-      (done 0 0 0 (added side d l o (schema_of b)))
-  full_left = passes (add_tests told z side) free
+module _ (side : Side) {b : List ℕ} {d : ℕ} {n m : Name} {l o : ℕ} (aimed : AimPassed b d n m)
+    (kinds : Tested b (kind_refusals (schema_of b) d n m) 0 0) (both : Both b d n m l o) where
+  -- the tests that are left, of the types that were found
+  pub add_tests : Left (add_end side d n m (schema_of b)) (add_rest side d l o (schema_of b)) (done 0 0 0 (added side d l o (schema_of b)))
+  add_tests =
+      kinds_passed d n m aimed both kinds (λ l o. add_rest side d l o (schema_of b)) (λ l o. done 0 0 0 (added side d l o (schema_of b)))
+      (add_left side d n m (schema_of b))
 
-  pub add_full : ends_full (schema_of b) (suc (length (one_or_none r))) ≡ true → add_end side d n m (schema_of b) ≡ refused 14 0
-  add_full e = stops full_left (sym (full_is rev) ∙ e)
+  -- as the call has tested them
+  module _ {x y : Bool} (is : x ≡ has_end (schema_of b) d l side o) (free : x ≡ false) (r : Option ℕ)
+      (rev : ReverseOf (schema_of b) l (unwrap_or r limits.types)) (below : IfSome r (λ z. z < limits.types)) (full : y ≡ ends_full (schema_of b) (cond (is_some r) 2 1)) where
+    pub add_full : y ≡ true → add_end side d n m (schema_of b) ≡ refused 14 0
+    add_full e = stops (passes add_tests (sym is ∙ free)) (full_is r rev below ∙ sym full ∙ e)
 
-  pub addable : ends_full (schema_of b) (suc (length (one_or_none r))) ≡ false → Addable b d n m l o r side
-  addable e = record { through = goes_through told z; reversed = rev; free = free; room = e; rule = ends (passes full_left (sym (full_is rev) ∙ e)) }
+    pub addable : y ≡ false → Addable b d n m l o side
+    addable e =
+        let room = full_is r rev below ∙ sym full ∙ e in
+        record {
+          through = goes_through d n m aimed both;
+          free = sym is ∙ free;
+          room = room;
+          rule = ends (passes (passes add_tests (sym is ∙ free)) room);
+        }
 
-module _ (b : List ℕ) {l r : ℕ} (rev : ReverseOf (schema_of b) l r) (room : ends_full (schema_of b) (suc (length (one_or_none r))) ≡ false) where
+module _ (b : List ℕ) (l : ℕ) (room : ends_full (schema_of b) (length (with_reverse (schema_of b) l)) ≡ false) where
   pub room_first : length (schema_of b).ends < limits.ends
   unfolding ends_full
-  room_first = let h = ltb-false 512 (length (schema_of b).ends + suc (length (one_or_none r))) room in omega arith
+  room_first = let h = ltb-false 512 (length (schema_of b).ends + suc (length (reverse (schema_of b) l))) room in omega arith
 
+module _ (b : List ℕ) {l r : ℕ} (rev : ReverseOf (schema_of b) l r)
+    (room : ends_full (schema_of b) (length (with_reverse (schema_of b) l)) ≡ false) where
   room_both : r < 128 → suc (length (schema_of b).ends) < limits.ends
   unfolding ends_full
-  room_both k = let h = ltb-false 512 (length (schema_of b).ends + suc (length (one_or_none r))) room in omega (arith, ap length (one_is k))
+  room_both k =
+      let h = ltb-false 512 (length (schema_of b).ends + suc (length (reverse (schema_of b) l))) room in
+      omega (arith, ap length (rev.is ∙ one_is k))
 
   module _ (d o : ℕ) (side : Side) {b₁ : List ℕ} (out : Shows b₁ (with_ends (schema_of b) (put end_before (end_of d l side o) (schema_of b).ends))) where
-    pub added_one : r ≡ 128 → b₁ ≡ picture (added side d l o (schema_of b))
+    pub added_one : 128 ≤ r → b₁ ≡ picture (added side d l o (schema_of b))
     unfolding put_all both_ends
-    added_one e = out.shown ∙ ap (λ (ls : List ℕ). picture (with_ends (schema_of b) (put_all end_before
-        (end_of d l side o ∷ map (λ y. end_of d y (other_side side) o) ls) (schema_of b).ends))) (sym (rev.is ∙ none_is {r = r} (omega arith)))
+    added_one h = out.shown ∙ ap (λ (ls : List ℕ). picture (with_ends (schema_of b) (put_all end_before
+        (end_of d l side o ∷ map (λ y. end_of d y (other_side side) o) ls) (schema_of b).ends))) (sym (rev.is ∙ none_is h))
 
     module _ (k : r < 128) where
       pub room_second : length (schema_of b₁).ends < limits.ends
@@ -266,14 +278,6 @@ pub remove_left : (side : Side) (d : ℕ) (n m : Name) (s : Schema) → Left (re
 unfolding remove_end
 remove_left side d n m s = record { is = refl }
 
--- the test that is left, of the types that were found
-remove_tests : {b : List ℕ} {d : ℕ} {n m : Name} {no l o : ℕ} → EndsTold b d n m no l o → no ≡ 0 → (side : Side)
-    → Left (remove_end side d n m (schema_of b)) (remove_rest side d l o (schema_of b))
-    (done 0 0 0 (removed side d l o (schema_of b)))
-remove_tests {b} {d} {n} {m} told z side =
-    told_passes told z (λ l o. remove_rest side d l o (schema_of b)) (λ l o. done 0 0 0 (removed side d l o (schema_of b)))
-    (remove_left side d n m (schema_of b))
-
 -- what the call goes on with where nothing refuses
 pub record Removable (b : List ℕ) (d : ℕ) (n m : Name) (l o row : ℕ) (side : Side) : Type 0 where
   pub through : Through b d l o
@@ -282,20 +286,26 @@ pub record Removable (b : List ℕ) (d : ℕ) (n m : Name) (l o row : ℕ) (side
   pub there : has_end (schema_of b) d l side o ≡ true
   pub rule : remove_end side d n m (schema_of b) ≡ done 0 0 0 (removed side d l o (schema_of b))
 
-module _ {b : List ℕ} {d : ℕ} {n m : Name} {no l o row k : ℕ} {side : Side} (told : EndsTold b d n m no l o) (z : no ≡ 0)
-    (place : EndPlace b d l side o row) (count : Counted (end_count b) limits.ends k) where
-  pub remove_none : k ≤ row → remove_end side d n m (schema_of b) ≡ refused 13 0
-  remove_none h = stops (remove_tests told z side) (ap not (sym (end_place_has count.is place) ∙ le-ltb row k h))
+module _ {b : List ℕ} {d : ℕ} {n m : Name} {l o row : ℕ} {side : Side} (aimed : AimPassed b d n m)
+    (kinds : Tested b (kind_refusals (schema_of b) d n m) 0 0) (both : Both b d n m l o) (place : EndPlace b d l side o row) where
+  -- the test that is left, of the types that were found
+  remove_tests : Left (remove_end side d n m (schema_of b)) (remove_rest side d l o (schema_of b)) (done 0 0 0 (removed side d l o (schema_of b)))
+  remove_tests =
+      kinds_passed d n m aimed both kinds (λ l o. remove_rest side d l o (schema_of b)) (λ l o. done 0 0 0 (removed side d l o (schema_of b)))
+      (remove_left side d n m (schema_of b))
 
-  pub removable : row < k → Removable b d n m l o row side
+  pub remove_none : end_count b ≤ row → remove_end side d n m (schema_of b) ≡ refused 13 0
+  remove_none h = stops remove_tests (ap not (sym (end_place_has refl place) ∙ le-ltb row (end_count b) h))
+
+  pub removable : row < end_count b → Removable b d n m l o row side
   removable h =
-      let there = sym (end_place_has count.is place) ∙ lt-ltb row k h in
+      let there = sym (end_place_has refl place) ∙ lt-ltb row (end_count b) h in
       record {
-        through = goes_through told z;
+        through = goes_through d n m aimed both;
         place = place;
-        row_below = omega (arith, count.is);
+        row_below = h;
         there = there;
-        rule = ends (passes (remove_tests told z side) (ap not there));
+        rule = ends (passes remove_tests (ap not there));
       }
 
 -- without one end, or without it and its mirror
@@ -336,8 +346,8 @@ module _ {b : List ℕ} (sound : Sound b) (x : ℕ) {d l o row : ℕ} (place : E
   first_gone : Shows b₁ (less_one (schema_of b) d l o (read_side x))
   first_gone = less_end (sound_stored sound) place h out
 
-  pub removed_one : r ≡ 128 → b₁ ≡ picture (removed (read_side x) d l o (schema_of b))
-  removed_one e = first_gone.shown ∙ ap picture (removed_alone (schema_of b) d l o (read_side x) (rev.is ∙ none_is {r = r} (omega arith)))
+  pub removed_one : 128 ≤ r → b₁ ≡ picture (removed (read_side x) d l o (schema_of b))
+  removed_one h = first_gone.shown ∙ ap picture (removed_alone (schema_of b) d l o (read_side x) (rev.is ∙ none_is h))
 
   module _ (small : x < 2) (k : r < 128) {m : ℕ} (mirror : EndPlace b₁ d r (read_side (1 - x)) o m) where
     mirror_place : EndPlace b₁ d r (other_side (read_side x)) o m
@@ -357,3 +367,13 @@ module _ {b : List ℕ} (sound : Sound b) (x : ℕ) {d l o row : ℕ} (place : E
       removed_both out₂ =
           (shows_next (λ s. less_one s d r o (other_side (read_side x))) first_gone (less_end (shows_stored first_gone) mirror_place mirror_row out₂)).shown
           ∙ ap picture (removed_pair (schema_of b) d l o (read_side x) r (rev.is ∙ one_is k))
+
+  -- so it is found, and in its row
+  pub mirror_found : x < 2 → r < 128 → (m : Option ℕ) → EndPlace b₁ d r (read_side (1 - x)) o (unwrap_or m (end_count b₁))
+      → has_end (schema_of b) d l (read_side x) o ≡ true → IsSome m
+  mirror_found small k (Some m) mirror e = refl
+  mirror_found small k None mirror e = absurd (omega (arith, mirror_row small k mirror e))
+
+  pub mirror_at : {m : Option ℕ} {i : ℕ} → m ≡ Some i → EndPlace b₁ d r (read_side (1 - x)) o (unwrap_or m (end_count b₁))
+      → EndPlace b₁ d r (read_side (1 - x)) o i
+  mirror_at e mirror = subst (λ (y : Option ℕ). EndPlace b₁ d r (read_side (1 - x)) o (unwrap_or y (end_count b₁))) e mirror

@@ -1,9 +1,9 @@
 -- The ancestors that an SDS lacks, and how they come into it, one after the other. Assumes nothing.
-use Prim.Native.Nat.{ℕ, zero, suc, ◌%◌, ◌<◌}
+use Prim.Native.Nat.{ℕ, zero, suc, ◌<◌}
 use native.Mathlib.Omega.{arith}
 use mathlib.Core.Path.{◌≡◌, refl, sym, ap, ap₂, ◌∙◌, subst}
 use mathlib.Core.List.{List, [], ◌∷◌, map}
-use mathlib.Core.Bool.{Bool, true, false, not, ◌&&◌, ◌||◌, and-false, or-false}
+use mathlib.Core.Bool.{Bool, true, false, not, ◌&&◌, and-false, or-false}
 use lib.Dec.{eqb}
 use lib.ListN.{length, get_or}
 use borrow.Author.Tests.{eqb-false, ne_eqb, not-true}
@@ -31,27 +31,22 @@ use Rattle.change_imports.specs.Import.{brought, Lacking}
 
 -- ---- those that are missing
 
--- the one SDS that is asked, as a byte
-pub one_listed : (d : ℕ) → d < limits.sdss → (i : ℕ) → i < 1 → get_or (d % 256 ∷ []) i 0 < limits.sdss
-one_listed d h zero l = omega arith
+-- the one SDS that is asked
+pub one_listed : (d : ℕ) → d < limits.sdss → (i : ℕ) → i < 1 → get_or (d ∷ []) i 0 < limits.sdss
+one_listed d h zero l = h
 one_listed d h (suc i) l = absurd (omega arith)
 
 -- a set of one type, all above it, and what one SDS holds
-module _ (s : Schema) (d t : ℕ) (below : d < limits.sdss) (small : t < 128) {none one all sdss held : ℕ → Bool}
-    (empty : (k : ℕ) → none k ≡ false) (only : (k : ℕ) → one k ≡ eqb k t || none k) (up : (k : ℕ) → all k ≡ ancestors_of s one k)
-    (listed : (k : ℕ) → sdss k ≡ among (d % 256 ∷ []) k) (shown : (k : ℕ) → held k ≡ held_in s sdss k) where
-  is_one : (k : ℕ) → one k ≡ eqb k t
-  is_one k = only k ∙ ap (λ (x : Bool). eqb k t || x) (empty k) ∙ or-false (eqb k t)
-
+module _ (s : Schema) (d t : ℕ) (small : t < 128) {one all sdss held : ℕ → Bool}
+    (only : (k : ℕ) → one k ≡ eqb k t) (up : (k : ℕ) → all k ≡ ancestors_of s one k)
+    (listed : (k : ℕ) → sdss k ≡ among (d ∷ []) k) (shown : (k : ℕ) → held k ≡ held_in s sdss k) where
   is_held : (k : ℕ) → held k ≡ present s d k
   unfolding visible any
-  is_held k =
-      let byte : d % 256 ≡ d = omega arith in
-      shown k ∙ visible_are s (d % 256 ∷ []) sdss listed k ∙ or-false (present s (d % 256) k) ∙ ap (λ (e : ℕ). present s e k) byte
+  is_held k = shown k ∙ visible_are s (d ∷ []) sdss listed k ∙ or-false (present s d k)
 
   pub missing_are : (k : ℕ) → all k && not (held k) ≡ descends s t k && not_present s d k
   unfolding not_present
-  missing_are k = ap₂ (λ (x y : Bool). x && not y) (up k ∙ above one t small is_one s k) (is_held k)
+  missing_are k = ap₂ (λ (x y : Bool). x && not y) (up k ∙ above one t small only s k) (is_held k)
 
 -- ---- one after the other
 

@@ -1,12 +1,14 @@
 -- Import: its refusals test by test, the names that it fills in, and the presences that come into the target. Assumes nothing.
 use Prim.Native.Nat.{ℕ, ◌+◌, ◌-◌, ◌≤◌, ◌<◌}
 use native.Mathlib.Omega.{arith}
-use mathlib.Core.Path.{◌≡◌, refl, sym, ap, ◌∙◌}
+use mathlib.Core.Path.{◌≡◌, refl, sym, ap, ◌∙◌, subst}
 use mathlib.Core.List.{List, [], ◌∷◌, ◌++◌, map, append-nil}
-use mathlib.Core.Bool.{Bool, true, false, not, cond, ◌&&◌, ◌||◌, and-false, true≢false}
-use lib.Dec.{leb, ltb, eqb}
+use mathlib.Core.Bool.{Bool, true, false, not, ◌&&◌, ◌||◌, and-false, true≢false}
+use lib.Dec.{leb, eqb}
 use lib.ListN.{length, get_or, take, replicate}
-use borrow.Author.Tests.{eq-eqb, ne_eqb, ltb-true, ltb-false, lt-ltb, le-ltb, le-leb, lt-leb, leb-false, not-true}
+use borrow.Author.Tests.{eq-eqb, ne_eqb, lt-ltb, le-ltb, leb-false, not-true}
+use Rattle.std.specs.Prelude.{Option, Some, None, IfSome, IsSome, is_some}
+use Rattle.std.specs.Option.{unwrap_or}
 use Rattle.rules.specs.02-Limits.{limits}
 use Rattle.rules.specs.declared.Answer.{Answer}
 use Rattle.rules.specs.01-Lists.{all, put, put_all}
@@ -29,6 +31,7 @@ use Rattle.rules.proofs.03-Names.{formed_long, formed_named, formed_fits}
 use Rattle.rules.proofs.07-Picture.{strip_pad}
 use Rattle.rules.specs.Read.{strip, name_offset}
 use Rattle.rules.proofs.09-Refusals.{Left}
+use Rattle.rules.proofs.NameTests.{filled_formed}
 use Rattle.rows.specs.Rows.{part}
 use Rattle.rows.specs.Table.{written}
 use Rattle.rows.proofs.Scan.{length_part}
@@ -45,13 +48,14 @@ use Rattle.base.proofs.StoredLaws.{shows_schema, shows_next, shows_has}
 use Rattle.lookup.proofs.Walked.{row_below, row_name}
 use Rattle.name_fields.specs.Field.{Stripped}
 use Rattle.conditions.specs.Reverse.{one_or_none, ReverseOf}
-use Rattle.conditions.specs.Aimed.{WithReverse, RefusedOr}
+use Rattle.conditions.specs.Aimed.{WithReverse}
 use Rattle.conditions.proofs.ReverseLaws.{one_is, none_is}
+use Rattle.base.specs.Tested.{Tested}
 use Rattle.base.proofs.TestedLaws.{tested_sound, tested_passes}
 use Rattle.conditions.proofs.AimedLaws.{system_not, formed as name-formed, name_borne, all_passed}
 use Rattle.rules.proofs.08-Working.{named_present, bearer_named, other_named}
 use Rattle.type_set.proofs.Members.{members_alike}
-use Rattle.change_imports.specs.Import.{first_refusals, enter_refusals, enter, nameless_of, brought, Lacking, Missing}
+use Rattle.change_imports.specs.Import.{first_refusals, Enters, enter_refusals, enter, nameless_of, brought, Lacking, Missing}
 
 -- ---- the tests of the SDSs, of the names and of the reverse
 
@@ -70,28 +74,34 @@ pub malformed_is : {r : Bool} (n : Name) → r ≡ well_formed n → not r ≡ m
 unfolding malformed
 malformed_is n e = ap not e
 
-pub blank_fine : (n : Name) → length n ≡ 0 → false ≡ malformed_new n
+pub blank_fine : (n : Name) → blank n ≡ true → false ≡ malformed_new n
 unfolding malformed_new
-blank_fine n e = rw (eq-eqb (length n) 0 e)
+blank_fine n e = rw e
 
-pub given_tested : {r : Bool} (n : Name) → (length n ≡ 0 → ⊥) → r ≡ well_formed n → not r ≡ malformed_new n
+pub given_tested : {r : Bool} (n : Name) → blank n ≡ false → r ≡ well_formed n → not r ≡ malformed_new n
 unfolding malformed_new
-given_tested n h e = rw (ne_eqb (length n) 0 h) (malformed_is n e)
+given_tested n h e = rw h (malformed_is n e)
 
-pub blank_idle : (n : Name) (x : Bool) → length n ≡ 0 → false ≡ not (blank n) && x
-blank_idle n x e = rw (eq-eqb (length n) 0 e)
+pub blank_idle : (n : Name) (x : Bool) → blank n ≡ true → false ≡ not (blank n) && x
+blank_idle n x e = rw e
 
-pub given_idle : (n : Name) (r : ℕ) → (length n ≡ 0 → ⊥) → leb 128 r ≡ not (blank n) && eqb (length (one_or_none r)) 0
-given_idle n r h = rw (ne_eqb (length n) 0 h) (go (ltb r 128) refl)
+pub given_idle : (n : Name) {x : Bool} (y : Bool) → blank n ≡ false → y ≡ not x → x ≡ not (blank n) && not y
+given_idle n {x} y h e = rw h (go x e)
   where
-    go : (x : Bool) → ltb r 128 ≡ x → leb 128 r ≡ eqb (length (cond x (r ∷ []) [])) 0
-    go true e = lt-leb 128 r (ltb-true r 128 e)
-    go false e = le-leb 128 r (ltb-false r 128 e)
+    go : (x : Bool) → y ≡ not x → x ≡ not y
+    go true e = sym (ap not e)
+    go false e = sym (ap not e)
 
-pub idle_is : {s : Schema} {t t' r : ℕ} {x : Bool} (n : Name) → t ≡ t' → ReverseOf s t r → x ≡ not (blank n) && eqb (length (one_or_none r)) 0
-    → idle_reverse_name s t' n ≡ x
+none_told : {s : Schema} {t : ℕ} (r : Option ℕ) → ReverseOf s t (unwrap_or r limits.types) → IfSome r (λ x. x < limits.types)
+    → eqb (length (reverse s t)) 0 ≡ not (is_some r)
+none_told (Some x) rev h = ap (λ (l : List ℕ). eqb (length l) 0) (rev.is ∙ one_is h)
+none_told None rev h = ap (λ (l : List ℕ). eqb (length l) 0) (rev.is ∙ none_is {r = 128} (omega arith))
+
+pub idle_is : {s : Schema} {t t' : ℕ} {x : Bool} (n : Name) (r : Option ℕ) → t ≡ t' → ReverseOf s t (unwrap_or r limits.types)
+    → IfSome r (λ x. x < limits.types) → x ≡ not (blank n) && not (is_some r) → idle_reverse_name s t' n ≡ x
 unfolding idle_reverse_name
-idle_is {s} n e rev q = ap (λ (l : List ℕ). not (blank n) && eqb (length l) 0) (ap (reverse s) (sym e) ∙ rev.is) ∙ sym q
+idle_is {s} n r e rev h q =
+    ap (λ (u : ℕ). not (blank n) && eqb (length (reverse s u)) 0) (sym e) ∙ ap (λ (y : Bool). not (blank n) && y) (none_told r rev h) ∙ sym q
 
 -- ---- what is tested before the names are filled in
 
@@ -106,23 +116,33 @@ new_formed n new new_reverse e =
 
 -- ---- the names filled in
 
-given_formed : (n : Name) → malformed_new n ≡ false → (length n ≡ 0 → ⊥) → well_formed n ≡ true
+given_formed : (n : Name) → malformed_new n ≡ false → blank n ≡ false → well_formed n ≡ true
 unfolding malformed_new malformed
-given_formed n e h = go (well_formed n) (and_rest (not (blank n)) (not (well_formed n)) (ap not (ne_eqb (length n) 0 h)) e)
+given_formed n e h = go (well_formed n) (and_rest (not (blank n)) (not (well_formed n)) (ap not h) e)
   where
     go : (x : Bool) → not x ≡ false → x ≡ true
     go true q = refl
     go false q = sym q
 
-pub given_long : (n : Name) → malformed_new n ≡ false → (length n ≡ 0 → ⊥) → length n ≤ 16
+pub given_long : (n : Name) → malformed_new n ≡ false → blank n ≡ false → length n ≤ 16
 given_long n e h = (formed_long n (given_formed n e h)).1
 
 -- a name written into a field of zeros is the name in it
-pub given_filled : (s : Schema) (d t : ℕ) (n field : Name) → malformed_new n ≡ false → (length n ≡ 0 → ⊥)
+pub given_filled : (s : Schema) (d t : ℕ) (n field : Name) → malformed_new n ≡ false → blank n ≡ false
     → field ≡ written (replicate 16 0) 0 n → strip field ≡ filled s d t n
 given_filled s d t n field e h w =
     ap strip (w ∙ field_written [] [] n limits.name 0 refl (given_long n e h) ∙ append-nil (pad limits.name n))
-    ∙ strip_pad (formed_fits n (given_formed n e h)) ∙ rw (ne_eqb (length n) 0 h)
+    ∙ strip_pad (formed_fits n (given_formed n e h)) ∙ rw h
+
+-- what is present has a row
+pub row_some : {b : List ℕ} {d t : ℕ} (r : Option ℕ) → PresenceRow b (presence_count b) d t (unwrap_or r (presence_count b))
+    → present (schema_of b) d t ≡ true → IsSome r
+row_some (Some x) found e = refl
+row_some {b} {d} {t} None found e = absurd (omega (arith, row_below b d t found e))
+
+pub row_is : {b : List ℕ} {d t : ℕ} {r : Option ℕ} {x : ℕ} → r ≡ Some x → PresenceRow b (presence_count b) d t (unwrap_or r (presence_count b))
+    → PresenceRow b (presence_count b) d t x
+row_is {b} {d} {t} e found = subst (λ (y : Option ℕ). PresenceRow b (presence_count b) d t (unwrap_or y (presence_count b))) e found
 
 module _ {b : List ℕ} {d t r : ℕ} (found : PresenceRow b (presence_count b) d t r) (s : Sound b) (e : present (schema_of b) d t ≡ true) where
   pub row_room : r < limits.presences
@@ -132,11 +152,11 @@ module _ {b : List ℕ} {d t r : ℕ} (found : PresenceRow b (presence_count b) 
   own_long o = ap length o ∙ length_part b (presence_at r + name_offset) limits.name (omega (arith, sound_long s, row_room))
 
   -- the whole field of its name in the source is
-  pub own_filled : (n : Name) {own field : Name} → length n ≡ 0 → own ≡ part b (presence_at r + name_offset) limits.name
+  pub own_filled : (n : Name) {own field : Name} → blank n ≡ true → own ≡ part b (presence_at r + name_offset) limits.name
       → field ≡ written (replicate 16 0) 0 own
       → strip field ≡ filled (schema_of b) d t n
   own_filled n {own} z o w =
-      ap strip (w ∙ written_over (replicate 16 0) [] own (sym (own_long o)) ∙ append-nil own ∙ o) ∙ row_name b d t found e ∙ rw (eq-eqb (length n) 0 z)
+      ap strip (w ∙ written_over (replicate 16 0) [] own (sym (own_long o)) ∙ append-nil own ∙ o) ∙ row_name b d t found e ∙ rw z
 
 -- ---- the room for presences
 
@@ -221,28 +241,29 @@ pub import_left : (target source : ℕ) (n new new_reverse : Name) (s : Schema) 
 unfolding import imported incoming enter verdict
 import_left target source n new new_reverse s = record { is = refl }
 
--- what is so where none of the first refusals holds: t is the type that is named, u its reverse, 128 where it has none
-pub record Importable (b : List ℕ) (target source : ℕ) (n new new_reverse : Name) (t u : ℕ) : Type 0 where
+-- what is so where none of the first refusals holds: t is the type that is named, r its reverse, if it has one
+pub record Importable (b : List ℕ) (target source : ℕ) (n new new_reverse : Name) (t : ℕ) (r : Option ℕ) : Type 0 where
   pub sound : Sound b
   pub small : target < 16
   pub outside : target ≡ 0 → ⊥
   pub below : t < 128
   pub there : present (schema_of b) source t ≡ true
   pub named : blank (local_name (schema_of b) source t) ≡ false
-  pub reversed : ReverseOf (schema_of b) t u
+  pub reversed : ReverseOf (schema_of b) t (unwrap_or r limits.types)
+  pub reverse_fits : IfSome r (λ u. u < limits.types)
   pub formed : malformed_new new ≡ false
   pub formed_reverse : malformed_new new_reverse ≡ false
-  pub rule : import target source n new new_reverse (schema_of b) ≡ rest_of target source new new_reverse (schema_of b) t (one_or_none u)
+  pub rule : import target source n new new_reverse (schema_of b)
+      ≡ rest_of target source new new_reverse (schema_of b) t (one_or_none (unwrap_or r limits.types))
 
-pub importable : {b : List ℕ} {target source : ℕ} {n new new_reverse : Name} {no t u : ℕ}
-    → RefusedOr b (first_refusals target source n new new_reverse (schema_of b)) no (WithReverse b source n t u) → no ≡ 0
-    → Importable b target source n new new_reverse t u
+pub importable : {b : List ℕ} (target source : ℕ) (n new new_reverse : Name) {t : ℕ} {r : Option ℕ}
+    → Tested b (first_refusals target source n new new_reverse (schema_of b)) 0 0 → WithReverse b source n t r
+    → Importable b target source n new new_reverse t r
 unfolding all
-importable {b} {target} {source} {n} {new} {new_reverse} {t = t} told z =
+importable {b} target source n new new_reverse {t} told found =
     let s = schema_of b in
-    let sound = tested_sound told.told z in
-    let passed = all_passed told.told z refl in
-    let found = told.so z in
+    let sound = tested_sound told refl in
+    let passed = all_passed told refl refl in
     let named = found.type.named in
     let (formed, formed_reverse) = new_formed n new new_reverse (passed.fails 4) in
     let borne = name_borne s source n (passed.fails 6) in
@@ -255,16 +276,26 @@ importable {b} {target} {source} {n} {new} {new_reverse} {t = t} told z =
       there = named_present s source n borne named;
       named = ap (λ (u : ℕ). blank (local_name s source u)) named ∙ bearer_named (sound_good sound) source n given borne;
       reversed = found.pair;
+      reverse_fits = found.below;
       formed = formed;
       formed_reverse = formed_reverse;
-      rule = tested_passes told.told z refl (import_left target source n new new_reverse s)
+      rule = tested_passes told refl refl (import_left target source n new new_reverse s)
           ∙ (λ j. rest_of target source new new_reverse s (sym named j) (reverse s (sym named j)))
           ∙ ap (rest_of target source new new_reverse s t) found.pair.is;
     }
 
-module _ {b : List ℕ} {target source : ℕ} {n new new_reverse : Name} {t u : ℕ} (i : Importable b target source n new new_reverse t u) where
+module _ {b : List ℕ} {target source : ℕ} {n new new_reverse : Name} {t : ℕ} {r : Option ℕ}
+    (i : Importable b target source n new new_reverse t r) where
+  pub enters_it : {name : Name} → name ≡ filled (schema_of b) source t new → Enters target name t
+  enters_it q = record {
+    small = i.small;
+    outside = i.outside;
+    below = i.below;
+    formed = ap well_formed q ∙ filled_formed (sound_good i.sound) source t new i.there i.named i.formed;
+  }
+
   -- it has no reverse: its ancestors that are missing come with it
-  pub import_one : u ≡ 128 → {name after : List ℕ} {a : Answer} {types : ℕ → Bool} → name ≡ filled (schema_of b) source t new
+  pub import_one : r ≡ None → {name after : List ℕ} {a : Answer} {types : ℕ → Bool} → name ≡ filled (schema_of b) source t new
       → Missing target t types (schema_of b)
       → Kept b (enter target (new_presence target name t ∷ []) (nameless_of target types) t 0) a after
       → Kept b (import target source n new new_reverse) a after
@@ -272,24 +303,37 @@ module _ {b : List ℕ} {target source : ℕ} {n new new_reverse : Name} {t u : 
   import_one e {name} {types = types} q are k =
       let s = schema_of b in
       let same = members_alike (λ a. descends s t a && not_present s target a) types (λ k h. sym (are k)) in
-      kept_like (i.rule ∙ ap (rest_of target source new new_reverse s t) (none_is {r = u} (omega arith))
+      let alone : one_or_none (unwrap_or r limits.types) ≡ []
+      = ap (λ (x : Option ℕ). one_or_none (unwrap_or x limits.types)) e ∙ none_is {r = 128} (omega arith) in
+      kept_like (i.rule ∙ ap (rest_of target source new new_reverse s t) alone
       ∙ (λ j. enter target (new_presence target (sym q j) t ∷ []) (map (nameless target) (same j)) t 0 s)) k
 
-  module _ (e : u ≡ 128 → ⊥) where
+  module _ {u : ℕ} (e : r ≡ Some u) where
     pub reverse_below : u < 128
-    reverse_below = omega (arith, i.reversed.fits, e)
+    reverse_below = subst (λ (x : Option ℕ). IfSome x (λ y. y < limits.types)) e i.reverse_fits
+
+    reverse_is : ReverseOf (schema_of b) t u
+    reverse_is = subst (λ (x : Option ℕ). ReverseOf (schema_of b) t (unwrap_or x limits.types)) e i.reversed
 
     pub reverse_there : present (schema_of b) source u ≡ true
     reverse_there =
-        let (c, pair) = i.reversed.pair reverse_below in
+        let (c, pair) = reverse_is.pair reverse_below in
         (sound_good i.sound).reverse_present source t c u i.there pair
 
     pub reverse_named : blank (local_name (schema_of b) source u) ≡ false
     reverse_named =
         let good = sound_good i.sound in
-        let (c, pair) = i.reversed.pair reverse_below in
+        let (c, pair) = reverse_is.pair reverse_below in
         let (c', back) = good.reverse_in_turn t c u pair in
         other_named good source u reverse_there (ap is_object back)
+
+    pub enters_reverse : {name : Name} → name ≡ filled (schema_of b) source u new_reverse → Enters target name u
+    enters_reverse q = record {
+      small = i.small;
+      outside = i.outside;
+      below = reverse_below;
+      formed = ap well_formed q ∙ filled_formed (sound_good i.sound) source u new_reverse reverse_there reverse_named i.formed_reverse;
+    }
 
     -- its reverse comes with it
     pub import_both : {name other after : List ℕ} {a : Answer} → name ≡ filled (schema_of b) source t new
@@ -298,9 +342,11 @@ module _ {b : List ℕ} {target source : ℕ} {n new new_reverse : Name} {t u : 
         → Kept b (import target source n new new_reverse) a after
     import_both {name} {other} q w k =
         let s = schema_of b in
-        let (c, pair) = i.reversed.pair reverse_below in
+        let (c, pair) = reverse_is.pair reverse_below in
         let none = none_missing (sound_good i.sound) target t pair in
-        kept_like (i.rule ∙ ap (rest_of target source new new_reverse s t) (one_is reverse_below)
+        let one : one_or_none (unwrap_or r limits.types) ≡ u ∷ []
+        = ap (λ (x : Option ℕ). one_or_none (unwrap_or x limits.types)) e ∙ one_is reverse_below in
+        kept_like (i.rule ∙ ap (rest_of target source new new_reverse s t) one
         ∙ (λ j. enter target (new_presence target (sym q j) t ∷ new_presence target (sym w j) u ∷ []) (map (nameless target) (none j)) t u s)) k
 
 -- the part of a field before its first zero

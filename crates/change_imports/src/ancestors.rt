@@ -7,7 +7,6 @@ ghost use Rattle.base.specs.Stored.{Stored, Shows};
 ghost use Rattle.type_set.specs.Set.{has};
 ghost use Rattle.change_imports.specs.Import.{Lacking, Missing, brought};
 
-use rules::Limits;
 use type_set::TypeSet;
 
 // Those of type t that SDS d lacks.
@@ -15,10 +14,8 @@ pub fn missing(base: &[u8], d: usize, t: usize) -> TypeSet
     requires { Sound base.now × ((d < limits.sdss) × (t < limits.types)) }
     ensures { Missing d t (has result) (schema_of base.now) }
 {
-    let none = TypeSet::empty();
-    let all = kin::ancestors_of(base, none.add(t));
-    let sds = [(d % 256) as u8];
-    all.without(visible::visible(base, working::listed::listed(&sds)))
+    let all = kin::ancestors_of(base, TypeSet::only(t));
+    all.without(visible::visible(base, working::listed::listed(&[d as u8])))
 }
 
 // The types of a set come into SDS d without names, the lowest first.
@@ -28,10 +25,8 @@ pub fn bring(base: &mut [u8], d: usize, types: TypeSet)
     ensures { Shows base.new (brought d (has types) (schema_of base.old)) }
 {
     let mut left = types;
-    let mut t = left.lowest();
-    while t < Limits::TYPES {
+    while let Some(t) = left.lowest() {
         edit::put_nameless(base, d, t);
         left = left.less(t);
-        t = left.lowest();
     }
 }

@@ -3,54 +3,39 @@
 
 ghost use Rattle.std.specs.Prelude.{◌≡◌};
 ghost use Rattle.rules.specs.07-Picture.{Sound};
-ghost use Rattle.rules.specs.09-Refusals.{no_pair};
+ghost use Rattle.rules.specs.09-Refusals.{no_pair, answered};
 ghost use Rattle.rules.specs.10-Changes.{new_pair, new_pair_refusals};
 ghost use Rattle.rules.specs.12-Contracts.{Kept};
 ghost use Rattle.base.specs.Back.{schema_of};
 ghost use Rattle.conditions.specs.Aimed.{RefusedOr};
-ghost use Rattle.change_pairs.specs.Pair.{room_refusals, TwoFree};
+ghost use Rattle.change_pairs.specs.Pair.{room_refusals, TwoFree, PairReady};
 
 use base::Base;
-use conditions::aimed::Told;
-use rules::{Answer, Limits};
+use rules::{Done, Limits, Refused};
 
 // Whether link types of these two categories make no pair.
+// A category stays the number that C gives: which ones there are is tested here, in its place among the refusals.
 fn is_no_pair(category: usize, back: usize) -> bool
     ensures { result ≡ no_pair category back }
 {
-    if 3 < category {
-        return true;
-    }
-    if 3 < back {
-        return true;
-    }
-    if category != Base::IMPLICIT {
-        return false;
-    }
-    back == Base::IMPLICIT
+    3 < category || (3 < back || (category == Base::IMPLICIT && back == Base::IMPLICIT))
 }
 
 // Room for two types more, each with a presence; then the numbers that the forward type and its reverse take.
-fn room_for_two(base: &[u8]) -> Told
+fn room_for_two(base: &[u8]) -> Result<(usize, usize), Refused>
     requires { Sound base.now }
-    ensures { RefusedOr base.now (room_refusals base.now) result.no (TwoFree base.now result.one result.two) }
+    ensures { RefusedOr base.now (room_refusals base.now) result (λ types. TwoFree base.now types.0 types.1) }
 {
-    let t = lookup::types::free_type(base, 0);
-    if Limits::TYPES <= t {
-        return Told::refused(14);
-    }
-    let r = lookup::types::free_type(base, t + 1);
-    if Limits::TYPES <= r {
-        return Told::refused(14);
-    }
+    let Some(t) = lookup::types::free_type(base, 0) else {
+        return Err(Refused::NoRoom);
+    };
+    let Some(r) = lookup::types::free_type(base, t + 1) else {
+        return Err(Refused::NoRoom);
+    };
     if Limits::PRESENCES < base::used::presence_count(base) + 2 {
-        return Told::refused(14);
+        return Err(Refused::NoRoom);
     }
-    Told {
-        no: 0,
-        one: t,
-        two: r,
-    }
+    Ok((t, r))
 }
 
 fn places_for(
@@ -60,20 +45,17 @@ fn places_for(
     reverse: &[u8],
     category: usize,
     back: usize,
-) -> Told
+) -> Result<(usize, usize), Refused>
     ensures { RefusedOr base.now
-        (new_pair_refusals sds name.now reverse.now category back (schema_of base.now)) result.no
-        (TwoFree base.now result.one result.two) }
+        (new_pair_refusals sds name.now reverse.now category back (schema_of base.now)) result
+        (λ types. PairReady base.now sds name.now reverse.now category back types.0 types.1) }
 {
-    let no = conditions::aimed::aimed_two(base, sds, name, reverse);
-    if no != 0 {
-        return Told::refused(no);
-    }
+    conditions::aimed::aimed_two(base, sds, name, reverse)?;
     if is_no_pair(category, back) {
-        return Told::refused(5);
+        return Err(Refused::UnknownCode);
     }
     if conditions::aimed::are_taken(base, sds, name, reverse) {
-        return Told::refused(11);
+        return Err(Refused::NameTaken);
     }
     room_for_two(base)
 }
@@ -85,16 +67,13 @@ pub fn new_pair(
     reverse: &[u8],
     category: usize,
     back: usize,
-) -> Answer
-    ensures { Kept base.old (new_pair sds name.now reverse.now category back) result base.new }
+) -> Result<Done, Refused>
+    ensures { Kept base.old (new_pair sds name.now reverse.now category back) (answered result) base.new }
 {
-    let places = places_for(base, sds, name, reverse, category, back);
-    if places.no != 0 {
-        return Answer::refused(places.no);
-    }
-    edit::write_type(base, places.one, Base::LINK, category, places.two, b"");
-    edit::put_presence(base, sds, name, places.one);
-    edit::write_type(base, places.two, Base::LINK, back, places.one, b"");
-    edit::put_presence(base, sds, reverse, places.two);
-    Answer::done(places.one, places.two, 0)
+    let (t, r) = places_for(base, sds, name, reverse, category, back)?;
+    edit::write_type(base, t, Base::LINK, category, r, b"");
+    edit::put_presence(base, sds, name, t);
+    edit::write_type(base, r, Base::LINK, back, t, b"");
+    edit::put_presence(base, sds, reverse, r);
+    Ok(Done(t, r, 0))
 }

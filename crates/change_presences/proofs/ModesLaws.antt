@@ -4,12 +4,14 @@ use native.Mathlib.Numerals.{add-one}
 use native.Mathlib.Omega.{arith}
 use mathlib.Core.Path.{◌≡◌, refl, sym, ap, ◌∙◌, subst}
 use mathlib.Core.List.{List, [], ◌∷◌, map}
-use mathlib.Core.Bool.{Bool, true, false, cond, ◌&&◌, ◌||◌, or-false}
+use mathlib.Core.Bool.{Bool, true, false, cond, ◌&&◌}
 use lib.Dec.{ltb, eqb}
 use lib.ListN.{length, get_or, set}
 use lib.Seq.{set-get_or}
 use borrow.Author.Tests.{eqb-true, eq-eqb, ne_eqb, ltb-false}
-use Rattle.rules.specs.01-Lists.{any, all, among, rising}
+use Rattle.std.specs.Prelude.{Option, IfSome, option_to_list}
+use Rattle.std.specs.Option.{unwrap_or}
+use Rattle.rules.specs.01-Lists.{all, among, rising}
 use Rattle.rules.specs.03-Names.{Name}
 use Rattle.rules.specs.04-Schema.{Schema, Modes, all_modes, Presence, nowhere, with_modes, with_reverse, type_named, with_presences}
 use Rattle.rules.specs.06-Good.{presence_before, Good}
@@ -18,20 +20,20 @@ use Rattle.rules.specs.09-Refusals.{Outcome, unknown_mode}
 use Rattle.rules.specs.09-Refusals.Outcome.{done}
 use Rattle.rules.specs.10-Changes.{modes_set, set_modes, set_modes_refusals}
 use Rattle.rules.proofs.Bools.{and_both, or_neither}
-use Rattle.rules.proofs.01-Lists.{map_same}
-use Rattle.rules.proofs.05-Descent.{used_below}
 use Rattle.rules.proofs.09-Refusals.{Left}
 use Rattle.rules.proofs.Modes.{SameButModes, perhaps_moded, modes_rise}
 use Rattle.base.specs.Rows.{presence_at}
 use Rattle.base.specs.Back.{schema_of, presence_count, presence_shown}
 use Rattle.base.specs.Stored.{modes_row, Stored, Shows}
+use Rattle.base.specs.Tested.{Tested}
 use Rattle.base.proofs.Back.{sound_good}
 use Rattle.base.proofs.Shown.{presences_long, presence_is}
 use Rattle.base.proofs.StoredLaws.{sound_stored, shows_schema, shows_next}
 use Rattle.base.proofs.TestedLaws.{tested_passes}
-use Rattle.conditions.specs.Aimed.{Aimed, RefusedOr, WithReverse}
+use Rattle.conditions.specs.Aimed.{Aimed, TypeOf}
 use Rattle.conditions.specs.Reverse.{ReverseOf}
 use Rattle.conditions.proofs.AimedLaws.{all_passed, aimed_well}
+use Rattle.in_use.proofs.HeldLaws.{listed}
 use Rattle.change_presences.specs.Modes.{of_either, reset, changed_at, changed_to}
 
 -- ---- the first rows of a list changed
@@ -78,39 +80,40 @@ module _ (f : Presence → Presence) where
 
 -- ---- one row
 
-module _ (d t r : ℕ) (usage definition : Modes) where
-  pub reset_same : (p : Presence) → SameButModes p (reset d t r usage definition p)
-  reset_same p = perhaps_moded (of_either d t r p) usage definition p
+module _ (d t : ℕ) (reverse : Option ℕ) (usage definition : Modes) where
+  pub reset_same : (p : Presence) → SameButModes p (reset d t reverse usage definition p)
+  reset_same p = perhaps_moded (of_either d t reverse p) usage definition p
 
   module _ (b : List ℕ) (i : ℕ) (h : i < presence_count b) where
     abbrev ps : List Presence
     ps = (schema_of b).presences
 
-    here : (x : Bool) → x ≡ of_either d t r (presence_shown b i) → changed_at (reset d t r usage definition) i ps
+    here : (x : Bool) → x ≡ of_either d t reverse (presence_shown b i) → changed_at (reset d t reverse usage definition) i ps
         ≡ set ps i (cond x (with_modes usage definition (get_or ps i nowhere)) (get_or ps i nowhere))
     here x e =
         ap (λ (y : Bool). set ps i (cond y (with_modes usage definition (get_or ps i nowhere)) (get_or ps i nowhere)))
-        (ap (of_either d t r) (presence_is b i nowhere h) ∙ sym e)
+        (ap (of_either d t reverse) (presence_is b i nowhere h) ∙ sym e)
 
-    pub row_passed : of_either d t r (presence_shown b i) ≡ false → Stored b
-        → Shows b (with_presences (schema_of b) (changed_at (reset d t r usage definition) i ps))
+    pub row_passed : of_either d t reverse (presence_shown b i) ≡ false → Stored b
+        → Shows b (with_presences (schema_of b) (changed_at (reset d t reverse usage definition) i ps))
     row_passed e x =
         subst (λ (l : List Presence). Shows b (with_presences (schema_of b) l)) (sym (here false (sym e) ∙ set-get_or ps i nowhere))
         (record { rows = x.rows; shown = x.shown })
 
-    pub row_reset : of_either d t r (presence_shown b i) ≡ true → changed_at (reset d t r usage definition) i ps ≡ modes_row i usage definition ps
+    pub row_reset : of_either d t reverse (presence_shown b i) ≡ true
+        → changed_at (reset d t reverse usage definition) i ps ≡ modes_row i usage definition ps
     row_reset e = here true (sym e)
 
-    pub row_aimed : of_either d t r (presence_shown b i) ≡ true → (d ≡ 0 → ⊥) → get_or b (presence_at i) 0 ≡ 0 → ⊥
+    pub row_aimed : of_either d t reverse (presence_shown b i) ≡ true → (d ≡ 0 → ⊥) → get_or b (presence_at i) 0 ≡ 0 → ⊥
     row_aimed e outside z =
         let p = presence_shown b i in
-        outside (sym (eqb-true p.sds d (and_both (eqb p.sds d) (eqb p.type t || eqb p.type r) e).0) ∙ z)
+        outside (sym (eqb-true p.sds d (and_both (eqb p.sds d) (among (t ∷ option_to_list reverse) p.type) e).0) ∙ z)
 
 -- ---- row by row
 
-module _ {b₀ : List ℕ} (sound : Sound b₀) (d t r : ℕ) (usage definition : Modes) where
+module _ {b₀ : List ℕ} (sound : Sound b₀) (d t : ℕ) (reverse : Option ℕ) (usage definition : Modes) where
   abbrev f : Presence → Presence
-  f = reset d t r usage definition
+  f = reset d t reverse usage definition
 
   -- the first i rows have been asked
   abbrev pub after : ℕ → Schema
@@ -129,7 +132,7 @@ module _ {b₀ : List ℕ} (sound : Sound b₀) (d t r : ℕ) (usage definition 
     asked_rise =
         ap (λ (s : Schema). rising presence_before (changed_at f i s.presences)) (shows_schema x)
         ∙ ap (rising presence_before) (changed_more f i (schema_of b₀).presences)
-        ∙ changed_rise f (reset_same d t r usage definition) (sound_good sound) (suc i)
+        ∙ changed_rise f (reset_same d t reverse usage definition) (sound_good sound) (suc i)
 
     pub asked_more : {b' : List ℕ} → Shows b' (with_presences (schema_of b) (changed_at f i (schema_of b).presences)) → Shows b' (after (i + 1))
     asked_more {b'} y =
@@ -144,15 +147,12 @@ module _ {b₀ : List ℕ} (sound : Sound b₀) (d t r : ℕ) (usage definition 
 
 -- ---- the tests of a row
 
-module _ (d t r : ℕ) (p : Presence) where
-  pub in_another : (p.sds ≡ d → ⊥) → false ≡ of_either d t r p
+module _ (d t : ℕ) (reverse : Option ℕ) (p : Presence) where
+  pub in_another : (p.sds ≡ d → ⊥) → false ≡ of_either d t reverse p
   in_another n = rw (ne_eqb p.sds d n)
 
-  pub of_first : p.sds ≡ d → p.type ≡ t → true ≡ of_either d t r p
-  of_first e q = rw (eq-eqb p.sds d e, eq-eqb p.type t q)
-
-  pub of_second : p.sds ≡ d → (p.type ≡ t → ⊥) → eqb p.type r ≡ of_either d t r p
-  of_second e n = rw (eq-eqb p.sds d e, ne_eqb p.type t n)
+  pub in_it : p.sds ≡ d → among (t ∷ option_to_list reverse) p.type ≡ of_either d t reverse p
+  in_it e = rw (eq-eqb p.sds d e)
 
 -- ---- the rule
 
@@ -164,39 +164,33 @@ pub set_left : (d : ℕ) (n : Name) (usage definition : Modes) (s : Schema)
 unfolding set_modes
 set_left d n usage definition s = record { is = refl }
 
--- a type and its reverse by their numbers, 128 where it has none, which no type has
-pub resets_all : {s : Schema} → Good s → (d : ℕ) {t r : ℕ} (usage definition : Modes) → ReverseOf s t r
-    → modes_set d (with_reverse s t) usage definition s.presences ≡ map (reset d t r usage definition) s.presences
-unfolding modes_set any
-resets_all {s} good d {t} {r} usage definition pair =
-    map_same s.presences (λ p m.
-    ap (λ (x : Bool). cond (eqb p.sds d && x) (with_modes usage definition p) p)
-    (ap (λ (l : List ℕ). among (t ∷ l) p.type) pair.is
-    ∙ go (ltb r 128) refl p.type (used_below good p.type (good.presence_type p m))))
-  where
-    go : (x : Bool) → ltb r 128 ≡ x → (u : ℕ) → u < 128 → eqb u t || any (eqb u) (cond x (r ∷ []) []) ≡ eqb u t || eqb u r
-    go true e u h = ap (λ (y : Bool). eqb u t || y) (or-false (eqb u r))
-    go false e u h = ap (λ (y : Bool). eqb u t || y) (sym (ne_eqb u r (λ q. omega (arith, ltb-false r 128 e))))
+-- a type and its reverse by their numbers
+pub resets_all : {s : Schema} (d : ℕ) {t : ℕ} (reverse : Option ℕ) (usage definition : Modes) → ReverseOf s t (unwrap_or reverse 128)
+    → IfSome reverse (λ r. r < 128)
+    → modes_set d (with_reverse s t) usage definition s.presences ≡ map (reset d t reverse usage definition) s.presences
+unfolding modes_set
+resets_all {s} d {t} reverse usage definition pair below =
+    ap (λ (ts : List ℕ). map (λ p. cond (eqb p.sds d && among (t ∷ ts) p.type) (with_modes usage definition p) p) s.presences)
+    (pair.is ∙ listed reverse below)
 
 -- what the call goes on with where nothing refuses
-pub record Through (b : List ℕ) (d : ℕ) (n : Name) (usage definition : Modes) (t r : ℕ) : Type 0 where
+pub record Through (b : List ℕ) (d : ℕ) (n : Name) (usage definition : Modes) (t : ℕ) (reverse : Option ℕ) : Type 0 where
   pub aim : Aimed b d
   pub small : (usage < 256) × (definition < 256)
   pub rule : set_modes d n usage definition (schema_of b)
-      ≡ done 0 0 0 (with_presences (schema_of b) (map (reset d t r usage definition) (schema_of b).presences))
+      ≡ done 0 0 0 (with_presences (schema_of b) (map (reset d t reverse usage definition) (schema_of b).presences))
 
-pub goes_through : {b : List ℕ} {d : ℕ} {n : Name} (usage definition : Modes) {no t r : ℕ}
-    → RefusedOr b (set_modes_refusals d n usage definition (schema_of b)) no (WithReverse b d n t r) → no ≡ 0 → Through b d n usage definition t r
+pub goes_through : {b : List ℕ} (d : ℕ) (n : Name) (usage definition : Modes) {t : ℕ} (reverse : Option ℕ)
+    → Tested b (set_modes_refusals d n usage definition (schema_of b)) 0 0 → TypeOf b d n t → ReverseOf (schema_of b) t (unwrap_or reverse 128)
+    → IfSome reverse (λ r. r < 128) → Through b d n usage definition t reverse
 unfolding all unknown_mode
-goes_through {b} {d} {n} usage definition told z =
-    let aim = aimed_well _ told.told z in
-    let both = told.so z in
-    let (u, f) = or_neither (ltb all_modes usage) (ltb all_modes definition) ((all_passed told.told z refl).fails 19) in
+goes_through {b} d n usage definition reverse told found pair below =
+    let (u, f) = or_neither (ltb all_modes usage) (ltb all_modes definition) ((all_passed told refl refl).fails 19) in
     record {
-      aim = aim;
+      aim = aimed_well _ told refl;
       small = (omega (arith, ltb-false all_modes usage u), omega (arith, ltb-false all_modes definition f));
-      rule = tested_passes told.told z refl (set_left d n usage definition (schema_of b))
+      rule = tested_passes told refl refl (set_left d n usage definition (schema_of b))
           ∙ ap (λ (y : ℕ). done 0 0 0 (with_presences (schema_of b) (modes_set d (with_reverse (schema_of b) y) usage definition (schema_of b).presences)))
-          (sym both.type.named)
-          ∙ ap (λ (ps : List Presence). done 0 0 0 (with_presences (schema_of b) ps)) (resets_all (sound_good aim.sound) d usage definition both.pair);
+          (sym found.named)
+          ∙ ap (λ (ps : List Presence). done 0 0 0 (with_presences (schema_of b) ps)) (resets_all d reverse usage definition pair below);
     }

@@ -2,9 +2,11 @@
 use Prim.Native.Nat.{ℕ, ◌<◌}
 use native.Mathlib.Omega.{arith}
 use mathlib.Core.Path.{◌≡◌, refl, sym, ap, ◌∙◌, subst}
-use mathlib.Core.List.{List, [], ◌∷◌}
+use mathlib.Core.List.{List, [], ◌∷◌, ◌++◌}
 use mathlib.Core.Bool.{Bool, true, false, ◌&&◌, ◌||◌, or-false}
 use lib.Dec.{eqb}
+use Rattle.std.specs.Prelude.{Option, Some}
+use Rattle.std.specs.Option.{unwrap_or}
 use borrow.Author.Tests.{eqb-true}
 use Rattle.rules.specs.01-Lists.{◌∈◌, any, all, among, without}
 use Rattle.rules.specs.03-Names.{Name}
@@ -12,29 +14,29 @@ use Rattle.rules.specs.04-Schema.{Schema, Presence, holds_type, present, type_na
 use Rattle.rules.specs.04-Schema.Kind.{unused}
 use Rattle.rules.specs.06-Good.{Good}
 use Rattle.rules.specs.07-Picture.{Sound, picture}
-use Rattle.rules.specs.09-Refusals.{Outcome, Refusals}
+use Rattle.rules.specs.09-Refusals.{not_present}
 use Rattle.rules.specs.09-Refusals.Outcome.{done}
 use Rattle.rules.specs.10-Changes.{less_gone, less_type, obstacles, remove_type, remove_type_refusals, remove_number, remove_number_refusals}
 use Rattle.rules.proofs.Bools.{and_both}
 use Rattle.rules.proofs.01-Lists.{any_at, any_where}
 use Rattle.rules.proofs.Edits.{without_in, without_keeps, without_same, without_twice}
-use Rattle.rules.proofs.NameTests.{type_present}
-use Rattle.rules.proofs.08-Working.{named_present}
 use Rattle.rules.proofs.09-Refusals.{Left}
 use Rattle.base.specs.Back.{schema_of}
 use Rattle.base.specs.Stored.{Shows, Stored, Becomes}
 use Rattle.base.specs.Tested.{Tested}
 use Rattle.base.proofs.Back.{sound_good}
 use Rattle.base.proofs.StoredLaws.{shows_next, shows_has}
-use Rattle.base.proofs.TestedLaws.{Come, come_rest, tested_sound, tested_passes}
-use Rattle.conditions.specs.Aimed.{TypeOf, WithReverse, RefusedOr}
+use Rattle.base.proofs.TestedLaws.{begun_passes, tested_passes}
+use Rattle.conditions.specs.Aimed.{sds_refusals, type_refusals, named_refusals, TypeOf}
 use Rattle.conditions.specs.Reverse.{ReverseOf}
-use Rattle.conditions.proofs.AimedLaws.{all_passed, name_borne}
 use Rattle.conditions.proofs.ReverseLaws.{one_is, none_is}
-use Rattle.change_presences.specs.Remove.{HeldOnce, less_presence, RefusedTelling, Unheld}
+use Rattle.change_presences.specs.Remove.{HeldOnce, less_presence, removal}
 use Rattle.change_presences.proofs.HeldLaws.{held}
 
 -- ---- the reverse
+
+pub the_reverse : {s : Schema} {t : ℕ} {o : Option ℕ} {r : ℕ} → ReverseOf s t (unwrap_or o 128) → o ≡ Some r → ReverseOf s t r
+the_reverse {s} {t} rev e = subst (λ (x : Option ℕ). ReverseOf s t (unwrap_or x 128)) e rev
 
 module _ {s : Schema} (good : Good s) where
   -- its reverse is there too, and still is when it is gone itself
@@ -79,83 +81,35 @@ module _ (b : List ℕ) (t : ℕ) where
 abbrev cleared : ℕ → List ℕ → Schema → Schema
 cleared d ts s = less_gone ts (with_presences s (without (λ p. eqb p.sds d && among ts p.type) s.presences))
 
--- a removal of type t from SDS d that nothing stands in the way of
-abbrev removal : ℕ → ℕ → Schema → Outcome Schema
-removal d t s = done t 0 0 (less_type d t s)
+pub removal_left : (d t : ℕ) (s : Schema) → Left (removal d t s) (obstacles d t s) (done t 0 0 (less_type d t s))
+removal_left d t s = record { is = refl }
 
-pub remove_left : (d : ℕ) (n : Name) (s : Schema) → Left (remove_type d n s) (remove_type_refusals d n s) (removal d (type_named s d n) s)
+pub remove_left : (d : ℕ) (n : Name) (s : Schema)
+    → Left (remove_type d n s) (remove_type_refusals d n s) (done (type_named s d n) 0 0 (less_type d (type_named s d n) s))
 unfolding remove_type
 remove_left d n s = record { is = refl }
 
-pub number_left : (d t : ℕ) (s : Schema) → Left (remove_number d t s) (remove_number_refusals d t s) (removal d t s)
+pub number_left : (d t : ℕ) (s : Schema) → Left (remove_number d t s) (remove_number_refusals d t s) (done t 0 0 (less_type d t s))
 unfolding remove_number
 number_left d t s = record { is = refl }
 
--- refused for its name, or for an obstacle; or not
-module _ {b : List ℕ} {rs : Refusals} {So : Type 0} where
-  pub refused_plainly : {no one : ℕ} → RefusedOr b rs no So → one ≡ 0 → RefusedTelling b rs no one So
-  refused_plainly r e = record { value = 0; told = r.told; tells = λ _. e; so = r.so }
-
-  pub refused_held : {no one : ℕ} → Tested b rs no one → (no ≡ 0 → ⊥) → RefusedTelling b rs no one So
-  refused_held t n = record { value = _; told = t; tells = λ _. refl; so = λ z. absurd (n z) }
-
-  pub not_held : {no value t : ℕ} → Tested b rs no value → no ≡ 0 → So → RefusedTelling b rs 0 t So
-  not_held {no} {value} t z x = record {
-    value = value;
-    told = subst (λ (y : ℕ). Tested b rs y value) z t;
-    tells = λ n. absurd (n refl);
-    so = λ _. x;
-  }
-
--- what is told of the obstacles of type t is told of a call that tests them last
-pub obstacles_told : {b : List ℕ} {whole : Refusals} (d : ℕ) {t u no one two : ℕ} {So : Type 0} → Come b whole (obstacles d u (schema_of b)) → t ≡ u
-    → (Unheld b t one two → So) → RefusedTelling b (obstacles d t (schema_of b)) no one (Unheld b t one two) → RefusedTelling b whole no one So
-obstacles_told {b} d {no = k} come e f r = record {
-  value = r.value;
-  told = come_rest come (subst (λ (y : ℕ). Tested b (obstacles d y (schema_of b)) k r.value) e r.told);
-  tells = r.tells;
-  so = λ z. f (r.so z);
-}
-
--- the type that was named, and its reverse
-pub named_unheld : {b : List ℕ} {d : ℕ} {n : Name} {t one two : ℕ} → TypeOf b d n t → Unheld b t one two → WithReverse b d n one two
-named_unheld {b} {d} {n} {two = r} found u = record {
-  type = subst (λ (x : ℕ). TypeOf b d n x) (sym u.type) found;
-  pair = subst (λ (x : ℕ). ReverseOf (schema_of b) x r) (sym u.type) u.pair;
-}
-
--- what a call goes on with where nothing refuses
-pub record Through (b : List ℕ) (d t r : ℕ) (rule : Schema → Outcome Schema) : Type 0 where
-  pub sound : Sound b
-  pub there : present (schema_of b) d t ≡ true
-  pub pair : ReverseOf (schema_of b) t r
-  pub done_so : rule (schema_of b) ≡ removal d t (schema_of b)
-
-module _ {b : List ℕ} {d no one two : ℕ} where
-  pub goes_through : {n : Name} → RefusedTelling b (remove_type_refusals d n (schema_of b)) no one (WithReverse b d n one two) → no ≡ 0
-      → Through b d one two (remove_type d n)
+module _ {b : List ℕ} (d : ℕ) where
+  -- where nothing stands in the way
+  pub unheld : (t : ℕ) → Tested b (obstacles d t (schema_of b)) 0 0 → removal d t (schema_of b) ≡ done t 0 0 (less_type d t (schema_of b))
   unfolding all
-  goes_through {n} told z =
-      let s = schema_of b in
-      let found = told.so z in record {
-        sound = tested_sound told.told z;
-        there = named_present s d n (name_borne s d n ((all_passed told.told z refl).fails 6)) found.type.named;
-        pair = found.pair;
-        done_so = tested_passes told.told z refl (remove_left d n s) ∙ ap (λ (y : ℕ). removal d y s) (sym found.type.named);
-      }
+  unheld t told = tested_passes told refl refl (removal_left d t (schema_of b))
 
-  pub number_through : {t : ℕ} → RefusedTelling b (remove_number_refusals d t (schema_of b)) no one (Unheld b t one two) → no ≡ 0
-      → Through b d one two (remove_number d t)
+  -- by its name, and by its number: what is left once the type is found
+  pub remove_named : (n : Name) {t : ℕ} → Tested b (named_refusals (schema_of b) d n) 0 0 → TypeOf b d n t
+      → remove_type d n (schema_of b) ≡ removal d t (schema_of b)
   unfolding all
-  number_through {t} told z =
-      let s = schema_of b in
-      let found = told.so z in
-      subst (λ (x : ℕ). Through b d x two (remove_number d t)) (sym found.type) (record {
-        sound = tested_sound told.told z;
-        there = type_present s d t ((all_passed told.told z refl).fails 6);
-        pair = found.pair;
-        done_so = tested_passes told.told z refl (number_left d t s);
-      })
+  remove_named n told found =
+      (begun_passes _ told refl refl (remove_left d n (schema_of b))).is ∙ ap (λ (y : ℕ). removal d y (schema_of b)) (sym found.named)
+
+  pub remove_there : (t : ℕ) → Tested b (sds_refusals (schema_of b) d ++ type_refusals (not_present (schema_of b) d t)) 0 0
+      → remove_number d t (schema_of b) ≡ removal d t (schema_of b)
+  unfolding all
+  remove_there t told = (begun_passes _ told refl refl (number_left d t (schema_of b))).is
 
 one_out : (d t : ℕ) (ps : List Presence) → without (holds_type d t) ps ≡ without (λ p. eqb p.sds d && among (t ∷ []) p.type) ps
 unfolding any

@@ -2,8 +2,8 @@
 use Prim.Native.Nat.{ℕ, zero, suc, ◌<◌}
 use native.Mathlib.Omega.{arith}
 use mathlib.Core.Path.{◌≡◌, refl, sym, ap, ◌∙◌}
-use mathlib.Core.List.{List, [], ◌∷◌}
-use mathlib.Core.Bool.{Bool, true, false, not, true≢false}
+use mathlib.Core.List.{List, [], ◌∷◌, ◌++◌}
+use mathlib.Core.Bool.{Bool, true, false, not, ◌||◌, true≢false}
 use lib.Dec.{eqb}
 use lib.ListN.{length}
 use borrow.Author.Tests.{eqb-true, eq-eqb}
@@ -13,7 +13,7 @@ use Rattle.rules.specs.03-Names.{Name, well_formed, same_name}
 use Rattle.rules.specs.04-Schema.{Schema, Presence, new_presence, with_modes, holds_type, holds_name, bears, type_named, type_presence, with_presences}
 use Rattle.rules.specs.06-Good.{presence_before, Good}
 use Rattle.rules.specs.07-Picture.{Sound, picture}
-use Rattle.rules.specs.09-Refusals.{Outcome, borne_by_another}
+use Rattle.rules.specs.09-Refusals.{Refusals, ◌when◌, malformed, no_such_name, not_present, borne_by_another}
 use Rattle.rules.specs.09-Refusals.Outcome.{done}
 use Rattle.rules.specs.10-Changes.{renamed, with_name, rename, rename_refusals, rename_number, rename_number_refusals}
 use Rattle.rules.proofs.Bools.{and_both, and_of}
@@ -29,12 +29,12 @@ use Rattle.base.specs.Tested.{Tested}
 use Rattle.base.proofs.Back.{sound_good}
 use Rattle.base.proofs.Shown.{presences_long, presence_there}
 use Rattle.base.proofs.StoredLaws.{sound_stored, shows_schema}
-use Rattle.base.proofs.TestedLaws.{tested_passes}
-use Rattle.conditions.specs.Aimed.{TypeOf, RefusedOr}
+use Rattle.base.proofs.TestedLaws.{begun_passes}
+use Rattle.conditions.specs.Aimed.{aim_refusals, type_refusals, TypeOf}
 use Rattle.lookup.proofs.NamedLaws.{borne, not_borne}
 use Rattle.conditions.proofs.AimedLaws.{all_passed, aimed_well, formed, both_formed, name_borne}
 use Rattle.change_presences.specs.Remove.{less_presence}
-use Rattle.change_presences.specs.Rename.{Nameable}
+use Rattle.change_presences.specs.Rename.{Nameable, renaming}
 use Rattle.change_presences.proofs.HeldLaws.{held_row, row_taken}
 use Rattle.rules.proofs.08-Working.{bearer, named_present, holder}
 use Rattle.lookup.proofs.Walked.{presence_first}
@@ -83,36 +83,44 @@ pub number_left : (d t : ℕ) (new : Name) (s : Schema) → Left (rename_number 
 unfolding rename_number
 number_left d t new s = record { is = refl }
 
--- what a call goes on with where nothing refuses
-pub record Through (b : List ℕ) (d t : ℕ) (new : Name) (rule : Schema → Outcome Schema) : Type 0 where
-  pub nameable : Nameable b d t new
-  pub done_so : rule (schema_of b) ≡ done 0 0 0 (with_name d new t (schema_of b))
+pub renaming_left : (d t : ℕ) (n : Name) (s : Schema)
+    → Left (renaming d t n s) ((11 when borne_by_another s d t n) ∷ []) (done 0 0 0 (with_name d n t s))
+renaming_left d t n s = record { is = refl }
 
-module _ {b : List ℕ} {d : ℕ} (new : Name) {no : ℕ} where
-  pub goes_through : {n : Name} {t : ℕ} → RefusedOr b (rename_refusals d n new (schema_of b)) no (TypeOf b d n t) → no ≡ 0
-      → Through b d t new (rename d n new)
+-- what the refusals of a rename come to once the type is found, by its name, and by its number
+abbrev pub named_first : ℕ → Name → Name → Schema → Refusals
+named_first d n new s = aim_refusals s d (malformed n || malformed new) ++ type_refusals (no_such_name s d n)
+
+abbrev pub number_first : ℕ → ℕ → Name → Schema → Refusals
+number_first d t new s = aim_refusals s d (malformed new) ++ type_refusals (not_present s d t)
+
+module _ {b : List ℕ} (d : ℕ) (new : Name) where
+  pub nameable_named : (n : Name) {t : ℕ} → Tested b (named_first d n new (schema_of b)) 0 0 → TypeOf b d n t → Nameable b d t new
   unfolding all
-  goes_through {n} told z =
+  nameable_named n told found =
       let s = schema_of b in
-      let p = all_passed told.told z refl in
-      let q = (told.so z).named in record {
-        nameable = record {
-          aim = aimed_well _ told.told z;
-          there = named_present s d n (name_borne s d n (p.fails 6)) q;
-          formed = (both_formed n new (p.fails 4)).1;
-          free = ap (λ (y : ℕ). borne_by_another s d y new) q ∙ p.fails 11;
-        };
-        done_so = tested_passes told.told z refl (rename_left d n new s) ∙ ap (λ (y : ℕ). done 0 0 0 (with_name d new y s)) (sym q);
+      let p = all_passed told refl refl in record {
+        aim = aimed_well _ told refl;
+        there = named_present s d n (name_borne s d n (p.fails 6)) found.named;
+        formed = (both_formed n new (p.fails 4)).1;
       }
 
-  pub number_through : (t : ℕ) → Tested b (rename_number_refusals d t new (schema_of b)) no 0 → no ≡ 0 → Through b d t new (rename_number d t new)
+  pub named_on : (n : Name) {t : ℕ} → Tested b (named_first d n new (schema_of b)) 0 0 → TypeOf b d n t
+      → rename d n new (schema_of b) ≡ renaming d t new (schema_of b)
   unfolding all
-  number_through t told z =
+  named_on n told found =
+      (begun_passes _ told refl refl (rename_left d n new (schema_of b))).is ∙ ap (λ (y : ℕ). renaming d y new (schema_of b)) (sym found.named)
+
+  pub nameable_number : (t : ℕ) → Tested b (number_first d t new (schema_of b)) 0 0 → Nameable b d t new
+  unfolding all
+  nameable_number t told =
       let s = schema_of b in
-      let p = all_passed told z refl in record {
-        nameable = record { aim = aimed_well _ told z; there = type_present s d t (p.fails 6); formed = formed new (p.fails 4); free = p.fails 11 };
-        done_so = tested_passes told z refl (number_left d t new s);
-      }
+      let p = all_passed told refl refl in
+      record { aim = aimed_well _ told refl; there = type_present s d t (p.fails 6); formed = formed new (p.fails 4) }
+
+  pub number_on : (t : ℕ) → Tested b (number_first d t new (schema_of b)) 0 0 → rename_number d t new (schema_of b) ≡ renaming d t new (schema_of b)
+  unfolding all
+  number_on t told = (begun_passes _ told refl refl (number_left d t new (schema_of b))).is
 
 -- the name is another's exactly where a type is found under it, and it is another
 module _ {s : Schema} {d : ℕ} {n : Name} {r : ℕ} (found : NamedIn s d n r) where

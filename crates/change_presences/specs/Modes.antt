@@ -1,14 +1,15 @@
 -- Presences that get other modes, row by row.
-use Rattle.std.specs.Prelude.{ℕ, zero, suc, List, [], ◌∷◌, Bool, cond, ◌&&◌, ◌||◌, eqb, get_or, set}
+use Rattle.std.specs.Prelude.{ℕ, zero, suc, List, [], ◌∷◌, Bool, cond, ◌&&◌, eqb, get_or, set, Option, option_to_list}
+use Rattle.rules.specs.01-Lists.{among}
 use Rattle.rules.specs.04-Schema.{Modes, Presence, nowhere, with_modes}
 
--- p is of type t or type r in SDS d
-abbrev pub of_either : ℕ → ℕ → ℕ → Presence → Bool
-of_either d t r p = eqb p.sds d && (eqb p.type t || eqb p.type r)
+-- p is of type t or its reverse in SDS d
+abbrev pub of_either : ℕ → ℕ → Option ℕ → Presence → Bool
+of_either d t reverse p = eqb p.sds d && among (t ∷ option_to_list reverse) p.type
 
 -- p, with these modes if it is
-abbrev pub reset : ℕ → ℕ → ℕ → Modes → Modes → Presence → Presence
-reset d t r usage definition p = cond (of_either d t r p) (with_modes usage definition p) p
+abbrev pub reset : ℕ → ℕ → Option ℕ → Modes → Modes → Presence → Presence
+reset d t reverse usage definition p = cond (of_either d t reverse p) (with_modes usage definition p) p
 
 -- the presences, row i changed by f
 abbrev pub changed_at : (Presence → Presence) → ℕ → List Presence → List Presence

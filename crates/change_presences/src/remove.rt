@@ -1,19 +1,19 @@
 // A type removed from an SDS, with its reverse.
-ghost use Rattle.std.specs.Prelude.{◌≡◌, [], ◌∷◌, true, ◌<◌};
+ghost use Rattle.std.specs.Prelude.{◌≡◌, [], ◌∷◌, true, ◌<◌, IfSome};
+ghost use Rattle.std.specs.Option.{unwrap_or};
 ghost use Rattle.rules.specs.02-Limits.{limits};
 ghost use Rattle.rules.specs.04-Schema.{present};
 ghost use Rattle.rules.specs.07-Picture.{Sound, picture};
-ghost use Rattle.rules.specs.10-Changes.{obstacles, less_gone, less_type, remove_type, remove_type_refusals, remove_number, remove_number_refusals};
+ghost use Rattle.rules.specs.09-Refusals.{answered};
+ghost use Rattle.rules.specs.10-Changes.{less_gone, less_type, remove_type, remove_number};
 ghost use Rattle.rules.specs.12-Contracts.{Kept};
 ghost use Rattle.base.specs.Back.{schema_of};
 ghost use Rattle.base.specs.Stored.{Stored, Shows};
-ghost use Rattle.conditions.specs.Aimed.{WithReverse};
 ghost use Rattle.conditions.specs.Reverse.{ReverseOf};
-ghost use Rattle.change_presences.specs.Remove.{HeldOnce, less_presence, RefusedTelling, Unheld};
+ghost use Rattle.change_presences.specs.Remove.{HeldOnce, less_presence, removal};
 
 use base::Base;
-use conditions::aimed::Told;
-use rules::{Answer, Limits};
+use rules::{Done, Refused};
 
 // The presence of type t in SDS d goes.
 fn take_out(base: &mut [u8], d: usize, t: usize)
@@ -21,7 +21,7 @@ fn take_out(base: &mut [u8], d: usize, t: usize)
     requires held_once { HeldOnce (schema_of base.old) d t }
     ensures { Shows base.new (less_presence d t (schema_of base.old)) }
 {
-    let row = lookup::presences::presence_row(base, d, t);
+    let row = lookup::presences::presence_row(base, d, t).unwrap();
     edit::take_presence(base, row);
 }
 
@@ -36,89 +36,50 @@ fn drop_if_gone(base: &mut [u8], t: usize)
     }
 }
 
-// What stands in the way of type t in SDS d, and the type that it tells; then t and its reverse, as many as there are types where it has
-// none.
-fn unheld(base: &[u8], d: usize, t: usize) -> Told
-    requires { Sound base.now × (t < limits.types) }
-    ensures { RefusedTelling base.now (obstacles d t (schema_of base.now)) result.no result.one
-        (Unheld base.now t result.one result.two) }
-{
-    let reverse = conditions::reverse_of(base, t);
-    let held = in_use::obstacle(base, d, t, reverse);
-    if held.no != 0 {
-        return held;
-    }
-    Told {
-        no: 0,
-        one: t,
-        two: reverse,
-    }
-}
-
-// What the removal tests, in the order of its refusals, and the type that one tells; then the type that is named and its reverse.
-fn removable(base: &[u8], sds: usize, name: &[u8]) -> Told
-    ensures { RefusedTelling base.now (remove_type_refusals sds name.now (schema_of base.now))
-        result.no result.one (WithReverse base.now sds name.now result.one result.two) }
-{
-    let no = conditions::aimed::aimed(base, sds, name);
-    let told = conditions::aimed::named(base, sds, name, no);
-    if told.no != 0 {
-        return Told::telling(told.no, 0);
-    }
-    unheld(base, sds, told.one)
-}
-
-// The same of a type by its number.
-fn removable_number(base: &[u8], sds: usize, t: usize) -> Told
-    ensures { RefusedTelling base.now (remove_number_refusals sds t (schema_of base.now)) result.no result.one
-        (Unheld base.now t result.one result.two) }
-{
-    let no = conditions::aimed::aimed_at(base, sds);
-    if no != 0 {
-        return Told::telling(no, 0);
-    }
-    if !conditions::is_present(base, sds, t) {
-        return Told::telling(6, 0);
-    }
-    unheld(base, sds, t)
-}
-
-// Type t goes from SDS d, and its reverse r with it, if it has one.
-fn take_type(base: &mut [u8], d: usize, t: usize, r: usize)
+// Type t goes from SDS d, and its reverse with it, if it has one.
+fn take_type(base: &mut [u8], d: usize, t: usize, reverse: Option<usize>)
     requires sound { Sound base.old × (present (schema_of base.old) d t ≡ true) }
-    requires reverse_of { ReverseOf (schema_of base.old) t r }
+    requires reverse_of { ReverseOf (schema_of base.old) t (unwrap_or reverse limits.types) }
+    requires below { IfSome reverse (λ r. r < limits.types) }
     ensures { base.new ≡ picture (less_type d t (schema_of base.old)) }
 {
     take_out(base, d, t);
-    if r == Limits::TYPES {
+    let Some(r) = reverse else {
         drop_if_gone(base, t);
         return;
-    }
+    };
     take_out(base, d, r);
     drop_if_gone(base, t);
     drop_if_gone(base, r);
 }
 
-// A type, by its name, goes from an SDS.
-pub fn remove_type(base: &mut [u8], sds: usize, name: &[u8]) -> Answer
-    ensures { Kept base.old (remove_type sds name.now) result base.new }
+// Type t goes from SDS d where nothing stands in the way, with which every removal ends.
+fn remove(base: &mut [u8], d: usize, t: usize) -> Result<Done, Refused>
+    requires { Sound base.old × (present (schema_of base.old) d t ≡ true) }
+    ensures { Kept base.old (removal d t) (answered result) base.new }
 {
-    let told = removable(base, sds, name);
-    if told.no != 0 {
-        return Answer::telling(told.no, told.one);
-    }
-    take_type(base, sds, told.one, told.two);
-    Answer::done(told.one, 0, 0)
+    let reverse = conditions::reverse_of(base, t);
+    in_use::obstacle(base, d, t, reverse)?;
+    take_type(base, d, t, reverse);
+    Ok(Done(t, 0, 0))
+}
+
+// A type, by its name, goes from an SDS.
+pub fn remove_type(base: &mut [u8], sds: usize, name: &[u8]) -> Result<Done, Refused>
+    ensures { Kept base.old (remove_type sds name.now) (answered result) base.new }
+{
+    conditions::aimed::aimed(base, sds, name)?;
+    let t = conditions::aimed::named(base, sds, name)?;
+    remove(base, sds, t)
 }
 
 // A type, by its number, goes from an SDS.
-pub fn remove_number(base: &mut [u8], sds: usize, t: usize) -> Answer
-    ensures { Kept base.old (remove_number sds t) result base.new }
+pub fn remove_number(base: &mut [u8], sds: usize, t: usize) -> Result<Done, Refused>
+    ensures { Kept base.old (remove_number sds t) (answered result) base.new }
 {
-    let told = removable_number(base, sds, t);
-    if told.no != 0 {
-        return Answer::telling(told.no, told.one);
+    conditions::aimed::aimed_at(base, sds)?;
+    if !conditions::is_present(base, sds, t) {
+        return Err(Refused::NoSuchType);
     }
-    take_type(base, sds, told.one, told.two);
-    Answer::done(told.one, 0, 0)
+    remove(base, sds, t)
 }

@@ -7,10 +7,13 @@ use mathlib.Core.Bool.{Bool, true, false}
 use lib.Dec.{ltb}
 use lib.ListN.{length, set}
 use borrow.Author.Tests.{lt-ltb, le-ltb}
+use Rattle.std.specs.Prelude.{Result}
+use Rattle.std.proofs.lemmas.Result.{IfOk-weaker}
+use Rattle.rules.specs.declared.Refused.{Refused}
 use Rattle.rules.specs.02-Limits.{limits}
 use Rattle.rules.specs.declared.Answer.{Answer}
 use Rattle.rules.specs.01-Lists.{put}
-use Rattle.rules.specs.03-Names.{Name, well_formed}
+use Rattle.rules.specs.03-Names.{Name}
 use Rattle.rules.specs.04-Schema.{Schema, Kind, new_presence, bears, with_types, with_presences}
 use Rattle.rules.specs.06-Good.{presence_before}
 use Rattle.rules.specs.04-Schema.Kind.{attribute, designation}
@@ -22,10 +25,10 @@ use Rattle.rules.specs.12-Contracts.{Kept}
 use Rattle.rules.proofs.Bools.{or_left, or_right}
 use Rattle.rules.proofs.09-Refusals.{Left}
 use Rattle.base.specs.Back.{schema_of, presence_count}
-use Rattle.base.specs.Stored.{Shows, Stored, Becomes}
+use Rattle.base.specs.Stored.{Shows, Becomes}
 use Rattle.base.proofs.Kept.{kept_done}
 use Rattle.base.proofs.Shown.{presences_long}
-use Rattle.base.proofs.StoredLaws.{shows_schema, shows_stored}
+use Rattle.base.proofs.StoredLaws.{shows_schema}
 use Rattle.base.specs.Tested.{Tested}
 use Rattle.base.proofs.TestedLaws.{come_next, come_rest}
 use Rattle.conditions.specs.Aimed.{aim_refusals, RefusedOr}
@@ -34,14 +37,17 @@ use Rattle.change_types.specs.Create.{room_refusals, one_refusals, Room, Ready}
 
 -- ---- what the tests of a call that makes one type say
 
-module _ {b : List ℕ} {d : ℕ} {n : Name} {no : ℕ} (aimed : Tested b (aim_refusals (schema_of b) d (malformed n)) no 0) (z : no ≡ 0) {t : ℕ} where
-  pub room_ready : Room b d n t → Ready b d n t
-  room_ready r = record { aim = aimed_well _ aimed z; formed = formed n (names_fit d [] aimed z); room = r }
+module _ {b : List ℕ} {d : ℕ} {n : Name} (aimed : Tested b (aim_refusals (schema_of b) d (malformed n)) 0 0) where
+  pub room_ready : {t : ℕ} → Room b d n t → Ready b d n t
+  room_ready r = record { aim = aimed_well _ aimed refl; formed = formed n (names_fit d [] aimed refl); room = r }
 
   -- what stands between is a value kind
-  pub room_placed : {unknown : Bool} → unknown ≡ false → {no' : ℕ} → RefusedOr b (room_refusals (schema_of b) d n) no' (Room b d n t)
-      → RefusedOr b (one_refusals (schema_of b) d n unknown) no' (Ready b d n t)
-  room_placed e r = record { told = come_rest (come_next (come_aimed d aimed z _) e) r.told; so = λ y. room_ready (r.so y) }
+  pub room_placed : {unknown : Bool} → unknown ≡ false → {r : Result ℕ Refused} → RefusedOr b (room_refusals (schema_of b) d n) r (Room b d n)
+      → RefusedOr b (one_refusals (schema_of b) d n unknown) r (Ready b d n)
+  room_placed e {r} room = record {
+    told = come_rest (come_next (come_aimed d aimed refl _) e) room.told;
+    so = IfOk-weaker r _ _ (λ _. room_ready) room.so;
+  }
 
 -- the room for new types is room for their numbers and for their presences
 module _ (b : List ℕ) (more : ℕ) where
@@ -96,13 +102,6 @@ module _ (d : ℕ) (n : Name) where
 -- ---- the effect of a call that makes one type
 
 module _ {b : List ℕ} {d : ℕ} {n : Name} {t : ℕ} (r : Ready b d n t) (k : Kind) {b₁ : List ℕ} (w : Becomes b t k b₁) where
-  -- what its presence needs once it has its row
-  pub presence_ready : Stored b₁ × (((d ≡ 0 → ⊥) × ((d < 256) × (t < 256)))
-      × ((well_formed n ≡ true) × ((length (schema_of b₁).presences < limits.presences) × (bears (schema_of b₁) d n ≡ false))))
-  presence_ready =
-      let small : (d < 256) × (t < 256) = (omega (arith, r.aim.below), omega (arith, r.room.below)) in
-      (shows_stored w, ((r.aim.outside, small), (r.formed, (room_typed b t k w d n r.room.room, free_typed b t k w d n r.room.free))))
-
   pub made_kept : {rule : Schema → Outcome Schema} {a : Answer} {b₂ : List ℕ} → rule (schema_of b) ≡ made d n k (schema_of b) → a ≡ success t 0 0
       → Shows b₂ (with_presences (schema_of b₁) (put presence_before (new_presence d n t) (schema_of b₁).presences))
       → Kept b rule a b₂

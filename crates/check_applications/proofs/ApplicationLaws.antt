@@ -13,6 +13,7 @@ use Rattle.rules.specs.02-Limits.{limits}
 use Rattle.rules.specs.04-Schema.{Kind, kind_of, is_used, is_object, is_attribute, is_link, present}
 use Rattle.rules.specs.04-Schema.Kind.{unused, object, attribute, designation, paired}
 use Rattle.rules.specs.Parts.{of_presences}
+use Rattle.rules.specs.Read.{to_offset, attribute_offset}
 use Rattle.rules.proofs.Bools.{and_both, and_of}
 use Rattle.rules.proofs.Parts.{present_each, applied_held}
 use Rattle.type_set.proofs.Bit.{bit-and, bit_masked}
@@ -43,6 +44,16 @@ pub record ApplicationRead (b held : List ℕ) (i d t a : ℕ) : Type 0 where
   pub sds : d ≡ (application_shown b i).sds
   pub to : t ≡ (application_shown b i).to
   pub attribute : a ≡ (application_shown b i).attribute
+
+pub read_at : {b held : List ℕ} {k d t a : ℕ} → Shown b held → d ≡ get_or b k 0 → t ≡ get_or b (k + to_offset) 0 → a ≡ get_or b (k + attribute_offset) 0
+    → (i : ℕ) → k ≡ application_at i → ApplicationRead b held i d t a
+read_at {b} s d t a i e =
+    record {
+      shown = s;
+      sds = d ∙ ap (λ (k : ℕ). get_or b k 0) e;
+      to = t ∙ ap (λ (k : ℕ). get_or b (k + to_offset) 0) e;
+      attribute = a ∙ ap (λ (k : ℕ). get_or b (k + attribute_offset) 0) e;
+    }
 
 -- a used type is an attribute type, or it may have attributes
 other_kinds : (k : Kind) → is_used k ≡ true → not (is_attribute k) ≡ is_object k || is_link k

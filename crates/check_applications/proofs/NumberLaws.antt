@@ -4,15 +4,12 @@ use native.Mathlib.Omega.{arith}
 use mathlib.Core.Path.{◌≡◌}
 use mathlib.Core.List.{List}
 use lib.Bits.{bit_or, and_le_l, and_le_r, or_lt, or_add_and}
-use lib.Dec.{ltb}
 use lib.ListN.{length, get_or}
 use borrow.Author.Count.{below_more}
-use borrow.Author.Tests.{ltb-true, ltb-false}
 use Rattle.rules.specs.02-Limits.{limits}
 use Rattle.rules.specs.07-Picture.{base_length}
 use Rattle.rows.specs.Rows.{part}
 use Rattle.rows.specs.Order.{number, number_passed}
-use Rattle.rows.specs.Decides.{Decides}
 use Rattle.rows.proofs.OrderLaws.{number_three}
 use Rattle.base.specs.Tables.{applications}
 use Rattle.base.specs.Rows.{application_at}
@@ -23,9 +20,6 @@ pub record LowPassed (b : List ℕ) (from k bits : ℕ) : Type 0 where
   pub low : bits < 128 → Low b from k
   pub few : Low b from k → bits < 128
 
-pub low_none : (b : List ℕ) (from : ℕ) → LowPassed b from from 0
-low_none b from = record { low = λ h k l m. absurd (omega arith); few = λ f. omega arith }
-
 module _ {b : List ℕ} {from k bits : ℕ} (p : LowPassed b from k bits) where
   pub low_more : from ≤ k → LowPassed b from (k + 1) (bit_or bits (get_or b k 0))
   low_more h =
@@ -35,12 +29,6 @@ module _ {b : List ℕ} {from k bits : ℕ} (p : LowPassed b from k bits) where
             (λ f. omega (arith, l, or_add_and bits x, and_le_l bits x)) j m f;
         few = λ f. or_lt 7 bits x (p.few (λ j l m. f j l (omega arith))) (f k h (omega arith));
       }
-
-  pub low_all : {end : ℕ} → k ≡ end → Decides (Low b from end) (ltb bits 128)
-  low_all e = record {
-    holds = λ t j l m. p.low (ltb-true bits 128 t) j l (omega arith);
-    fails = λ t f. let few = p.few (λ j l m. f j l (omega arith)) in omega (arith, ltb-false bits 128 t);
-  }
 
 -- ---- the number of a row
 

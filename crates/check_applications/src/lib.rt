@@ -18,11 +18,9 @@ fn are_low(base: &[u8], from: usize, end: usize) -> bool
     requires { (from ≤ end) × (end ≤ length base.now) }
     ensures { Decides (Low base.now from end) result }
 {
-    let mut bits: u8 = 0;
-    let mut k = from;
-    while k < end {
-        bits |= base[k];
-        k += 1;
+    let mut bits = 0;
+    for b in &base[from..end] {
+        bits |= b;
     }
     bits < 128
 }
@@ -32,17 +30,13 @@ fn numbers_fine(base: &[u8], n: usize) -> bool
     requires { (length base.now ≡ base_length) × (n ≤ limits.applications) }
     ensures { Decides (Bounded base.now n) result }
 {
-    if n == 0 {
-        return true;
-    }
-    if Limits::SDSS <= base::application_sds(base, n - 1) {
-        return false;
-    }
-    are_low(
-        base,
-        Base::APPLICATIONS_AT,
-        Base::APPLICATIONS_AT + n * Base::APPLICATION_WIDTH,
-    )
+    n == 0
+        || base::application_sds(base, n - 1) < Limits::SDSS
+            && are_low(
+                base,
+                Base::APPLICATIONS_AT,
+                Base::APPLICATIONS_AT + n * Base::APPLICATION_WIDTH,
+            )
 }
 
 // The number of row i, and the byte behind it: of four bytes the compiler makes one load.
@@ -62,7 +56,7 @@ fn holds_both(held: &[u16], d: usize, to: usize, attribute: usize) -> bool
     requires { (length held.now ≡ limits.types) × ((to < limits.types) × (attribute < limits.types)) }
     ensures { BothHeld held.now d to attribute result }
 {
-    (((held[to] & held[attribute]) as u32) >> (d % 32)) & 1 == 1
+    (u32::from(held[to] & held[attribute]) >> (d % 32)) & 1 == 1
 }
 
 // A type that an SDS holds is used: where an attribute type is applied to no attribute type, this is an object or link type. The row is
@@ -75,13 +69,9 @@ fn application_fine(base: &[u8], at: usize, held: &[u16]) -> bool
     let d = rows::byte(base, at);
     let to = rows::byte(base, at + Base::TO_OFFSET);
     let attribute = rows::byte(base, at + Base::ATTRIBUTE_OFFSET);
-    if !holds_both(held, d, to, attribute) {
-        return false;
-    }
-    if base::kind(base, attribute) != Base::ATTRIBUTE {
-        return false;
-    }
-    base::kind(base, to) != Base::ATTRIBUTE
+    holds_both(held, d, to, attribute)
+        && base::kind(base, attribute) == Base::ATTRIBUTE
+        && base::kind(base, to) != Base::ATTRIBUTE
 }
 
 // The n rows, found by halving, are all that is used; each is fine by itself and has a higher number than the one before it.
@@ -90,27 +80,20 @@ pub fn applications_fine(base: &[u8], n: usize, held: &[u16]) -> bool
     requires halved { Halved base.now applications.start applications.width limits.applications n }
     ensures { Decides (ApplicationsFine base.now) result }
 {
-    if !base::used::no_application_from(base, n) {
-        return false;
-    }
-    if !numbers_fine(base, n) {
+    if !base::used::no_application_from(base, n) || !numbers_fine(base, n) {
         return false;
     }
     // the highest number that a row of SDS 0 could have, which has none; the byte behind a row counts for nothing
     let mut before: usize = 65535 * 256;
+    // carried beside i, as `application_fine` asks for it
     let mut at = Base::APPLICATIONS_AT;
-    let mut i = 0;
-    while i < n {
+    for i in 0..n {
         let number = numbered(base, i);
-        if number <= before / 256 * 256 + 255 {
-            return false;
-        }
-        if !application_fine(base, at, held) {
+        if number <= before / 256 * 256 + 255 || !application_fine(base, at, held) {
             return false;
         }
         before = number;
         at += Base::APPLICATION_WIDTH;
-        i += 1;
     }
     true
 }

@@ -1,11 +1,12 @@
 -- The pass, from row to row: it goes on while the numbers rise, and so ends behind the last row or at one that is not fine. Assumes nothing.
-use Prim.Native.Nat.{ℕ, zero, suc, ◌+◌, ◌*◌, ◌-◌, ◌/◌, ◌%◌, ◌≤◌, ◌<◌}
+use Prim.Native.Nat.{ℕ, zero, suc, ◌+◌, ◌*◌, ◌-◌, ◌%◌, ◌≤◌, ◌<◌}
 use native.Mathlib.Omega.{arith}
 use mathlib.Core.Path.{◌≡◌, refl, sym, ap, subst, ◌∙◌}
 use mathlib.Core.List.{List}
 use mathlib.Core.Bool.{Bool, true, false, ◌&&◌, true≢false}
 use lib.Dec.{eqb, ltb}
 use lib.ListN.{get_or, get_or-replicate}
+use lib.IntN.{ℤ, pos, ◌+ℤ◌}
 use borrow.Author.Count.{below_more}
 use borrow.Author.Tests.{ltb-true, ltb-false, eqb-true, eq-eqb}
 use Rattle.rules.specs.02-Limits.{limits}
@@ -17,19 +18,21 @@ use Rattle.base.specs.Tables.{ends, BlankFrom}
 use Rattle.base.specs.Rows.{end_at}
 use Rattle.check_held.specs.Fine.{Shown, EndsFine}
 use Rattle.check_ends.specs.declared.Group.{Group}
-use Rattle.check_ends.specs.Ends.{row_number, tally, Small, RowFine, Reached, GroupFine, Last, Passed}
-use Rattle.check_ends.proofs.RowLaws.{Numbered, numbered, numbers_rise, rise_numbers, tally_on, tally_none, tally_same}
+use Rattle.check_ends.specs.declared.Mirrors.TheVariants.{Nowhere}
+use Rattle.check_ends.specs.Ends.{row_number, balance, weight_of, Small, RowFine, Reached, GroupFine, Last, Past}
+use Rattle.check_ends.specs.Ends.{near_of, weight_of}
+use Rattle.check_ends.proofs.RowLaws.{Numbered, numbered, numbers_rise, rise_numbers, balance_on, balance_none, balance_same}
 use Rattle.check_ends.proofs.GroupLaws.{link_there, object_there, group_next}
 use Rattle.check_ends.proofs.EndLaws.{elsewhere, found_fine, fine_found}
 
--- before row i: the number of the row before and its group, that of row i, and the tally
-pub record Going (b : List ℕ) (n i before number total : ℕ) (g : Group) : Type 0 where
+-- before row i: the number of the row before and its group, that of row i, and the balance
+pub record Going (b : List ℕ) (n i before number : ℕ) (total : ℤ) (g : Group) : Type 0 where
   pub within : i ≤ n
   pub is : number ≡ row_number b (i % limits.ends)
   pub start : i ≡ 0 → (before ≡ 0) × (g.top ≡ 0)
-  pub last : (k : ℕ) → i ≡ k + 1 → (before ≡ row_number b k) × (GroupFine b k g.top g.back g.weight)
-  pub near : g.near ≤ i
-  pub counts : total ≡ tally b i
+  pub last : (k : ℕ) → i ≡ k + 1 → (before ≡ row_number b k) × GroupFine b k g
+  pub near : near_of g.mirrors ≤ i
+  pub counts : total ≡ balance b i
   pub rise : (k : ℕ) → k + 1 < i → row_number b k < row_number b (k + 1)
   pub rows : (k : ℕ) → k < i → RowFine b k
 
@@ -37,14 +40,14 @@ module _ {b held : List ℕ} (shown : Shown b held) (bytes : (k : ℕ) → get_o
   number_of : (i : ℕ) → i < limits.ends → Numbered b i
   number_of = numbered b shown.long bytes
 
-  pub going_start : {number : ℕ} {g : Group} → number ≡ row_number b 0 → (g.top ≡ 0) × (g.near ≡ 0) → Going b n 0 0 number 0 g
-  going_start e (t, r) = record {
+  pub going_start : {number : ℕ} → number ≡ row_number b 0 → Going b n 0 0 number (pos 0) (record { top = 0; mirrors = Nowhere })
+  going_start e = record {
     within = omega arith;
     is = e;
-    start = λ _. (refl, t);
+    start = λ _. (refl, refl);
     last = λ k h. absurd (omega arith);
     near = omega arith;
-    counts = tally_none b;
+    counts = balance_none b;
     rise = λ k h. absurd (omega arith);
     rows = λ k h. absurd (omega arith);
   }
@@ -64,7 +67,7 @@ module _ {b held : List ℕ} (shown : Shown b held) (bytes : (k : ℕ) → get_o
 
   -- ---- a row more
 
-  module _ (rest : BlankFrom ends n b) {i before number total : ℕ} {g : Group} (x : Going b n i before number total g) where
+  module _ (rest : BlankFrom ends n b) {i before number : ℕ} {total : ℤ} {g : Group} (x : Going b n i before number total g) where
     blank : n < limits.ends → row_number b n ≡ 0
     blank h =
         let byte : (f : ℕ) → f < 4 → get_or b (end_at n + f) 0 ≡ 0 = λ f l.
@@ -118,27 +121,26 @@ module _ {b held : List ℕ} (shown : Shown b held) (bytes : (k : ℕ) → get_o
       pub going_last : Reached b i → Last b i number g
       going_last at = record { near = x.near; same = λ h. go i refl h }
         where
-          go : (m : ℕ) → i ≡ m → number ≤ g.top → GroupFine b i g.top g.back g.weight
+          go : (m : ℕ) → i ≡ m → number ≤ g.top → GroupFine b i g
           go zero e h = absurd (omega (arith, (x.start e).1))
           go (suc m) e h =
               let (is, fine) = x.last m (omega arith) in
               group_next at fine (number_of m (omega (arith, at.few))) (omega (arith, going_number)) (omega (arith, going_number))
 
-      pub going_on : {h : Group} {next : ℕ} → Passed b i h → 0 < h.near → next ≡ row_number b ((i + 1) % limits.ends)
-          → Going b n (i + 1) number next (total + h.weight) h
-      going_on {h} p some e =
-          let fine = p.group some in
+      pub going_on : {h : Group} {next : ℕ} {more : ℤ} → Past b i h → next ≡ row_number b ((i + 1) % limits.ends)
+          → more ≡ total +ℤ weight_of h.mirrors → Going b n (i + 1) number next more h
+      going_on {h} p e m =
           record {
             within = omega (arith, going_below);
             is = e;
             start = λ z. absurd (omega arith);
             last = λ k q.
                 let same : i ≡ k = omega arith in
-                subst (λ (m : ℕ). (number ≡ row_number b m) × (GroupFine b m h.top h.back h.weight)) same (going_number, fine);
+                subst (λ (m : ℕ). (number ≡ row_number b m) × GroupFine b m h) same (going_number, p.group);
             near = p.near;
-            counts = tally_on b i x.counts fine.weight;
+            counts = m ∙ balance_on b i h.mirrors x.counts p.group.rank;
             rise = rise_on;
-            rows = below_more _ _ x.rows (p.holds some);
+            rows = below_more _ _ x.rows p.holds;
           }
 
     -- ---- where the numbers rise no more
@@ -162,22 +164,27 @@ module _ {b held : List ℕ} (shown : Shown b held) (bytes : (k : ℕ) → get_o
                 let more = (fine_found shown bytes n few found f).rise m (omega arith) in
                 omega (arith, more, (x.last m (omega arith)).0, x.is, ap (row_number b) at)
 
-        pub going_done : Decides (EndsFine b) (eqb i n && eqb (total % 65536) (total / 65536))
-        going_done = record {
+        pub going_done : {z : Bool} → Decides (total ≡ pos 0) z → Decides (EndsFine b) (eqb i n && z)
+        going_done {z = true} test = record {
           holds = λ e.
-              let (s, t) = and_both _ _ e in
-              let all = eqb-true i n s in
-              let counted : total ≡ tally b n = x.counts ∙ ap (tally b) all in
+              let all = eqb-true i n (and_both (eqb i n) true e).0 in
+              let counted : total ≡ balance b n = x.counts ∙ ap (balance b) all in
               found_fine shown bytes n few (record {
                 rest = rest;
                 rise = λ k h. x.rise k (omega arith);
                 rows = λ k h. x.rows k (omega arith);
-                many = (tally_same b n few counted).0 (eqb-true _ _ t);
+                many = (balance_same b n counted).0 (test.holds refl);
               });
           fails = λ e f.
               let early = stops_early f in
               let all : i ≡ n = omega (arith, x.within) in
-              let counted : total ≡ tally b n = x.counts ∙ ap (tally b) all in
-              let same = (tally_same b n few counted).1 (fine_found shown bytes n few found f).many in
-              true≢false (sym (and_of _ _ (eq-eqb i n all) (eq-eqb _ _ same)) ∙ e);
+              true≢false (sym (and_of (eqb i n) true (eq-eqb i n all) refl) ∙ e);
+        }
+        going_done {z = false} test = record {
+          holds = λ e. absurd (true≢false (sym (and_both (eqb i n) false e).1));
+          fails = λ e f.
+              let early = stops_early f in
+              let all : i ≡ n = omega (arith, x.within) in
+              let counted : total ≡ balance b n = x.counts ∙ ap (balance b) all in
+              test.fails refl ((balance_same b n counted).1 (fine_found shown bytes n few found f).many);
         }

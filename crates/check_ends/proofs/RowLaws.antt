@@ -1,26 +1,31 @@
--- Rows of ends by their numbers: a number tells the bytes, and numbers that rise are rows that rise; where mirrors stand, and the tally.
+-- Rows of ends by their numbers: a number tells the bytes, and numbers that rise are rows that rise; where mirrors stand, and the balance.
 -- Assumes nothing.
 use Prim.Native.Nat.{ℕ, suc, ◌+◌, ◌*◌, ◌/◌, ◌%◌, ◌≤◌, ◌<◌}
 use native.Mathlib.Numerals.{add-one}
 use native.Mathlib.Omega.{arith}
-use mathlib.Core.Path.{◌≡◌, refl, sym, ◌∙◌}
+use mathlib.Core.Path.{◌≡◌, refl, sym, ap, ◌∙◌}
 use mathlib.Core.List.{List}
-use mathlib.Core.Bool.{◌&&◌, true≢false}
-use lib.Dec.{ltb}
+use mathlib.Core.Bool.{cond}
+use lib.Dec.{eqb}
+use lib.IntN.{ℤ, pos, negsuc, ◌+ℤ◌, ◌-ℤ◌}
+use lib.Signed.{◌≤ℤ◌}
 use lib.ListN.{length, get_or}
 use borrow.Author.Tests.{ltb-true, lt-ltb, le-ltb, eq-eqb, ne_eqb}
+use Rattle.std.specs.Prelude.{Some}
+use Rattle.std.proofs.lemmas.Int.{ints}
 use Rattle.rules.specs.02-Limits.{limits}
 use Rattle.rules.specs.07-Picture.{base_length}
 use Rattle.rules.specs.Read.{value_offset, reverse_offset}
-use Rattle.rules.proofs.Bools.{and_of, and_both}
-use Rattle.rows.specs.Decides.{Decides}
 use Rattle.rows.proofs.OrderLaws.{numbers_before, number_four}
 use Rattle.rows.proofs.Scan.{rising_far}
 use Rattle.base.specs.Tables.{InOrder, by_end, ends, row_of}
 use Rattle.base.specs.Rows.{type_at, end_at, EndRow}
 use Rattle.lookup.specs.Found.{EndAt, EndFound}
 use Rattle.check_ends.specs.Count.{count}
-use Rattle.check_ends.specs.Ends.{sds_byte, link_byte, side_byte, object_byte, row_number, rank, lower, higher, tally, weight, RowPast, Small}
+use Rattle.check_ends.specs.Ends.{sds_byte, link_byte, side_byte, object_byte, row_number, RowWith, RowPast}
+use Rattle.check_ends.specs.Ends.{rank, lower, higher, balance, rank_of, weight_of}
+use Rattle.check_ends.specs.declared.Mirrors.{Mirrors}
+use Rattle.check_ends.specs.declared.Mirrors.TheVariants.{Nowhere, Ahead, Behind}
 use Rattle.check_ends.proofs.CountLaws.{count_most}
 
 -- ---- numbers
@@ -87,19 +92,15 @@ module _ {b : List ℕ} {i : ℕ} (x : Numbered b i) where
 -- ---- a row that is looked for
 
 module _ {b : List ℕ} {n w : ℕ} where
-  pub row_past_at : {r : ℕ} → (r < n) × (row_number b r ≡ w) → RowPast b n w (r + 1)
-  row_past_at {r} (h, e) = record { within = omega arith; found = λ _. record { place = r; below = h; is = e }; none = λ z. absurd (omega arith) }
+  pub row_past_at : {r : ℕ} → (r < n) × (row_number b r ≡ w) → RowPast b n w (Some (r + 1))
+  row_past_at {r} (h, e) = (omega arith, record { place = r; below = h; is = e })
 
   module _ {r : ℕ} (x : (i : ℕ) → i < n → Numbered b i) (f : EndFound b n (w / 16777216) (w / 65536 % 256) (w / 256 % 256) (w % 256) r) where
-    pub row_past : r < n → RowPast b n w (r + 1)
+    pub row_past : r < n → RowPast b n w (Some (r + 1))
     row_past h = row_past_at (h, number_is (x r h) (f.found h))
 
-    pub row_none : n ≤ r → RowPast b n w 0
-    row_none h = record {
-      within = omega arith;
-      found = λ l. absurd (omega arith);
-      none = λ _ y. f.none h (bytes_are (x y.place y.below) y.below y.is);
-    }
+    pub row_none : n ≤ r → RowWith b n w → ⊥
+    row_none h y = f.none h (bytes_are (x y.place y.below) y.below y.is)
 
 -- ---- where the mirrors of a link type stand
 
@@ -125,36 +126,33 @@ module _ (b : List ℕ) (l : ℕ) {v : ℕ} (ev : v ≡ get_or b (type_at l + va
           le-ltb (get_or b (type_at l + reverse_offset) 0) l (omega arith),
         )
 
--- ---- the bounds of a row's bytes, by its number
+-- ---- the balance, with one row more
 
-pub small_decided : (w : ℕ)
-    → Decides (Small w) (((ltb (w / 16777216) 16 && ltb (w / 65536 % 256) 128) && ltb (w / 256 % 256) 2) && ltb (w % 256) 128)
-small_decided w = record {
-  holds = λ e.
-      let (x, o) = and_both _ _ e in
-      let (y, s) = and_both _ _ x in
-      let (d, l) = and_both _ _ y in
-      record { sds = ltb-true _ _ d; link = ltb-true _ _ l; side = ltb-true _ _ s; object = ltb-true _ _ o };
-  fails = λ e m. true≢false (sym (and_of _ _ (and_of _ _ (and_of _ _ (lt-ltb _ _ m.sds) (lt-ltb _ _ m.link)) (lt-ltb _ _ m.side))
-      (lt-ltb _ _ m.object)) ∙ e);
-}
+weight_is : (m : Mirrors) {r : ℕ} → rank_of m ≡ r → weight_of m ≡ pos (cond (eqb r 1) 1 0) -ℤ pos (cond (eqb r 2) 1 0)
+weight_is Nowhere e = ap (λ (r : ℕ). pos (cond (eqb r 1) 1 0) -ℤ pos (cond (eqb r 2) 1 0)) e
+weight_is Ahead e = ap (λ (r : ℕ). pos (cond (eqb r 1) 1 0) -ℤ pos (cond (eqb r 2) 1 0)) e
+weight_is (Behind back near) e = ap (λ (r : ℕ). pos (cond (eqb r 1) 1 0) -ℤ pos (cond (eqb r 2) 1 0)) e
 
--- ---- the tally, with one row more
+pub weight_small : (m : Mirrors) → (negsuc 0 ≤ℤ weight_of m) × (weight_of m ≤ℤ pos 1)
+weight_small Nowhere = (omega (arith, ints), omega (arith, ints))
+weight_small Ahead = (omega (arith, ints), omega (arith, ints))
+weight_small (Behind back near) = (omega (arith, ints), omega (arith, ints))
 
-pub tally_on : (b : List ℕ) (i : ℕ) {x y : ℕ} → x ≡ tally b i → y ≡ weight b i → x + y ≡ tally b (i + 1)
+pub balance_on : (b : List ℕ) (i : ℕ) (m : Mirrors) {x : ℤ} → x ≡ balance b i → rank_of m ≡ rank b (link_byte b i)
+    → x +ℤ weight_of m ≡ balance b (i + 1)
 unfolding count
-tally_on b i ex ey = rw (add-one i) (omega (arith, ex, ey))
+balance_on b i m ex er = rw (add-one i) (omega (arith, ints, ex, weight_is m er))
 
-pub tally_none : (b : List ℕ) → 0 ≡ tally b 0
+pub balance_none : (b : List ℕ) → pos 0 ≡ balance b 0
 unfolding count
-tally_none b = refl
+balance_none b = refl
 
-pub tally_small : (b : List ℕ) (n : ℕ) {x : ℕ} → n ≤ limits.ends → x ≡ tally b n → x < 67108864
-tally_small b n few e = omega (arith, count_most (lower b) n, count_most (higher b) n)
-
-pub tally_same : (b : List ℕ) (n : ℕ) {x : ℕ} → n ≤ limits.ends → x ≡ tally b n
-    → (x % 65536 ≡ x / 65536 → count (lower b) n ≡ count (higher b) n) × (count (lower b) n ≡ count (higher b) n → x % 65536 ≡ x / 65536)
-tally_same b n few e =
+pub balance_small : (b : List ℕ) (n : ℕ) {x : ℤ} → n ≤ limits.ends → x ≡ balance b n → (negsuc 511 ≤ℤ x) × (x ≤ℤ pos 512)
+balance_small b n few e =
     let low = count_most (lower b) n in
     let high = count_most (higher b) n in
-    (λ s. omega arith, λ s. omega arith)
+    (omega (arith, ints, e, low, high), omega (arith, ints, e, low, high))
+
+pub balance_same : (b : List ℕ) (n : ℕ) {x : ℤ} → x ≡ balance b n
+    → (x ≡ pos 0 → count (lower b) n ≡ count (higher b) n) × (count (lower b) n ≡ count (higher b) n → x ≡ pos 0)
+balance_same b n e = (λ s. omega (arith, ints, e, s), λ s. omega (arith, ints, e, s))

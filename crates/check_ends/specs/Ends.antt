@@ -1,7 +1,8 @@
 -- What is asked of the rows of ends one by one, and of two counts of them.
 use Rattle.std.specs.Prelude.{ℕ, ◌+◌, ◌*◌, ◌-◌, ◌/◌, ◌%◌, ◌≤◌, ◌<◌, ◌≡◌, List, Bool, true, cond, eqb, ltb, length, get_or}
+use Rattle.std.specs.Prelude.{Option, MatchOption, ℤ, pos, negsuc, ◌-ℤ◌}
 use Rattle.rules.specs.02-Limits.{limits}
-use Rattle.rules.specs.04-Schema.{kind_of, is_link, present}
+use Rattle.rules.specs.04-Schema.{kind_of, is_link, is_object, present}
 use Rattle.rules.specs.07-Picture.{base_length, end_width}
 use Rattle.rules.specs.Read.{value_offset, reverse_offset, link_offset, side_offset, object_offset}
 use Rattle.rules.specs.Parts.{of_presences, EndFits}
@@ -12,6 +13,8 @@ use Rattle.base.specs.Rows.{type_at, end_at}
 use Rattle.base.specs.Back.{schema_of, end_shown}
 use Rattle.check_ends.specs.Count.{count}
 use Rattle.check_ends.specs.declared.Group.{Group}
+use Rattle.check_ends.specs.declared.Mirrors.{Mirrors}
+use Rattle.check_ends.specs.declared.Mirrors.TheVariants.{Nowhere, Ahead, Behind}
 
 -- ---- a row
 
@@ -37,11 +40,9 @@ pub record RowWith (b : List ℕ) (n w : ℕ) : Type 0 where
   pub below : place < n
   pub is : row_number b place ≡ w
 
--- r is past one of the first n rows that has this number, or 0, and then none of them has
-pub record RowPast (b : List ℕ) (n w r : ℕ) : Type 0 where
-  pub within : r ≤ n
-  pub found : 0 < r → RowWith b n w
-  pub none : r ≡ 0 → RowWith b n w → ⊥
+-- r is past one of the first n rows that has this number, if one of them has
+abbrev pub RowPast : List ℕ → ℕ → ℕ → Option ℕ → Type 0
+RowPast b n w r = MatchOption r (RowWith b n w → ⊥) (λ past. (past ≤ n) × RowWith b n w)
 
 -- the bytes of the row of this number are in their bounds
 pub record Small (w : ℕ) : Type 0 where
@@ -71,12 +72,9 @@ lower b i = eqb (rank b (link_byte b i)) 1
 abbrev pub higher : List ℕ → ℕ → Bool
 higher b i = eqb (rank b (link_byte b i)) 2
 
--- both of the first i rows in one number, and what row i adds
-abbrev pub tally : List ℕ → ℕ → ℕ
-tally b i = count (lower b) i + count (higher b) i * 65536
-
-abbrev pub weight : List ℕ → ℕ → ℕ
-weight b i = cond (lower b i) 1 0 + cond (higher b i) 1 0 * 65536
+-- how many more of the first i rows the former are
+abbrev pub balance : List ℕ → ℕ → ℤ
+balance b i = pos (count (lower b) i) -ℤ pos (count (higher b) i)
 
 -- ---- what is asked
 
@@ -104,24 +102,50 @@ pub record LinkFine (b : List ℕ) (i : ℕ) : Type 0 where
   pub is : is_link (kind_of (schema_of b) (link_byte b i)) ≡ true
   pub held : present (schema_of b) (sds_byte b i) (link_byte b i) ≡ true
 
+-- of the object type of row i
+pub record ObjectFine (b : List ℕ) (i : ℕ) : Type 0 where
+  pub is : is_object (kind_of (schema_of b) (object_byte b i)) ≡ true
+  pub held : present (schema_of b) (sds_byte b i) (object_byte b i) ≡ true
+
 -- ---- groups
 
--- row i is of a group: its highest number, how far back its mirrors are, and what its rows add; where none are behind, its link type is fine
-pub record GroupFine (b : List ℕ) (i high away adds : ℕ) : Type 0 where
-  pub link : away ≡ 0 → LinkFine b i
-  pub top : high ≡ row_number b i / 256 * 256 + 255
-  pub back : mirror_number b i + away ≡ row_number b i
-  pub weight : adds ≡ weight b i
+-- how far back the mirrors are, 0 where none are behind; where the next one is looked for; where they stand, as `rank` says it; and what an
+-- end counts
+abbrev pub back_of : Mirrors → ℕ
+back_of Nowhere = 0
+back_of Ahead = 0
+back_of (Behind back near) = back
+
+abbrev pub near_of : Mirrors → ℕ
+near_of Nowhere = 0
+near_of Ahead = 0
+near_of (Behind back near) = near
+
+abbrev pub rank_of : Mirrors → ℕ
+rank_of Nowhere = 0
+rank_of Ahead = 1
+rank_of (Behind back near) = 2
+
+abbrev pub weight_of : Mirrors → ℤ
+weight_of Nowhere = pos 0
+weight_of Ahead = pos 1
+weight_of (Behind back near) = negsuc 0
+
+-- row i is of the group: its highest number, how far back its mirrors are, and where they stand; where none are behind, its link type is fine
+pub record GroupFine (b : List ℕ) (i : ℕ) (g : Group) : Type 0 where
+  pub link : back_of g.mirrors ≡ 0 → LinkFine b i
+  pub top : g.top ≡ row_number b i / 256 * 256 + 255
+  pub back : mirror_number b i + back_of g.mirrors ≡ row_number b i
+  pub rank : rank_of g.mirrors ≡ rank b (link_byte b i)
 
 -- the group is that of row i, of which nothing else is known
 pub record Begun (b : List ℕ) (i : ℕ) (g : Group) : Type 0 where
-  pub near : g.near ≤ i
-  pub group : GroupFine b i g.top g.back g.weight
+  pub near : near_of g.mirrors ≤ i
+  pub group : GroupFine b i g
 
--- the group of row i, if it has a highest number; if not, its link type is not fine
-pub record First (b : List ℕ) (i : ℕ) (g : Group) : Type 0 where
-  pub begun : 0 < g.top → Begun b i g
-  pub fails : g.top ≡ 0 → LinkFine b i → ⊥
+-- the group of row i, if there is one; if not, its link type is not fine
+abbrev pub First : List ℕ → ℕ → Option Group → Type 0
+First b i r = MatchOption r (LinkFine b i → ⊥) (λ g. Begun b i g)
 
 -- l is the link type of row i, and no designation
 pub record Pair (b : List ℕ) (i l : ℕ) : Type 0 where
@@ -130,12 +154,15 @@ pub record Pair (b : List ℕ) (i l : ℕ) : Type 0 where
 
 -- the group of the row before row i, which has number w, is that of row i up to its highest number
 pub record Last (b : List ℕ) (i w : ℕ) (g : Group) : Type 0 where
-  pub near : g.near ≤ i
-  pub same : w ≤ g.top → GroupFine b i g.top g.back g.weight
+  pub near : near_of g.mirrors ≤ i
+  pub same : w ≤ g.top → GroupFine b i g
+
+-- row i is fine, and this is its group
+pub record Past (b : List ℕ) (i : ℕ) (g : Group) : Type 0 where
+  pub near : near_of g.mirrors ≤ i + 1
+  pub holds : RowFine b i
+  pub group : GroupFine b i g
 
 -- the group of row i, which is fine where there is one
-pub record Passed (b : List ℕ) (i : ℕ) (g : Group) : Type 0 where
-  pub near : g.near ≤ i + 1
-  pub holds : 0 < g.near → RowFine b i
-  pub group : 0 < g.near → GroupFine b i g.top g.back g.weight
-  pub fails : g.near ≡ 0 → RowFine b i → ⊥
+abbrev pub Passed : List ℕ → ℕ → Option Group → Type 0
+Passed b i r = MatchOption r (RowFine b i → ⊥) (λ g. Past b i g)

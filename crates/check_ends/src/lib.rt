@@ -5,60 +5,45 @@
 // many ends of lower types as of higher ones, none of them is left over.
 #![tactic(auto)]
 
-ghost use Rattle.std.specs.Prelude.{◌≡◌, cond, ◌≤◌, ◌<◌, length};
+ghost use Rattle.std.specs.Prelude.{◌≡◌, ◌+◌, ◌≤◌, ◌<◌, length};
 ghost use Rattle.rules.specs.02-Limits.{limits};
 ghost use Rattle.rules.specs.07-Picture.{base_length};
 ghost use Rattle.rows.specs.Rows.{Halved};
 ghost use Rattle.rows.specs.Decides.{Decides};
 ghost use Rattle.base.specs.Tables.{InOrder, by_end, ends};
 ghost use Rattle.check_held.specs.Held.{HeldBy};
-ghost use Rattle.check_held.specs.Fine.{TypesFine, Shown, EndsFine};
-ghost use Rattle.check_ends.specs.Ends.{link_byte, row_number, Small, RowPast, Reached, LinkFine, Begun, First, Pair, Last, Passed};
+ghost use Rattle.check_held.specs.Fine.{Shown, EndsFine};
+ghost use Rattle.check_ends.specs.Ends.{link_byte, row_number, Small, RowPast, Reached, LinkFine, ObjectFine, First, Pair, Last, Passed};
+ghost use Rattle.check_ends.specs.Ends.{weight_of};
 
 use base::Base;
 use rules::Limits;
 
-// The group of an end: those of one SDS, link type and side. `top` is the highest number that one of them could have, `back` how far below
-// an end's number that of its mirror is, 0 where it does not stand behind. The next mirror is most often at `near`, past the one found
-// last; that is 0 where an end is not fine. The weights of all ends make the tally.
+// Where the mirrors of a group's ends stand. Where they stand behind, the number of a mirror is `back` below that of its end, and the next
+// one is most often at `near`, past the one found last.
+#[derive(Clone, Copy)]
+pub enum Mirrors {
+    Nowhere,
+    Ahead,
+    Behind { back: usize, near: usize },
+}
+
+// The group of an end: those of one SDS, link type and side. `top` is the highest number that one of them could have.
 #[derive(Clone, Copy)]
 pub struct Group {
     pub top: usize,
-    pub back: usize,
-    pub near: usize,
-    pub weight: usize,
+    pub mirrors: Mirrors,
 }
 
-// What an end counts in the tally: the ends whose mirrors stand ahead, and, in its higher half, those whose mirrors stand behind.
-#[derive(Clone, Copy)]
-pub struct Weight {}
-
-impl Weight {
-    pub const NONE: usize = 0;
-
-    pub const AHEAD: usize = 1;
-
-    pub const BEHIND: usize = 65536;
-}
-
-// The one number where it is so, else the other.
-fn either(so: bool, one: usize, other: usize) -> usize
-    ensures { result ≡ cond so one other }
+// What an end counts: those whose mirrors stand ahead against those whose mirrors stand behind.
+fn weight(mirrors: Mirrors) -> isize
+    ensures { result ≡ weight_of mirrors }
 {
-    if so {
-        return one;
+    match mirrors {
+        Mirrors::Nowhere => 0,
+        Mirrors::Ahead => 1,
+        Mirrors::Behind { .. } => -1,
     }
-    other
-}
-
-// The row that stands so many before row i, or the first one where there are none so many.
-fn row_back(i: usize, many: usize) -> usize
-    ensures { result ≤ i }
-{
-    if i < many {
-        return 0;
-    }
-    i - many
 }
 
 // Whether the bytes of a row are in their bounds, by its number: the compiler makes one test of the four.
@@ -91,81 +76,46 @@ fn is_row(base: &[u8], n: usize, i: usize, number: usize) -> bool
     base::order::end_number(base, i) == number
 }
 
-// The row past the one of this number among the first n, which rise, or 0 where there is none. Looked for at `far`, then by halving.
-fn past_far(base: &[u8], n: usize, far: usize, number: usize) -> usize
+// The row past the one of this number among the first n, which rise. Looked for at `far`, then by halving.
+fn past_far(base: &[u8], n: usize, far: usize, number: usize) -> Option<usize>
     requires base_len { (length base.now ≡ base_length) × (n ≤ limits.ends) }
     requires number_bound { number < 4294967296 }
     requires in_order { InOrder by_end base.now n }
     ensures { RowPast base.now n number result }
 {
     if is_row(base, n, far, number) {
-        return far + 1;
+        return Some(far + 1);
     }
     let sds = number / 16777216;
     let link = number / 65536 % 256;
     let side = number / 256 % 256;
-    let row = lookup::ends::end_near(base, n, n, sds, link, side, number % 256);
-    if n <= row {
-        return 0;
-    }
-    row + 1
+    let row = lookup::ends::end_near(base, n, n, sds, link, side, number % 256)?;
+    Some(row + 1)
 }
 
-// What stands for the group of an end that is not fine, and for the one before the first.
-fn refused() -> Group
-    ensures { (result.top ≡ 0) × (result.near ≡ 0) }
+// The row past the mirror of this number, which stands behind row i: near, or 256 rows off, which a hint does not tell, or found by halving.
+fn behind(base: &[u8], i: usize, near: usize, mirror: usize) -> Option<usize>
+    requires reached { Reached base.now i }
+    requires near_bound { near ≤ i }
+    requires mirror_bound { mirror < 4294967296 }
+    ensures { RowPast base.now (i + 1) mirror result }
 {
-    Group {
-        top: 0,
-        back: 0,
-        near: 0,
-        weight: 0,
+    if base::order::end_number(base, near) == mirror {
+        return Some(near + 1);
     }
+    past_far(base, i + 1, (near + 256) % Limits::ENDS, mirror)
 }
 
-// The group with row i, where its mirror stands behind: near, or 256 rows off, which a hint does not tell, or found by halving.
-fn behind(base: &[u8], i: usize, number: usize, group: Group) -> Group
-    requires reached { (Reached base.now i) × (TypesFine base.now) }
-    requires number_value { (number ≡ row_number base.now i) × ((Begun base.now i group) × (0 < group.back)) }
-    ensures { Passed base.now i result }
-{
-    let mirror = number - group.back;
-    if base::order::end_number(base, group.near) == mirror {
-        return Group {
-            top: group.top,
-            back: group.back,
-            near: group.near + 1,
-            weight: group.weight,
-        };
-    }
-    let far = (group.near + 256) % Limits::ENDS;
-    Group {
-        top: group.top,
-        back: group.back,
-        near: past_far(base, i + 1, far, mirror),
-        weight: group.weight,
-    }
-}
-
-// The group with row i, where no mirror stands behind and the end stands for its own: its object type is to be one, which its SDS holds.
-fn own(base: &[u8], i: usize, group: Group, held: &[u16]) -> Group
+// Whether the object type of row i is one, and its SDS holds it.
+fn object_fine(base: &[u8], i: usize, held: &[u16]) -> bool
     requires reached { (Reached base.now i) × (Shown base.now held.now) }
-    requires begun { (Begun base.now i group) × (group.back ≡ 0) }
-    ensures { Passed base.now i result }
+    ensures { Decides (ObjectFine base.now i) result }
 {
     let o = base::end_object(base, i);
     if !is_held(held, base::end_sds(base, i), o) {
-        return refused();
+        return false;
     }
-    if base::kind(base, o) != Base::OBJECT {
-        return refused();
-    }
-    Group {
-        top: group.top,
-        back: group.back,
-        near: i + 1,
-        weight: group.weight,
-    }
+    base::kind(base, o) == Base::OBJECT
 }
 
 // Whether the link type of row i is one, and its SDS holds it.
@@ -183,7 +133,14 @@ fn link_fine(base: &[u8], i: usize, link: usize, held: &[u16]) -> bool
 // The group that begins with row i, of no designation. Where its mirrors stand ahead, its link type is asked, and it leaves the row, without
 // its highest bit, at a place that is the same for theirs: a hint, and nothing else. They begin to look at the last row that it could be,
 // up to their own.
-fn pair(base: &[u8], i: usize, number: usize, link: usize, held: &[u16], starts: &mut [u8]) -> Group
+fn pair(
+    base: &[u8],
+    i: usize,
+    number: usize,
+    link: usize,
+    held: &[u16],
+    starts: &mut [u8],
+) -> Option<Group>
     requires reached { (Reached base.now i) × (Shown base.now held.now) }
     requires number_value { (number ≡ row_number base.now i) × (Pair base.now i link) }
     requires starts_len { length starts.old ≡ limits.types }
@@ -191,31 +148,26 @@ fn pair(base: &[u8], i: usize, number: usize, link: usize, held: &[u16], starts:
 {
     let side = base::end_side(base, i);
     let reverse = base::reverse(base, link);
-    let place = either(side == 0, link, reverse);
+    let place = if side == 0 { link } else { reverse };
     let top = number - number % 256 + 255;
     if reverse < link {
-        let hint = rows::wide(starts[place]);
-        return Group {
-            top,
+        let hint = usize::from(starts[place]);
+        let mirrors = Mirrors::Behind {
             back: (link - reverse) * 65536 + side * 512 - 256,
-            near: row_back(i, (i + 256 - hint) % 256),
-            weight: Weight::BEHIND,
+            near: i.saturating_sub((i + 256 - hint) % 256),
         };
+        return Some(Group { top, mirrors });
     }
     if !link_fine(base, i, link, held) {
-        return refused();
+        return None;
     }
     starts[place] = (i % 256) as u8;
-    Group {
-        top,
-        back: 0,
-        near: 0,
-        weight: Weight::AHEAD,
-    }
+    let mirrors = Mirrors::Ahead;
+    Some(Group { top, mirrors })
 }
 
-// The group that begins with row i, refused where its link type is not fine and no mirror would tell.
-fn first(base: &[u8], i: usize, number: usize, held: &[u16], starts: &mut [u8]) -> Group
+// The group that begins with row i, if its link type is fine or a mirror would tell.
+fn first(base: &[u8], i: usize, number: usize, held: &[u16], starts: &mut [u8]) -> Option<Group>
     requires reached { (Reached base.now i) × (Shown base.now held.now) }
     requires number_value { number ≡ row_number base.now i }
     requires starts_len { length starts.old ≡ limits.types }
@@ -226,17 +178,14 @@ fn first(base: &[u8], i: usize, number: usize, held: &[u16], starts: &mut [u8]) 
         return pair(base, i, number, link, held, starts);
     }
     if !link_fine(base, i, link, held) {
-        return refused();
+        return None;
     }
-    Group {
-        top: number - number % 256 + 255,
-        back: 0,
-        near: 0,
-        weight: Weight::NONE,
-    }
+    let top = number - number % 256 + 255;
+    let mirrors = Mirrors::Nowhere;
+    Some(Group { top, mirrors })
 }
 
-// The group that row i is of, before it is passed: the last one, or another that begins with it, or is refused.
+// The group that row i is of, before it is passed: the last one, or another that begins with it.
 fn begun(
     base: &[u8],
     i: usize,
@@ -244,19 +193,20 @@ fn begun(
     last: Group,
     held: &[u16],
     starts: &mut [u8],
-) -> Group
+) -> Option<Group>
     requires reached { (Reached base.now i) × (Shown base.now held.now) }
     requires number_value { (number ≡ row_number base.now i) × (Last base.now i number last) }
     requires starts_len { length starts.old ≡ limits.types }
     ensures { First base.now i result }
 {
     if number <= last.top {
-        return last;
+        return Some(last);
     }
     first(base, i, number, held, starts)
 }
 
-// The group with row i. Bytes of the row are read again: so they need not be taken out of its number.
+// The group with row i, if the row is fine: where its mirror stands behind, it is there; else the end stands for its own. Bytes of the row
+// are read again: so they need not be taken out of its number.
 fn group_at(
     base: &[u8],
     i: usize,
@@ -264,26 +214,25 @@ fn group_at(
     last: Group,
     held: &[u16],
     starts: &mut [u8],
-) -> Group
+) -> Option<Group>
     requires reached { (Reached base.now i) × (Shown base.now held.now) }
     requires number_value { (number ≡ row_number base.now i) × (Last base.now i number last) }
     requires starts_len { length starts.old ≡ limits.types }
     ensures { Passed base.now i result }
 {
-    let group = begun(base, i, number, last, held, starts);
-    if group.top == 0 {
-        return refused();
-    }
-    if group.back == 0 {
-        return own(base, i, group, held);
-    }
-    behind(base, i, number, group)
+    let group = begun(base, i, number, last, held, starts)?;
+    let Mirrors::Behind { back, near } = group.mirrors else {
+        return object_fine(base, i, held).then_some(group);
+    };
+    let near = behind(base, i, near, number - back)?;
+    let mirrors = Mirrors::Behind { back, near };
+    Some(Group { mirrors, ..group })
 }
 
 // Whether the n rows are ends as they would be written, in order and with nothing behind them, and each is of a link type and an object
 // type that its SDS holds, and has its mirror. The pass ends where the numbers rise no more: behind the last row is none, or, past all that
 // there is room for, the first one again. A row's number is read in the turn before: it is loaded at once there, and byte by byte where it
-// is taken apart.
+// is taken apart (a `for` over the n rows, which reads it in its own turn, takes 12 % more instructions on the full base).
 pub fn ends_fine(base: &[u8], n: usize, held: &[u16], starts: &mut [u8]) -> bool
     requires shown { Shown base.now held.now }
     requires halved { Halved base.now ends.start ends.width limits.ends n }
@@ -293,8 +242,12 @@ pub fn ends_fine(base: &[u8], n: usize, held: &[u16], starts: &mut [u8]) -> bool
     if !base::used::no_end_from(base, n) {
         return false;
     }
-    let mut group = refused();
-    let mut tally = 0;
+    // Before the first one: no row is of it.
+    let mut group = Group {
+        top: 0,
+        mirrors: Mirrors::Nowhere,
+    };
+    let mut balance = 0;
     let mut before = 0;
     let mut number = base::order::end_number(base, 0);
     let mut i = 0;
@@ -302,14 +255,14 @@ pub fn ends_fine(base: &[u8], n: usize, held: &[u16], starts: &mut [u8]) -> bool
         if !is_small(number) {
             return false;
         }
-        group = group_at(base, i, number, group, held, starts);
-        if group.near == 0 {
+        let Some(passed) = group_at(base, i, number, group, held, starts) else {
             return false;
-        }
-        tally += group.weight;
+        };
+        group = passed;
+        balance += weight(group.mirrors);
         before = number;
         i += 1;
         number = base::order::end_number(base, i % Limits::ENDS);
     }
-    (i == n) & (tally % 65536 == tally / 65536)
+    (i == n) & (balance == 0)
 }

@@ -39,18 +39,8 @@ shows_any {b} {held} holds t d h = go (ltb t 128) refl
         ap (λ (w : ℕ). bit w d) (get_or-eq_default held 0 {n = t} (omega (arith, holds.room))) ∙ bit_zero d
         ∙ sym (fails (present (schema_of b) d t) (λ e. omega (arith, (holds.places d t e).1)))
 
-module _ {held : List ℕ} (d t : ℕ) where
-  held_no : ((b : List ℕ) → Holds b held → present (schema_of b) d t ≡ true → ⊥) → HeldBy held d t false
-  held_no n = record { is = λ b s. sym (fails (present (schema_of b) d t) (n b s)) }
-
-  pub past_sds : limits.sdss ≤ d → HeldBy held d t false
-  past_sds h = held_no (λ b s e. let l = (s.places d t e).0 in omega arith)
-
-  pub past_type : limits.types ≤ t → HeldBy held d t false
-  past_type h = held_no (λ b s e. let l = (s.places d t e).1 in omega arith)
-
-  pub held_bit : d < limits.sdss → t < limits.types → HeldBy held d t (eqb (bit_and (get_or held t 0 / 2 ^ d) 1) 1)
-  held_bit h k = record { is = λ b s. bit_masked (get_or held t 0) d ∙ s.shows t d k h }
+pub held_bit : {held : List ℕ} (d t : ℕ) → d < limits.sdss → t < limits.types → HeldBy held d t (eqb (bit_and (get_or held t 0 / 2 ^ d) 1) 1)
+held_bit {held} d t h k = record { is = λ b s. bit_masked (get_or held t 0) d ∙ s.shows t d k h }
 
 module _ {b held : List ℕ} (s : Holds b held) {d t : ℕ} {r : Bool} (h : HeldBy held d t r) where
   pub not_held : r ≡ false → present (schema_of b) d t ≡ true → ⊥
@@ -58,9 +48,6 @@ module _ {b held : List ℕ} (s : Holds b held) {d t : ℕ} {r : Bool} (h : Held
 
   pub is_held : r ≡ true → present (schema_of b) d t ≡ true
   is_held e = sym (h.is b s) ∙ e
-
-  pub held_below : r ≡ true → t < 128
-  held_below e = (s.places d t (is_held e)).1
 
 -- SDS 0 holds type 0 alone, and so no type of another kind
 pub shown_lacks : {b held : List ℕ} → Shown b held → (test : Kind → Bool) → test (object []) ≡ false → (d t : ℕ)

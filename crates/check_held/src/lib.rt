@@ -12,10 +12,7 @@ use rules::Limits;
 pub fn sdss_of(held: &[u16], t: usize) -> u16
     ensures { result ≡ get_or held.now t 0 }
 {
-    if held.len() <= t {
-        return 0;
-    }
-    held[t]
+    held.get(t).copied().unwrap_or(0)
 }
 
 // Whether the SDSs of the one word are among those of the other.
@@ -30,11 +27,5 @@ pub fn is_held(held: &[u16], d: usize, t: usize) -> bool
     requires { length held.now ≡ limits.types }
     ensures { HeldBy held.now d t result }
 {
-    if Limits::SDSS <= d {
-        return false;
-    }
-    if Limits::TYPES <= t {
-        return false;
-    }
-    (held[t] >> d) & 1 == 1
+    d < Limits::SDSS && t < Limits::TYPES && (held[t] >> d) & 1 == 1
 }

@@ -146,11 +146,6 @@ module _ {b : List ℕ} (f : Fine b) where
 
 -- ---- what the words keep
 
--- there are as many words as before
-pub keeps_room : {b words : List ℕ} {n : ℕ} → Keeps b n words → (before : List ℕ) → before ≡ replicate {A = ℕ} limits.types 0
-    → length words ≡ length before
-keeps_room k before e = k.room ∙ sym (zeros_room limits.types e)
-
 pub keeps_none : (b words : List ℕ) → words ≡ replicate {A = ℕ} limits.types 0 → Keeps b 0 words
 keeps_none b words e = record {
   room = zeros_room limits.types e;
@@ -165,6 +160,10 @@ pub record RowRead (b : List ℕ) (i : ℕ) (words : List ℕ) (t r : ℕ) : Typ
   pub keeps : Keeps b i words
   pub type : t ≡ (presence_shown b i).type
   pub reverse : r ≡ reverse_byte b t
+
+pub row_read : {b words : List ℕ} {i t r : ℕ} → Fine b → (i < presence_count b) × Keeps b i words → t ≡ (presence_shown b i).type
+    → r ≡ reverse_byte b t → RowRead b i words t r
+row_read fine kept type reverse = record { fine = fine; below = kept.0; keeps = kept.1; type = type; reverse = reverse }
 
 module _ {b words : List ℕ} {i t r : ℕ} (x : RowRead b i words t r) where
   -- a type without a reverse has nothing to agree with

@@ -28,12 +28,9 @@ fn row_agrees(base: &[u8], i: usize, words: &mut [u16]) -> bool
     }
     let start = base::presence_sds(base, i) * SDS;
     let word = start + base::presence_usage(base, i) * USAGE + base::presence_definition(base, i);
-    let other = words[reverse] as usize;
+    let other = usize::from(words[reverse]);
     words[t] = word as u16;
-    if other < start {
-        return true;
-    }
-    other == word
+    other < start || other == word
 }
 
 // The n presences are all, and fine, and so are the types. The words are 0 before.
@@ -43,12 +40,10 @@ pub fn pairs_fine(base: &[u8], n: usize, words: &mut [u16]) -> bool
     requires words_value { words.old ≡ replicate limits.types 0 }
     ensures { Decides (Alike (schema_of base.now).types (schema_of base.now).presences) result }
 {
-    let mut i = 0;
-    while i < n {
+    for i in 0..n {
         if !row_agrees(base, i, words) {
             return false;
         }
-        i += 1;
     }
     true
 }

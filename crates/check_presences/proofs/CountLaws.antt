@@ -1,15 +1,15 @@
--- Laws of how many bits words have: one bit more, and words counted four at a time. Assumes nothing.
-use Prim.Native.Nat.{ℕ, zero, suc, ◌+◌, ◌*◌, ◌/◌, ◌%◌, ◌^◌, ◌≤◌, ◌<◌, max}
-use native.Mathlib.Nat.{lt_of_lt_of_le, max-eq_right, mod-lt}
+-- Laws of how many bits words have: one bit more, and one word more. Assumes nothing.
+use Prim.Native.Nat.{ℕ, zero, suc, ◌+◌, ◌*◌, ◌/◌, ◌%◌, ◌^◌, ◌<◌, max}
+use native.Mathlib.Nat.{max-eq_right, mod-lt}
 use native.Mathlib.Omega.{arith}
 use mathlib.Core.Path.{◌≡◌, refl, sym, ap, ◌∙◌}
 use mathlib.Core.List.{List, [], ◌∷◌, ◌++◌}
 use mathlib.Core.Bool.{cond}
-use lib.Bits.{bit_or, or_zero_r, or_step, or_block, or_lt, or_shifted_r}
+use lib.Bits.{bit_or, or_zero_r, or_step, or_block}
 use lib.Count.{ones, ones_step, ones_cat}
 use lib.Dec.{eqb, lit<}
 use lib.ListN.{length, get_or, take, set, replicate}
-use lib.Pow.{pow_pos, pow_mono, split, shl_exact, shl_lt}
+use lib.Pow.{pow_pos, split, shl_exact}
 use lib.Seq.{take-add}
 use Rattle.type_set.specs.Set.{bit}
 use Rattle.rows.specs.Rows.{part}
@@ -65,44 +65,14 @@ bits_marked held t d h k =
     let w = get_or held t 0 in
     omega (arith, bits_set held t (bit_or w (1 * 2 ^ d % 2 ^ 16)) h, ones_marked w d k)
 
--- ---- four words at a time
-
--- a word above k bits
-above : (x k w : ℕ) → x < 2 ^ k → w < 65536 → 16 + k ≤ 64
-    → (bit_or x (w * 2 ^ k % 2 ^ 64) < 2 ^ (16 + k)) × (ones (bit_or x (w * 2 ^ k % 2 ^ 64)) ≡ ones x + ones w)
-above x k w h small room =
-    let fits : w * 2 ^ k % 2 ^ 64 ≡ w * 2 ^ k = shl_exact 16 k 64 small room in
-    rw fits (
-      or_lt (16 + k) x (w * 2 ^ k) (lt_of_lt_of_le h (pow_mono (omega arith))) (shl_lt 16 k small),
-      ap ones (or_shifted_r w k x h) ∙ ones_cat k w x h ∙ omega arith,
-    )
-
--- so four words are one, as the code makes it
-pub ones_four : (l : List ℕ) (t : ℕ) → ((j : ℕ) → get_or l j 0 < 65536) → t + 4 ≤ length l
-    → ones (bit_or (bit_or (bit_or (get_or l t 0) (get_or l (t + 1) 0 * 2 ^ 16 % 2 ^ 64)) (get_or l (t + 2) 0 * 2 ^ 32 % 2 ^ 64))
-    (get_or l (t + 3) 0 * 2 ^ 48 % 2 ^ 64))
-    ≡ bits_in (part l t 4)
-unfolding bits_in
-ones_four l t small h =
-    let (u, a) = above (get_or l t 0) 16 (get_or l (t + 1) 0) (small t) (small (t + 1)) (omega arith) in
-    let (v, b) = above _ 32 (get_or l (t + 2) 0) u (small (t + 2)) (omega arith) in
-    let c = (above _ 48 (get_or l (t + 3) 0) v (small (t + 3)) (omega arith)).1 in
-    let two : t + 1 + 1 ≡ t + 2 = omega arith in
-    let three : t + 2 + 1 ≡ t + 3 = omega arith in
-    sym (rw (
-      part_cons l t 4 3 (omega arith) refl,
-      part_cons l (t + 1) 3 2 (omega arith) refl,
-      two,
-      part_cons l (t + 2) 2 1 (omega arith) refl,
-      three,
-      part_cons l (t + 3) 1 0 (omega arith) refl,
-    ) (omega arith))
+-- ---- one word more
 
 bits_append : (l m : List ℕ) → bits_in (l ++ m) ≡ bits_in l + bits_in m
 unfolding bits_in
 bits_append [] m = omega arith
 bits_append (w ∷ l) m = omega (arith, bits_append l m)
 
--- four words on
-pub bits_more : (l : List ℕ) (t : ℕ) → bits_in (take (t + 4) l) ≡ bits_in (take t l) + bits_in (part l t 4)
-bits_more l t = ap bits_in (take-add t 4 l) ∙ bits_append (take t l) (part l t 4)
+pub bits_more : (l : List ℕ) (k : ℕ) → k < length l → bits_in (take (k + 1) l) ≡ bits_in (take k l) + ones (get_or l k 0)
+unfolding bits_in
+bits_more l k h =
+    ap bits_in (take-add k 1 l) ∙ bits_append (take k l) (part l k 1) ∙ rw (part_cons l k 1 0 (omega arith) refl) (omega arith)

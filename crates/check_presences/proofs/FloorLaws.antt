@@ -4,6 +4,9 @@ use native.Mathlib.Omega.{arith}
 use mathlib.Core.Path.{◌≡◌, refl, sym, ap, ap₂, ◌∙◌, subst}
 use mathlib.Core.Logic.{◌⊎◌, inl, inr, ⊎_elim}
 use mathlib.Core.List.{List, [], ◌∷◌}
+use Rattle.std.proofs.Common.{Some, None, cond}
+use Rattle.std.specs.Ordering.{partial_lt, partial_ordering_then, nat_cmp, is_lt, is_some_and}
+use Rattle.std.specs.declared.cmp.Ordering.TheVariants.{Less, Equal, Greater}
 use mathlib.Core.Bool.{Bool, true, false, not, ◌&&◌, ◌||◌, true≢false}
 use lib.Dec.{ltb, eqb}
 use lib.ListN.{length, get_or, replicate, length-map}
@@ -23,13 +26,11 @@ use Rattle.rows.proofs.OrderLaws.{keyed_before, before_apart, before_alike, befo
 use Rattle.rows.proofs.Scan.{length_part}
 use Rattle.base.specs.Rows.{presence_at}
 use Rattle.base.specs.Back.{schema_of}
-use Rattle.lookup.proofs.SdsShown.{used_below}
 use Rattle.check_presences.specs.declared.Floor.{Floor}
 use Rattle.check_presences.specs.Rows.{tag, told_apart}
 use Rattle.check_presences.specs.Fields.{FieldFine, first_half, second_half, halves, names_before, SdsBit}
-use Rattle.check_presences.specs.Floor.{Follows, Bottom, Halves, MadeBy, Last, Under, above, Begun, RowPassed, GoesOn}
+use Rattle.check_presences.specs.Floor.{Follows, Bottom, Halves, MadeBy, Last, Under, above, Begun, Made, GoesOn}
 use Rattle.check_presences.proofs.OrderLaws.{told_rows}
-use Rattle.check_presences.proofs.GatherLaws.{bit_some}
 use Rattle.check_presences.proofs.HalfLaws.{letter_named, named_letter, zeros_half, half_zeros, blank_tag, named_tag, same_small}
 
 -- ---- two rows, by their keys
@@ -84,26 +85,29 @@ module _ (b : List ℕ) (i j : ℕ) (row next : Key) where
         eq-eqb next.second row.second (sym l),
       )
 
--- ---- the bit of a used SDS
-
-bit_nonzero : (b : List ℕ) → length b ≡ base_length → {d r : ℕ} → SdsBit b d r → r ≡ 0 → ⊥
-bit_nonzero b long {d} s z = bit_some d (used_below b long d s.used) (sym s.is ∙ z)
-
 -- ---- above a floor
 
+-- the order of pairs of numbers
+pub pair_before : (f : Floor) (k : Key) → partial_lt {X = ℕ × ℕ} (λ x y. partial_ordering_then (Some (nat_cmp x.0 y.0)) (Some (nat_cmp x.1 y.1)))
+    (f.first, f.second) (k.first, k.second)
+    ≡ (ltb f.first k.first || (eqb f.first k.first && ltb f.second k.second))
+pair_before f k = go (ltb f.first k.first) (eqb f.first k.first) (ltb f.second k.second) (eqb f.second k.second)
+  where
+    go : (p q r s : Bool) → is_some_and is_lt (partial_ordering_then (Some (cond p Less (cond q Equal Greater))) (Some (cond r Less (cond s Equal Greater))))
+        ≡ (p || (q && r))
+    go true q r s = refl
+    go false true true s = refl
+    go false true false true = refl
+    go false true false false = refl
+    go false false r s = refl
+
 module _ (f : Floor) (k : Key) where
-  above_is : above f k ≡ (ltb f.first k.first || (eqb f.first k.first && ltb f.second k.second))
+  pub above_is : above f k ≡ (ltb f.first k.first || (eqb f.first k.first && ltb f.second k.second))
   unfolding bytes_before
   above_is = ap (λ (t : Bool). ltb f.first k.first || (eqb f.first k.first && t)) (before_last f.second k.second)
 
-  pub above_first : f.first < k.first → true ≡ above f k
+  above_first : f.first < k.first → true ≡ above f k
   above_first l = sym (above_is ∙ or_left _ _ (lt-ltb f.first k.first l))
-
-  pub above_not : (f.first < k.first → ⊥) → (f.first ≡ k.first → ⊥) → false ≡ above f k
-  above_not l n = sym (above_is ∙ rw (le-ltb f.first k.first (omega arith), ne_eqb f.first k.first n))
-
-  pub above_second : f.first ≡ k.first → ltb f.second k.second ≡ above f k
-  above_second e = sym (above_is ∙ rw (le-ltb f.first k.first (omega arith), eq-eqb f.first k.first e))
 
   above_cases : above f k ≡ true → (f.first < k.first) ⊎ ((f.first ≡ k.first) × (f.second < k.second))
   above_cases e =
@@ -135,6 +139,20 @@ pub record Meets (b : List ℕ) (last i : ℕ) (f : Floor) (next : Key) : Type 0
   pub fine : FieldFine b i
   pub key : Keyed b (presence_at i) next
   pub under : Under b last i f
+
+pub met : {b : List ℕ} {last i : ℕ} {f : Floor} {next : Key} → (length b ≡ base_length) × ((last < limits.presences) × (i < limits.presences))
+    → FieldFine b last × FieldFine b i → ((k : ℕ) → get_or b k 0 < 256) → Keyed b (presence_at i) next → Under b last i f → Meets b last i f next
+met long fine bytes key under =
+    record {
+      long = long.0;
+      bytes = bytes;
+      last_few = long.1.0;
+      few = long.1.1;
+      last_fine = fine.0;
+      fine = fine.1;
+      key = key;
+      under = under;
+    }
 
 module _ {b : List ℕ} {last i : ℕ} {f : Floor} {next : Key} (m : Meets b last i f next) where
   abbrev row : Key
@@ -275,53 +293,40 @@ module _ (b : List ℕ) (long : length b ≡ base_length) {last i : ℕ} {f : Fl
   same_under : get_or b (presence_at last) 0 ≡ get_or b (presence_at i) 0 → Under b last i f
   same_under e = record { bit = subst (λ (d : ℕ). SdsBit b d f.bit) e l.bit; made = inl (e, l.made) }
 
-  pub begun_same : get_or b (presence_at last) 0 ≡ get_or b (presence_at i) 0 → Begun b last i f
-  begun_same e = record { some = λ _. same_under e; none = λ z _. bit_nonzero b long l.bit z }
+  pub begun_same : get_or b (presence_at last) 0 ≡ get_or b (presence_at i) 0 → Begun b last i (Some f)
+  begun_same = same_under
 
   -- one that stands before it
-  pub begun_back : {r : Floor} → r.bit ≡ 0 → get_or b (presence_at i) 0 < get_or b (presence_at last) 0 → Begun b last i r
-  begun_back z h = record {
-    some = λ n. absurd (n z);
-    none = λ _ q.
-        true≢false (sym q.behind ∙ sds_apart b last i (λ e. omega arith) ∙ le-ltb (get_or b (presence_at last) 0) (get_or b (presence_at i) 0) (omega arith));
-  }
+  pub begun_back : get_or b (presence_at i) 0 < get_or b (presence_at last) 0 → Begun b last i None
+  begun_back h q =
+      true≢false (sym q.behind ∙ sds_apart b last i (λ e. omega arith) ∙ le-ltb (get_or b (presence_at last) 0) (get_or b (presence_at i) 0) (omega arith))
 
   -- one that is not used
-  pub begun_unused : {r : Floor} → r.bit ≡ 0 → used_sds (schema_of b) (get_or b (presence_at i) 0) ≡ false → Begun b last i r
-  begun_unused z e = record { some = λ n. absurd (n z); none = λ _ q. true≢false (sym q.used ∙ e) }
+  pub begun_unused : used_sds (schema_of b) (get_or b (presence_at i) 0) ≡ false → Begun b last i None
+  begun_unused e q = true≢false (sym q.used ∙ e)
 
   -- another
   pub begun_new : {r : Floor} {d : ℕ} → d ≡ get_or b (presence_at i) 0 → get_or b (presence_at last) 0 < d → used_sds (schema_of b) d ≡ true
-      → (r.bit ≡ 1 * 2 ^ d % 2 ^ 16) × Bottom r → Begun b last i r
+      → (r.bit ≡ 1 * 2 ^ d % 2 ^ 16) × Bottom r → Begun b last i (Some r)
   begun_new {r} {d} is h used x =
-      let bit : SdsBit b d r.bit = record { used = used; is = x.0 } in record {
-        some = λ _. record { bit = subst (λ (d : ℕ). SdsBit b d r.bit) is bit; made = inr (omega (arith, is), x.1) };
-        none = λ z _. bit_nonzero b long bit z;
-      }
+      let bit : SdsBit b d r.bit = record { used = used; is = x.0 } in
+      record { bit = subst (λ (d : ℕ). SdsBit b d r.bit) is bit; made = inr (omega (arith, is), x.1) }
 
 -- ---- a row that is passed
 
--- it is refused
-pub row_refused : {b : List ℕ} {last i : ℕ} {r : Floor} → r.bit ≡ 0 → (Follows b last i → ⊥) → RowPassed b last i r
-row_refused z x = record { follows = λ n. absurd (n z); made = λ n. absurd (n z); none = λ _. x }
-
 module _ {b : List ℕ} {last i : ℕ} {f : Floor} {next : Key} (m : Meets b last i f next) where
   -- it follows, and makes a floor with the bit
-  row_follows : {r : Floor} → r.bit ≡ f.bit → Follows b last i → MadeBy b i r → RowPassed b last i r
-  row_follows {r} w q made = record {
-    follows = λ _. q;
-    made = λ _. record { bit = rw w m.under.bit; made = made };
-    none = λ z _. bit_nonzero b m.long m.under.bit (sym w ∙ z);
-  }
+  row_follows : {r : Floor} → r.bit ≡ f.bit → Follows b last i → MadeBy b i r → Made b last i r
+  row_follows {r} w q made = record { follows = q; made = record { bit = rw w m.under.bit; made = made } }
 
-  pub row_above : above f next ≡ true → RowPassed b last i (record { bit = f.bit; first = next.first; second = next.second })
-  row_above e =
-      row_follows refl (above_follows m e) (inl (record { named = above_named m e; first = m.key.first; second = m.key.second }))
+  pub row_above : {r : Floor} → above f next ≡ true → (r.bit ≡ f.bit) × ((r.first ≡ next.first) × (r.second ≡ next.second)) → Made b last i r
+  row_above e x =
+      row_follows x.0 (above_follows m e) (inl (record { named = above_named m e; first = x.1.0 ∙ m.key.first; second = x.1.1 ∙ m.key.second }))
 
-  pub row_nameless : {r : Floor} → above f next ≡ false → Follows b last i → (r.bit ≡ f.bit) × Bottom r → RowPassed b last i r
+  pub row_nameless : {r : Floor} → above f next ≡ false → Follows b last i → (r.bit ≡ f.bit) × Bottom r → Made b last i r
   row_nameless {r} n q x = go (eqb next.first 0x0101010101010101) refl
     where
-      go : (t : Bool) → eqb next.first 0x0101010101010101 ≡ t → RowPassed b last i r
+      go : (t : Bool) → eqb next.first 0x0101010101010101 ≡ t → Made b last i r
       go true e = row_follows x.0 q (inr (zeros m (eqb-true next.first 0x0101010101010101 e), x.1))
       go false e = absurd (not_behind m n (eqb-false next.first 0x0101010101010101 e) q)
 
@@ -329,7 +334,7 @@ module _ {b : List ℕ} {last i : ℕ} {f : Floor} {next : Key} (m : Meets b las
 pub row_goes_on : (b : List ℕ) → length b ≡ base_length → ((k : ℕ) → get_or b k 0 < 256) → {last i : ℕ} {f : Floor} {second : ℕ}
     → last < limits.presences → i < limits.presences → FieldFine b last → FieldFine b i → Last b last f
     → GoesOn b (presence_at last) (presence_at i) f second → second ≡ second_half b i
-    → RowPassed b last i (record { bit = f.bit; first = f.first; second = second })
+    → Made b last i (record { bit = f.bit; first = f.first; second = second })
 row_goes_on b long bytes {last} {i} {f} {second} h k last_fine fine l g is = ⊎_elim by_halves after_blank l.made
   where
     key : Key
@@ -347,12 +352,14 @@ row_goes_on b long bytes {last} {i} {f} {second} h k last_fine fine l g is = ⊎
       under = same_under b long l g.sds;
     }
 
-    by_halves : Halves b last f → RowPassed b last i (record { bit = f.bit; first = f.first; second = second })
+    by_halves : Halves b last f → Made b last i (record { bit = f.bit; first = f.first; second = second })
     by_halves v =
         let same : f.first ≡ first_half b i = v.first ∙ ap (λ (l : List ℕ). number 0 (folded l)) g.first in
-        let higher = sym (above_second f key same) ∙ lt-ltb f.second (second_half b i) (omega (arith, g.above, is)) in
-        subst (RowPassed b last i) (λ z. record { bit = f.bit; first = sym same z; second = sym is z }) (row_above meets higher)
+        let higher : above f key ≡ true
+        = above_is f key ∙ rw (le-ltb f.first (first_half b i) (omega arith), eq-eqb f.first (first_half b i) same)
+        (lt-ltb f.second (second_half b i) (omega (arith, g.above, is))) in
+        row_above meets higher (refl, (same, is))
 
     after_blank : (part b (presence_at last + name_offset) limits.name ≡ replicate limits.name 0) × Bottom f
-        → RowPassed b last i (record { bit = f.bit; first = f.first; second = second })
+        → Made b last i (record { bit = f.bit; first = f.first; second = second })
     after_blank z = absurd (omega (arith, z.1.second, g.above, is, second_below meets))

@@ -1,7 +1,7 @@
 -- Words that are gathered row by row. Assumes nothing.
 use Prim.Native.Nat.{ℕ, ◌+◌, ◌*◌, ◌%◌, ◌^◌, ◌<◌}
 use native.Mathlib.Omega.{arith}
-use mathlib.Core.Path.{◌≡◌, refl, sym, ap, ◌∙◌, subst}
+use mathlib.Core.Path.{◌≡◌, sym, ap, ◌∙◌, subst}
 use mathlib.Core.Logic.{⊎_elim}
 use mathlib.Core.List.{List}
 use mathlib.Core.Bool.{true, ◌&&◌, false≢true}
@@ -14,7 +14,7 @@ use Rattle.rules.specs.02-Limits.{limits}
 use Rattle.rules.specs.Read.{type_offset}
 use Rattle.rules.proofs.Bools.{or_cases, or_left, or_right, and_both, and_of}
 use Rattle.type_set.specs.Set.{bit}
-use Rattle.type_set.proofs.Bit.{bit_zero, bit_mark}
+use Rattle.type_set.proofs.Bit.{bit_zero}
 use Rattle.rows.proofs.Scan.{zeros_room, zero_at}
 use Rattle.base.specs.Rows.{presence_at}
 use Rattle.check_held.specs.Held.{marked}
@@ -28,10 +28,6 @@ gathers_none b held e = record {
   marked = λ i h. absurd (omega arith);
   marks = λ t d h k q. absurd (false≢true (sym (bit_zero d) ∙ ap (λ (w : ℕ). bit w d) (sym (zero_at limits.types e t)) ∙ q));
 }
-
-pub gathers_room : {b held : List ℕ} {n : ℕ} → Gathers b n held → (before : List ℕ) → before ≡ replicate {A = ℕ} limits.types 0
-    → length held ≡ length before
-gathers_room g before e = g.room ∙ sym (zeros_room limits.types e)
 
 -- row n too
 pub gathers_more : {b : List ℕ} {n : ℕ} {held : List ℕ} → Gathers b n held → (t d : ℕ) → t ≡ get_or b (presence_at n + type_offset) 0
@@ -67,9 +63,3 @@ pub gathers_first : (b held : List ℕ) → held ≡ replicate {A = ℕ} limits.
 gathers_first b held e t d =
     subst (λ (w : ℕ). Gathers b 1 (set held 0 w)) (ap (λ (w : ℕ). bit_or w (1 * 2 ^ 0 % 2 ^ 16)) (zero_at limits.types e 0))
     (gathers_more (gathers_none b held e) 0 0 (sym t) (sym d) (omega arith) (omega arith))
-
--- ---- the bit of an SDS
-
-pub bit_some : (d : ℕ) → d < 16 → 1 * 2 ^ d % 2 ^ 16 ≡ 0 → ⊥
-bit_some d h e =
-    false≢true (sym (bit_zero d) ∙ ap (λ (w : ℕ). bit w d) (sym e) ∙ bit_mark 16 d d h ∙ eq-eqb d d refl)

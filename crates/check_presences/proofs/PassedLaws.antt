@@ -6,10 +6,10 @@ use mathlib.Core.Logic.{◌⊎◌, inl, inr, ⊎_elim}
 use mathlib.Core.List.{List}
 use mathlib.Core.Bool.{Bool, true, false, cond, true≢false, false≢true}
 use lib.Bits.{bit_or}
-use lib.Dec.{ltb}
+use lib.Dec.{ltb, eqb}
 use lib.ListN.{get_or, set, replicate}
 use borrow.Author.Count.{below_none, below_more}
-use borrow.Author.Tests.{ltb-true, ltb-false}
+use borrow.Author.Tests.{ltb-true, ltb-false, eqb-true, eqb-false}
 use Rattle.rules.specs.01-Lists.{bytes_before}
 use Rattle.rules.specs.02-Limits.{limits}
 use Rattle.rules.specs.04-Schema.{used_sds}
@@ -146,7 +146,7 @@ fine_follows {b} {n} k h f = record {
 -- ---- all are passed
 
 module _ {b held : List ℕ} {n k : ℕ} {f : Floor} (p : Passed b k f held) (e : n ≡ k + 1) where
-  pub passed_all : bits_in held ≡ n → RowsGathered b n held true
+  passed_all : bits_in held ≡ n → RowsGathered b n held true
   passed_all all =
       let once : OnceEach b (k + 1) = ⊎_elim (λ x. x.1) (λ x. absurd (omega (arith, x.0))) p.tally in
       subst (λ (m : ℕ). RowsGathered b m held true) (sym e) (record {
@@ -154,9 +154,17 @@ module _ {b held : List ℕ} {n k : ℕ} {f : Floor} (p : Passed b k f held) (e 
         gathers = λ _. p.gathers;
       })
 
-  pub passed_twice : (bits_in held ≡ n → ⊥) → RowsGathered b n held false
+  passed_twice : (bits_in held ≡ n → ⊥) → RowsGathered b n held false
   passed_twice x =
       rows_refused (λ fine. ⊎_elim (λ y. x (y.0 ∙ sym e)) (λ y. y.1 (λ i j l h. fine.once i j l (omega arith))) p.tally)
+
+  -- as many bits as rows, or not
+  pub counted : (bits : ℕ) → bits ≡ bits_in held → RowsGathered b n held (eqb bits n)
+  counted bits is = go (eqb bits n) refl
+    where
+      go : (r : Bool) → eqb bits n ≡ r → RowsGathered b n held r
+      go true q = passed_all (sym is ∙ eqb-true bits n q)
+      go false q = passed_twice (λ z. eqb-false bits n q (is ∙ z))
 
 -- there is but one
 pub first_all : {b : List ℕ} {n : ℕ} (held : List ℕ) → SystemFirst b n → used_sds (schema_of b) 0 ≡ true

@@ -30,7 +30,9 @@ use Rattle.check_held.specs.Held.{Holds}
 use Rattle.check_held.specs.Fine.{PresencesFine}
 use Rattle.check_held.proofs.HeldLaws.{present_shown}
 use Rattle.check_presences.specs.Rows.{NamedFine, SystemFirst, NamesRise, RowsFine}
-use Rattle.check_presences.specs.Fields.{AllModes, FieldsTold}
+use Rattle.check_presences.specs.declared.Modes.{Modes}
+use Rattle.check_presences.specs.declared.Modes.TheVariants.{All}
+use Rattle.check_presences.specs.Fields.{AllModes, Told}
 use Rattle.check_presences.specs.Gathered.{Gathers}
 use Rattle.check_presences.proofs.RowLaws.{fine_name, fine_nameless, named_written, written_named, name_used, object_named}
 use Rattle.check_presences.proofs.TellLaws.{level, first_alone}
@@ -240,5 +242,5 @@ module _ {b : List ℕ} {n : ℕ} (long : length b ≡ base_length) (half : Pres
     pub found_holds : {held : List ℕ} → Gathers b n held → Holds b held
     found_holds g = gathers_all long p (fine_count p).is g
 
-    pub found_modes : {r : ℕ} → FieldsTold b n r → r ≡ 1 → (q : Presence) → q ∈ (schema_of b).presences → AllModes q
+    pub found_modes : {modes : Modes} → Told b n modes → modes ≡ All → (q : Presence) → q ∈ (schema_of b).presences → AllModes q
     found_modes t e q m = let (i, h, one) = presence_in b q m in rw one (t.all e i (omega (arith, (fine_count p).is)))

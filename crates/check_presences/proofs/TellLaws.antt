@@ -1,10 +1,10 @@
 -- What the pass over fields, types and modes keeps of the rows passed, and what it comes to. Assumes nothing.
 use Prim.Native.Nat.{ℕ, zero, suc, ◌+◌, ◌*◌, ◌≤◌, ◌<◌}
 use native.Mathlib.Omega.{arith}
-use mathlib.Core.Path.{◌≡◌, refl, sym, ap, ◌∙◌}
+use mathlib.Core.Path.{◌≡◌, refl, sym, ap, ◌∙◌, subst}
 use mathlib.Core.Logic.{inl, ⊎_elim}
 use mathlib.Core.List.{List, [], ◌∷◌, ◌++◌}
-use mathlib.Core.Bool.{true, false, true≢false}
+use mathlib.Core.Bool.{true}
 use lib.ListN.{length, get_or, replicate}
 use lib.Bits.{bit_and, bit_or, and_le_l, and_le_r}
 use borrow.Author.Count.{below_none, below_more}
@@ -23,8 +23,10 @@ use Rattle.rows.proofs.Rows.{part_byte}
 use Rattle.rows.proofs.Scan.{length_part, rising_level}
 use Rattle.base.specs.Tables.{presences}
 use Rattle.base.specs.Rows.{presence_at}
+use Rattle.check_presences.specs.declared.Modes.{Modes}
+use Rattle.check_presences.specs.declared.Modes.TheVariants.{All}
 use Rattle.check_presences.specs.Rows.{NamedFine, SystemFirst, tag, NamesRise, RowsFine}
-use Rattle.check_presences.specs.Fields.{tail_of, FieldFine, FieldsTold}
+use Rattle.check_presences.specs.Fields.{tail_of, FieldFine, Told}
 use Rattle.check_presences.proofs.RowLaws.{object_named}
 use Rattle.check_presences.proofs.HalfLaws.{field_low}
 use Rattle.check_presences.proofs.TailLaws.{word, Columns, column_first, columns_more, looked_at, five_modes, columns_told, columns_tell}
@@ -137,26 +139,22 @@ kept_more {b} {n} {i} {all} {any} {m} {were} long most s bytes some h k g is =
       tails = columns_more k.tails (bytes _) (bytes _) (bytes _) (bytes _) (omega (arith, is));
     }
 
+pub all_kept : {b : List ℕ} {n i : ℕ} {faults : List ℕ} {all any : ℕ} → Kept b n i faults all any → i ≡ n → Kept b n n faults all any
+all_kept {b} {n} {i} {faults} {all} {any} k e = subst (λ (m : ℕ). Kept b n m faults all any) e k
+
 -- ---- what it comes to
 
-refused : {b : List ℕ} {n : ℕ} → (RowsFine b n → ⊥) → FieldsTold b n 0
-refused f = record { fails = λ _. f; each = λ n. absurd (n refl); all = λ e. absurd (omega arith) }
-
 module _ {b : List ℕ} {n all any : ℕ} {faults : List ℕ} (k : Kept b n n faults all any) where
-  pub strange_fields : blank_field faults ≡ false → FieldsTold b n 0
-  strange_fields e = refused (λ fine. true≢false (sym (k.blank fine) ∙ e))
-
-  pub strange_tails : length b ≡ base_length → n ≤ limits.presences → SystemFirst b n → (bit_and any looked_at ≡ five_modes → ⊥) → FieldsTold b n 0
-  strange_tails long most s x =
-      refused (λ fine. x (columns_tell k.tails s.some s.usage s.definition
+  pub strange_tails : length b ≡ base_length → n ≤ limits.presences → SystemFirst b n → (bit_and any looked_at ≡ five_modes → ⊥) → RowsFine b n → ⊥
+  strange_tails long most s x fine =
+      x (columns_tell k.tails s.some s.usage s.definition
       (λ j h. last_low b j long (omega arith) (named_orderly b j long (omega arith) (fine.each j h).named))
-      (λ j h. (fine.each j h).small) (λ j h. (fine.each j h).known.usage) (λ j h. (fine.each j h).known.definition)))
+      (λ j h. (fine.each j h).small) (λ j h. (fine.each j h).known.usage) (λ j h. (fine.each j h).known.definition))
 
-  pub told : {r : ℕ} → blank_field faults ≡ true → bit_and any looked_at ≡ five_modes → (r ≡ 0 → ⊥)
-      → (r ≡ 1 → bit_and all (word 0 0 255 255) ≡ five_modes) → FieldsTold b n r
-  told e f some one = record {
-    fails = λ z. absurd (some z);
-    each = λ _ i h.
+  pub told : {modes : Modes} → blank_field faults ≡ true → bit_and any looked_at ≡ five_modes
+      → (modes ≡ All → bit_and all (word 0 0 255 255) ≡ five_modes) → Told b n modes
+  told e f one = record {
+    each = λ i h.
         let (type, (usage, definition)) = columns_told k.tails f i h in
         record { field = k.fields e i h; small = type; known = record { usage = usage; definition = definition } };
     all = λ x i h.

@@ -1,5 +1,5 @@
 -- What the two passes over the presences look at: fields, types and modes row by row, and rows beside each other.
-use Rattle.std.specs.Prelude.{ℕ, ◌+◌, ◌*◌, ◌%◌, ◌^◌, ◌<◌, ◌≡◌, List, [], ◌∷◌, Bool, true, not, ◌&&◌, ◌||◌, ltb, get_or}
+use Rattle.std.specs.Prelude.{ℕ, ◌+◌, ◌*◌, ◌%◌, ◌^◌, ◌<◌, ◌≡◌, List, [], ◌∷◌, Bool, true, not, ◌&&◌, ◌||◌, ltb, get_or, Option, MatchOption}
 use Rattle.rules.specs.01-Lists.{bytes_before}
 use Rattle.rules.specs.02-Limits.{limits}
 use Rattle.rules.specs.04-Schema.{Presence, all_modes, used_sds}
@@ -11,6 +11,8 @@ use Rattle.rows.specs.Rows.{part}
 use Rattle.rows.specs.Order.{number, folded}
 use Rattle.base.specs.Rows.{presence_at}
 use Rattle.base.specs.Back.{schema_of, presence_shown}
+use Rattle.check_presences.specs.declared.Modes.{Modes}
+use Rattle.check_presences.specs.declared.Modes.TheVariants.{All}
 use Rattle.check_presences.specs.Rows.{tag, RowsFine}
 
 -- ---- a row by itself
@@ -35,11 +37,14 @@ pub record AllModes (p : Presence) : Type 0 where
   pub usage : p.usage ≡ all_modes
   pub definition : p.definition ≡ all_modes
 
--- 0 where one of n rows is not fine by itself; 1 only where all have all modes
-pub record FieldsTold (b : List ℕ) (n r : ℕ) : Type 0 where
-  pub fails : r ≡ 0 → RowsFine b n → ⊥
-  pub each : (r ≡ 0 → ⊥) → (i : ℕ) → i < n → ByItself b i
-  pub all : r ≡ 1 → (i : ℕ) → i < n → AllModes (presence_shown b i)
+-- n rows are fine by themselves, and all have all modes where that is told
+pub record Told (b : List ℕ) (n : ℕ) (modes : Modes) : Type 0 where
+  pub each : (i : ℕ) → i < n → ByItself b i
+  pub all : modes ≡ All → (i : ℕ) → i < n → AllModes (presence_shown b i)
+
+-- none where one of n rows is not fine by itself
+abbrev pub FieldsTold : List ℕ → ℕ → Option Modes → Type 0
+FieldsTold b n r = MatchOption r (RowsFine b n → ⊥) (λ modes. Told b n modes)
 
 -- the first half of its field, less its case, in one number
 abbrev pub first_half : List ℕ → ℕ → ℕ

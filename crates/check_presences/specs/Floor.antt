@@ -1,5 +1,5 @@
 -- What a row is to stand above: the name passed last in its SDS.
-use Rattle.std.specs.Prelude.{ℕ, ◌+◌, ◌<◌, ◌≡◌, ◌⊎◌, List, [], ◌∷◌, Bool, true, get_or, replicate}
+use Rattle.std.specs.Prelude.{ℕ, ◌+◌, ◌<◌, ◌≡◌, ◌⊎◌, List, [], ◌∷◌, Bool, true, get_or, replicate, Option, MatchOption}
 use Rattle.rules.specs.01-Lists.{bytes_before}
 use Rattle.rules.specs.02-Limits.{limits}
 use Rattle.rules.specs.04-Schema.{used_sds}
@@ -49,16 +49,18 @@ pub record Under (b : List ℕ) (last i : ℕ) (f : Floor) : Type 0 where
 abbrev pub above : Floor → Key → Bool
 above f k = bytes_before (f.first ∷ f.second ∷ []) (halves k)
 
--- without a bit it stands for a row that does not follow; with one, row i is to stand on it
-pub record Begun (b : List ℕ) (last i : ℕ) (f : Floor) : Type 0 where
-  pub some : (f.bit ≡ 0 → ⊥) → Under b last i f
-  pub none : f.bit ≡ 0 → Follows b last i → ⊥
+-- none stands for a row that does not follow; row i is to stand on any other
+abbrev pub Begun : List ℕ → ℕ → ℕ → Option Floor → Type 0
+Begun b last i r = MatchOption r (Follows b last i → ⊥) (λ f. Under b last i f)
 
--- or row i follows, and has made it
-pub record RowPassed (b : List ℕ) (last i : ℕ) (f : Floor) : Type 0 where
-  pub follows : (f.bit ≡ 0 → ⊥) → Follows b last i
-  pub made : (f.bit ≡ 0 → ⊥) → Last b i f
-  pub none : f.bit ≡ 0 → Follows b last i → ⊥
+-- row i follows, and has made it
+pub record Made (b : List ℕ) (last i : ℕ) (f : Floor) : Type 0 where
+  pub follows : Follows b last i
+  pub made : Last b i f
+
+-- none stands for a row that does not follow; row i has made any other
+abbrev pub RowPassed : List ℕ → ℕ → ℕ → Option Floor → Type 0
+RowPassed b last i r = MatchOption r (Follows b last i → ⊥) (λ f. Made b last i f)
 
 -- the row at `at` has the SDS and the first half of the name of the row at `was`, as spelled, and the second half is above
 pub record GoesOn (b : List ℕ) (was at : ℕ) (f : Floor) (second : ℕ) : Type 0 where

@@ -3,11 +3,9 @@
 #![tactic(auto)]
 
 ghost use Rattle.std.specs.Prelude.{◌≡◌, true, false, ℕ, ◌+◌, ◌≤◌, ◌<◌, length, replicate};
-ghost use Rattle.std.specs.Int.Count.{ones};
 ghost use Rattle.rules.specs.02-Limits.{limits};
 ghost use Rattle.rules.specs.04-Schema.{used_sds};
 ghost use Rattle.rules.specs.07-Picture.{base_length, presence_width};
-ghost use Rattle.rows.specs.Rows.{part};
 ghost use Rattle.rows.specs.Order.{Keyed};
 ghost use Rattle.rows.specs.Decides.{Decides};
 ghost use Rattle.base.specs.Rows.{presence_at};
@@ -26,28 +24,13 @@ pub fn system_first(base: &[u8], n: usize) -> bool
     requires { (length base.now ≡ base_length) × (n ≤ limits.presences) }
     ensures { Decides (SystemFirst base.now n) result }
 {
-    if n == 0 {
-        return false;
-    }
-    if base::presence_sds(base, 0) != 0 {
-        return false;
-    }
-    if base::presence_type(base, 0) != 0 {
-        return false;
-    }
-    if !names::is_equal(base::presence_field(base, 0), b"object\0\0\0\0\0\0\0\0\0\0") {
-        return false;
-    }
-    if base::presence_usage(base, 0) != Base::ALL_MODES {
-        return false;
-    }
-    if base::presence_definition(base, 0) != Base::ALL_MODES {
-        return false;
-    }
-    if n == 1 {
-        return true;
-    }
-    base::presence_sds(base, 1) != 0
+    n != 0
+        && base::presence_sds(base, 0) == 0
+        && base::presence_type(base, 0) == 0
+        && names::is_equal(base::presence_field(base, 0), b"object\0\0\0\0\0\0\0\0\0\0")
+        && base::presence_usage(base, 0) == Base::ALL_MODES
+        && base::presence_definition(base, 0) == Base::ALL_MODES
+        && (n == 1 || base::presence_sds(base, 1) != 0)
 }
 
 // ---- names, types and modes of the rows, each by itself
@@ -67,19 +50,25 @@ fn tail(base: &[u8], i: usize) -> usize
 // All five modes in either set.
 const ALL: usize = Base::ALL_MODES * 16777216 + Base::ALL_MODES * 65536;
 
-// 0 where a field of n rows holds what is neither a name, but for its first byte, nor blank, a type is none that there can be, or a mode is
-// none of the five; 1 where all rows have all modes; else 2. All of it is gathered, and looked at once. In a pass of its own: beside the order
-// of names the compiler would not read a field at once.
-pub fn fields_told(base: &[u8], n: usize) -> usize
+// What the modes of all rows are: all five everywhere, or not.
+#[derive(Clone, Copy, PartialEq, Eq)]
+pub enum Modes {
+    All,
+    Other,
+}
+
+// None where a field of n rows holds what is neither a name, but for its first byte, nor blank, a type is none that there can be, or a mode
+// is none of the five. All of it is gathered, and looked at once. In a pass of its own: beside the order of names the compiler would not
+// read a field at once.
+pub fn fields_told(base: &[u8], n: usize) -> Option<Modes>
     requires base_len { (length base.now ≡ base_length) × (n ≤ limits.presences) }
     requires system_first { SystemFirst base.now n }
     ensures { FieldsTold base.now n result }
 {
-    let mut faults: [u8; Limits::NAME] = [0; Limits::NAME];
+    let mut faults = [0; Limits::NAME];
     let mut all = ALL;
     let mut any = ALL;
-    let mut i = 1;
-    while i < n {
+    for i in 1..n {
         name_fields::gather(
             base,
             Base::PRESENCES_AT + i * Base::PRESENCE_WIDTH,
@@ -88,26 +77,25 @@ pub fn fields_told(base: &[u8], n: usize) -> usize
         let row = tail(base, i);
         all &= row;
         any |= row;
-        i += 1;
     }
     if !name_fields::is_blank_field(&faults) {
-        return 0;
+        return None;
     }
     // The last byte of a name is below 128, as the faults tell too: with it in `tail`, the compiler reads four bytes at once.
     if any & 0xffff_8080 != ALL {
-        return 0;
+        return None;
     }
     if all & 0xffff_0000 == ALL {
-        return 1;
+        return Some(Modes::All);
     }
-    2
+    Some(Modes::Other)
 }
 
 // ---- one row behind the other
 
 // What a row is to stand above: the halves, less their case, of the name passed last in an SDS, and the bit of that SDS. Before the first
 // name of an SDS they are below every name and above a blank field: so one comparison tells that a row has a name and stands in its
-// place. Where the bit is 0 a row was refused.
+// place.
 #[derive(Clone, Copy)]
 pub struct Floor {
     pub bit: u16,
@@ -121,16 +109,6 @@ const BLANK: u64 = 0x0101_0101_0101_0101;
 // Right below the first half of every name, which begins with a letter.
 const BOTTOM: u64 = 0x41ff_ffff_ffff_ffff;
 
-fn refused() -> Floor
-    ensures { result.bit ≡ 0 }
-{
-    Floor {
-        bit: 0,
-        first: 0,
-        second: 0,
-    }
-}
-
 fn bottom(bit: u16) -> Floor
     ensures { (result.bit ≡ bit) × Bottom result }
 {
@@ -141,8 +119,19 @@ fn bottom(bit: u16) -> Floor
     }
 }
 
+// Of the name that the key is of.
+fn named(bit: u16, key: Key) -> Floor
+    ensures { (result.bit ≡ bit) × ((result.first ≡ key.first) × (result.second ≡ key.second)) }
+{
+    Floor {
+        bit,
+        first: key.first,
+        second: key.second,
+    }
+}
+
 // What row i is to stand above: what row `last` has made, or the bottom of another SDS, which is used and stands behind that of `last`.
-fn begun(base: &[u8], last: usize, i: usize, floor: Floor) -> Floor
+fn begun(base: &[u8], last: usize, i: usize, floor: Floor) -> Option<Floor>
     requires base_len { (length base.now ≡ base_length) × ((last < limits.presences) × (i < limits.presences)) }
     requires last { Last base.now last floor }
     ensures { Begun base.now last i result }
@@ -150,27 +139,18 @@ fn begun(base: &[u8], last: usize, i: usize, floor: Floor) -> Floor
     let before = base::presence_sds(base, last);
     let d = base::presence_sds(base, i);
     if d == before {
-        return floor;
+        return Some(floor);
     }
-    if d < before {
-        return refused();
+    if d < before || !lookup::sdss::is_sds(base, d) {
+        return None;
     }
-    if !lookup::sdss::is_sds(base, d) {
-        return refused();
-    }
-    bottom(1u16 << d)
+    Some(bottom(1u16 << d))
 }
 
 fn is_above(floor: Floor, key: Key) -> bool
     ensures { result ≡ above floor key }
 {
-    if floor.first < key.first {
-        return true;
-    }
-    if floor.first != key.first {
-        return false;
-    }
-    floor.second < key.second
+    (floor.first, floor.second) < (key.first, key.second)
 }
 
 // Whether row i, which is not above, follows row `last` all the same: as a nameless one, of an object type, and behind nameless ones of
@@ -181,44 +161,29 @@ fn nameless_follows(base: &[u8], last: usize, i: usize, floor: Floor, key: Key) 
     requires under { Under base.now last i floor × (Keyed base.now (presence_at i) key × (above floor key ≡ false)) }
     ensures { Decides (Follows base.now last i) result }
 {
-    if key.first != BLANK {
-        return false;
-    }
-    if !lookup::types::is_kind(base, base::presence_type(base, i), Base::OBJECT) {
-        return false;
-    }
-    if base::presence_sds(base, last) != base::presence_sds(base, i) {
-        return true;
-    }
-    if floor.first != BOTTOM {
-        return false;
-    }
-    base::presence_type(base, last) < base::presence_type(base, i)
+    key.first == BLANK
+        && lookup::types::is_kind(base, base::presence_type(base, i), Base::OBJECT)
+        && (base::presence_sds(base, last) != base::presence_sds(base, i)
+            || floor.first == BOTTOM
+                && base::presence_type(base, last) < base::presence_type(base, i))
 }
 
 // What the row behind row i is to stand above in its SDS, if row i follows row `last`.
-fn compared(base: &[u8], last: usize, i: usize, floor: Floor) -> Floor
+fn compared(base: &[u8], last: usize, i: usize, floor: Floor) -> Option<Floor>
     requires base_len { (length base.now ≡ base_length) × ((last < limits.presences) × (i < limits.presences)) }
     requires field_fine { FieldFine base.now last × FieldFine base.now i }
     requires last { Last base.now last floor }
     ensures { RowPassed base.now last i result }
 {
-    let under = begun(base, last, i, floor);
-    if under.bit == 0 {
-        return refused();
-    }
+    let under = begun(base, last, i, floor)?;
     let key = base::order::presence_key(base, i);
     if is_above(under, key) {
-        return Floor {
-            bit: under.bit,
-            first: key.first,
-            second: key.second,
-        };
+        return Some(named(under.bit, key));
     }
     if !nameless_follows(base, last, i, under, key) {
-        return refused();
+        return None;
     }
-    bottom(under.bit)
+    Some(bottom(under.bit))
 }
 
 // Whether the row at `at` has the SDS of the row at `was`, and in the first half of its name the same bytes, as many neighbours have: then
@@ -227,18 +192,14 @@ fn goes_on(base: &[u8], was: usize, at: usize, floor: Floor, second: u64) -> boo
     requires { (was + 17 ≤ length base.now) × (at + 17 ≤ length base.now) }
     ensures { result ≡ true → GoesOn base.now was at floor second }
 {
-    if rows::byte(base, was) != rows::byte(base, at) {
-        return false;
-    }
-    if !rows::order::are_eight_same(base, was + Base::NAME_OFFSET, at + Base::NAME_OFFSET) {
-        return false;
-    }
-    floor.second < second
+    rows::byte(base, was) == rows::byte(base, at)
+        && rows::order::are_eight_same(base, was + Base::NAME_OFFSET, at + Base::NAME_OFFSET)
+        && floor.second < second
 }
 
 // The same as `compared`, for row i at `at`, right behind row `last`. Read by its offset here: were it read by its number too, the compiler
 // would read its bytes one by one.
-fn passed(base: &[u8], last: usize, i: usize, at: usize, floor: Floor) -> Floor
+fn passed(base: &[u8], last: usize, i: usize, at: usize, floor: Floor) -> Option<Floor>
     requires base_len { (length base.now ≡ base_length) × ((last < limits.presences) × (i < limits.presences)) }
     requires at_value { (at ≡ presence_at i) × (at ≡ presence_at last + presence_width) }
     requires field_fine { FieldFine base.now last × FieldFine base.now i }
@@ -247,38 +208,21 @@ fn passed(base: &[u8], last: usize, i: usize, at: usize, floor: Floor) -> Floor
 {
     let second = rows::order::folded(base, at + Base::NAME_OFFSET + 8);
     if goes_on(base, at - Base::PRESENCE_WIDTH, at, floor, second) {
-        return Floor {
-            bit: floor.bit,
-            first: floor.first,
-            second,
-        };
+        return Some(Floor { second, ..floor });
     }
     compared(base, last, i, floor)
 }
 
 // ---- all rows
 
-// Four words as one.
-fn four(held: &[u16], t: usize) -> u64
-    requires { t + 4 ≤ length held.now }
-    ensures { ones result ≡ bits_in (part held.now t 4) }
-{
-    (held[t] as u64)
-        | ((held[t + 1] as u64) << 16)
-        | ((held[t + 2] as u64) << 32)
-        | ((held[t + 3] as u64) << 48)
-}
-
-// How many bits the words have, four words at a time.
-fn bits_in(held: &[u16]) -> usize
+// How many bits the words have: in a number as wide as they are, so that the compiler counts in eight of them at once.
+fn bits_in(held: &[u16]) -> u16
     requires { length held.now ≡ limits.types }
     ensures { result ≡ bits_in held.now }
 {
     let mut bits = 0;
-    let mut t = 0;
-    while t < Limits::TYPES {
-        bits += u64::count_ones(four(held, t)) as usize;
-        t += 4;
+    for w in held {
+        bits += w.count_ones() as u16;
     }
     bits
 }
@@ -296,25 +240,16 @@ pub fn rows_fine(base: &[u8], n: usize, held: &mut [u16]) -> bool
     if n == 1 {
         return true;
     }
-    let key = base::order::presence_key(base, 0);
-    let mut floor = Floor {
-        bit: 1,
-        first: key.first,
-        second: key.second,
-    };
+    let mut floor = named(1, base::order::presence_key(base, 0));
+    // carried beside i, as `passed` asks for it
     let mut at = Base::PRESENCES_AT + Base::PRESENCE_WIDTH;
-    let mut last = 0;
-    while last + 1 < n {
-        let i = last + 1;
-        floor = passed(base, last, i, at, floor);
-        if floor.bit == 0 {
+    for i in 1..n {
+        let Some(made) = passed(base, i - 1, i, at, floor) else {
             return false;
-        }
-        let t = base::presence_type(base, i);
-        let sdss = held[t];
-        held[t] = sdss | floor.bit;
+        };
+        floor = made;
+        held[base::presence_type(base, i)] |= floor.bit;
         at += Base::PRESENCE_WIDTH;
-        last = i;
     }
-    bits_in(held) == n
+    usize::from(bits_in(held)) == n
 }

@@ -6,10 +6,15 @@ use mathlib.Core.Path.{◌≡◌, refl, sym, ap, ◌∙◌, subst}
 use mathlib.Core.Logic.{⊎_elim}
 use mathlib.Core.List.{List, [], ◌∷◌}
 use mathlib.Core.Bool.{Bool, true, false, not, ◌||◌, true≢false, false≢true}
-use lib.Bits.{bit_and, bit_or, and_le_r, or_add_and}
+use lib.Bits.{bit_and, bit_or}
 use lib.Dec.{ltb, eqb, eqb-suc-zero}
 use lib.ListN.{length, get_or, replicate, get_or-eq_default}
 use borrow.Author.Count.{below_more}
+use Rattle.std.proofs.Common.{zero-add, MatchBool}
+use Rattle.std.proofs.lemmas.List.FromFn.{length-range_with_len, get_or-range_with_len}
+use Rattle.std.specs.List.{range_with_len, AllWithin, HoldsAt}
+use Rattle.rows.specs.Decides.{Decides}
+use Rattle.rows.proofs.Decides.{decides_yes, decides_no}
 use borrow.Author.Tests.{ltb-true, ltb-false, eqb-true, eqb-false, eq-eqb}
 use Rattle.rules.specs.01-Lists.{same_bytes, all}
 use Rattle.rules.specs.02-Limits.{limits}
@@ -231,13 +236,11 @@ module _ {b : List ℕ} {d seen : ℕ} (s : Seen b d seen) where
   -- an unused number has no mark
   pub seen_unused : used_sds (schema_of b) d ≡ false → SeenWith b d seen
   seen_unused n = record {
-    alone = λ some u. absurd (true≢false (sym u ∙ n));
-    seen = λ some. record {
-      some = s.some;
+    alone = λ u. absurd (true≢false (sym u ∙ n));
+    seen = record {
       marks = below_more (λ e. used_sds (schema_of b) e ≡ true → bit seen (first_half b e % 61) ≡ true) d s.marks
           (λ u. absurd (true≢false (sym u ∙ n)));
     };
-    taken = λ z a. let some = s.some in absurd (omega arith);
   }
 
   -- a used one that is alone gets its mark
@@ -245,16 +248,25 @@ module _ {b : List ℕ} {d seen : ℕ} (s : Seen b d seen) where
   seen_used a first e =
       let mark = 1 * 2 ^ (first % 61) % 2 ^ 64 in
       let set : (k : ℕ) → bit (bit_or seen mark) k ≡ bit seen k || eqb k (first % 61) = λ k. bit_set 64 seen (first % 61) k (omega arith) in
-      let some : 0 < bit_or seen mark = omega (arith, s.some, or_add_and seen mark, and_le_r seen mark) in
       record {
-        alone = λ some u. a;
-        seen = λ nonzero. record {
-          some = some;
+        alone = λ u. a;
+        seen = record {
           marks = below_more (λ e. used_sds (schema_of b) e ≡ true → bit (bit_or seen mark) (first_half b e % 61) ≡ true) d
               (λ f l u. set (first_half b f % 61)
               ∙ or_left (bit seen (first_half b f % 61)) (eqb (first_half b f % 61) (first % 61)) (s.marks f l u))
               (λ u. set (first_half b d % 61) ∙ or_right (bit seen (first_half b d % 61)) (eqb (first_half b d % 61) (first % 61))
               (eq-eqb (first_half b d % 61) (first % 61) (ap (λ (x : ℕ). x % 61) (sym e))));
         };
-        taken = λ z x. absurd (omega arith);
       }
+
+-- ---- `all` over 0..n
+
+pub all_below : (n : ℕ) (test : ℕ → Bool) (r : Bool)
+    → MatchBool r (AllWithin (λ x. true ≡ test x) (range_with_len 0 n) 0 (length (range_with_len 0 n)))
+    ((k : ℕ) × (k < length (range_with_len 0 n)) × HoldsAt (λ x. false ≡ test x) (range_with_len 0 n) k)
+    → Decides ((d : ℕ) → d < n → test d ≡ true) r
+all_below n test true h =
+    decides_yes (λ d l. sym (h d 0 (omega arith) (omega (arith, length-range_with_len 0 n)) ∙ ap test (get_or-range_with_len 0 n d 0 l ∙ zero-add d)))
+all_below n test false (k, below, other) =
+    let h : k < n = omega (arith, length-range_with_len 0 n) in
+    decides_no (λ f. true≢false (sym (f k h) ∙ sym (other 0 ∙ ap test (get_or-range_with_len 0 n k 0 h ∙ zero-add k))))

@@ -28,13 +28,11 @@ UnlikeEarlier b d = (e : ℕ) → e < d → same_name (part b (sds_at d) limits.
 abbrev pub Alone : List ℕ → ℕ → Type 0
 Alone b d = used_sds (schema_of b) d ≡ true → UnlikeEarlier b d
 
--- the bits of a word are marks of the names of all SDSs before d, and at least one is set
+-- the bits of a word are marks of the names of all SDSs before d
 pub record Seen (b : List ℕ) (d seen : ℕ) : Type 0 where
-  pub some : 0 < seen
   pub marks : (e : ℕ) → e < d → used_sds (schema_of b) e ≡ true → bit seen (first_half b e % 61) ≡ true
 
--- r is such a word with SDS d too, if this is alone, and 0 if it is not
-pub record SeenWith (b : List ℕ) (d r : ℕ) : Type 0 where
-  pub alone : (r ≡ 0 → ⊥) → Alone b d
-  pub seen : (r ≡ 0 → ⊥) → Seen b (d + 1) r
-  pub taken : r ≡ 0 → Alone b d → ⊥
+-- SDS d is alone, and the word is such a one with it too
+pub record SeenWith (b : List ℕ) (d word : ℕ) : Type 0 where
+  pub alone : Alone b d
+  pub seen : Seen b (d + 1) word

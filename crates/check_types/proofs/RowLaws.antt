@@ -70,7 +70,7 @@ module _ (b : List ℕ) (t : ℕ) (long : length b ≡ base_length) (h : t < 128
       let p : pad 4 [] ≡ parent_places b t = places_from 0 (rw n at f.places) in
       rw (row_bytes b t long h) (λ i. sym ek i ∷ sym ev i ∷ sym er i ∷ sym n i ∷ p i)
 
-  row_bare : (k v r : ℕ) → bare k v r ≡ part b (type_at t) type_width → (kind_byte b t ≡ k) × (value_byte b t ≡ v) × (reverse_byte b t ≡ r) × FewParents b t 0
+  pub row_bare : (k v r : ℕ) → bare k v r ≡ part b (type_at t) type_width → (kind_byte b t ≡ k) × (value_byte b t ≡ v) × (reverse_byte b t ≡ r) × FewParents b t 0
   unfolding pad
   row_bare k v r e =
       let e' = e ∙ row_bytes b t long h in

@@ -9,6 +9,8 @@ use lib.Dec.{ltb, eqb}
 use lib.ListN.{length, get_or, take}
 use lib.Seq.{get_or-take}
 use borrow.Author.Tests.{ltb-true, ltb-false, lt-ltb, eqb-true, eqb-false}
+use Rattle.std.specs.Prelude.{None}
+use Rattle.std.proofs.lemmas.Option.{none-some}
 use Rattle.rules.specs.01-Lists.{◌∈◌, rising}
 use Rattle.rules.specs.02-Limits.{limits}
 use Rattle.rules.specs.04-Schema.{Kind, kind_of, kind_code, is_used, is_object, parents_in, parents, present}
@@ -32,6 +34,7 @@ use Rattle.check_held.specs.Fine.{TypesFine}
 use Rattle.check_held.proofs.HeldLaws.{present_shown, shows_any}
 use Rattle.check_held.proofs.WordLaws.{some_bit}
 use Rattle.check_types.specs.OneType.{sdss_of, ParentsBelow, ObjectFine, Mutual, LinkFine, TypeFine, RootFine}
+use Rattle.check_types.specs.declared.Numbering.TheVariants.{Below}
 use Rattle.check_types.specs.OneType.{TypesTold}
 use Rattle.check_types.proofs.RowLaws.{listed_long, zero_kind, zero_reverse, fine_row}
 use Rattle.check_types.proofs.RowLaws.{row_unused, row_object, row_attribute, row_designation, row_paired}
@@ -380,5 +383,5 @@ module _ {b held : List ℕ} (holds : Holds b held) where
           };
         }
 
-pub not_fine : {b : List ℕ} → (TypesFine b → ⊥) → TypesTold b 0
-not_fine f = record { fine = λ o. absurd (o refl); not = λ _. f; falling = λ e. absurd (omega arith) }
+pub not_fine : {b : List ℕ} → (TypesFine b → ⊥) → TypesTold b None
+not_fine f = record { fine = λ o e. absurd (none-some o e); not = λ _. f; falling = λ e. absurd (none-some Below e) }

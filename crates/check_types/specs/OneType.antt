@@ -1,5 +1,6 @@
 -- What is asked of one type: of the bytes of its row, of the types that it names, and of the SDSs that hold it; and what is told of all.
-use Rattle.std.specs.Prelude.{ℕ, suc, ◌+◌, ◌*◌, ◌≤◌, ◌<◌, ◌≡◌, List, get_or, replicate}
+use Rattle.std.specs.Prelude.{ℕ, suc, ◌+◌, ◌*◌, ◌≤◌, ◌<◌, ◌≡◌, List, get_or, replicate, Option, Some}
+use Rattle.std.specs.Option.{ForSome, ForNone}
 use Rattle.rules.specs.07-Picture.{type_width}
 use Rattle.rows.specs.Rows.{part}
 use Rattle.base.specs.Rows.{type_at}
@@ -8,6 +9,8 @@ use Rattle.lookup.specs.Parents.{Falling}
 use Rattle.lookup.proofs.KindBytes.{kind_byte, value_byte, reverse_byte, count_byte, parent_byte}
 use Rattle.check_held.specs.Held.{Within}
 use Rattle.check_held.specs.Fine.{TypesFine}
+use Rattle.check_types.specs.declared.Numbering.{Numbering}
+use Rattle.check_types.specs.declared.Numbering.TheVariants.{Below}
 
 -- the word of the SDSs that hold type t
 abbrev pub sdss_of : List ℕ → ℕ → ℕ
@@ -52,11 +55,11 @@ pub record Places (b : List ℕ) (t r : ℕ) : Type 0 where
 abbrev pub ParentsBelow : List ℕ → ℕ → ℕ → ℕ → Type 0
 ParentsBelow b t n m = (i : ℕ) → i < n → parent_byte b t i < m
 
--- 0 exactly where P does not hold of t, 1 only where its parents are numbered below it
-pub record Told (P : Type 0) (b : List ℕ) (t r : ℕ) : Type 0 where
-  pub fine : (r ≡ 0 → ⊥) → P
-  pub not : r ≡ 0 → P → ⊥
-  pub falling : r ≡ 1 → ParentsBelow b t (count_byte b t) t
+-- none exactly where P does not hold of t, `Below` only where its parents are numbered below it
+pub record Told (P : Type 0) (b : List ℕ) (t : ℕ) (r : Option Numbering) : Type 0 where
+  pub fine : ForSome r (λ _. P)
+  pub not : ForNone r (P → ⊥)
+  pub falling : r ≡ Some Below → ParentsBelow b t (count_byte b t) t
 
 -- ---- an object type t, which these SDSs hold
 
@@ -135,8 +138,8 @@ pub record RootFine (b held : List ℕ) : Type 0 where
 
 -- ---- all types
 
--- 0 exactly where they are not fine, 1 only where every parent is numbered below its child
-pub record TypesTold (b : List ℕ) (r : ℕ) : Type 0 where
-  pub fine : (r ≡ 0 → ⊥) → TypesFine b
-  pub not : r ≡ 0 → TypesFine b → ⊥
-  pub falling : r ≡ 1 → Falling (schema_of b)
+-- none exactly where they are not fine, `Below` only where every parent is numbered below its child
+pub record TypesTold (b : List ℕ) (r : Option Numbering) : Type 0 where
+  pub fine : ForSome r (λ _. TypesFine b)
+  pub not : ForNone r (TypesFine b → ⊥)
+  pub falling : r ≡ Some Below → Falling (schema_of b)

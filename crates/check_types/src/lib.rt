@@ -16,6 +16,13 @@ ghost use Rattle.check_types.specs.OneType.{LinkFront, LinkFine, Told, TypeFine,
 use base::Base;
 use rules::Limits;
 
+// Where the parents of fine types are numbered: each below its child, or anywhere.
+#[derive(Clone, Copy, PartialEq, Eq)]
+pub enum Numbering {
+    Below,
+    Anywhere,
+}
+
 // ---- a row in two numbers, the first byte lowest: each is one load
 
 // Kind, value, reverse and how many parents.
@@ -40,7 +47,16 @@ fn places(base: &[u8], t: usize) -> usize
         + base::parent(base, t, 3) * 0x100_0000
 }
 
-// What it begins with: kind and value of an attribute type of the last value kind, and of two link types.
+// 0 exactly where the row is zero.
+fn row_bits(base: &[u8], t: usize) -> usize
+    requires { (length base.now ≡ base_length) × (t < limits.types) }
+    ensures zero { result ≡ 0 → part base.now (type_at t) type_width ≡ replicate type_width 0 }
+    ensures unused { part base.now (type_at t) type_width ≡ replicate type_width 0 → result ≡ 0 }
+{
+    front(base, t) | places(base, t)
+}
+
+// What a row begins with: kind and value of an attribute type of the last value kind, and of two link types.
 const LAST_VALUE_KIND: usize = Base::ATTRIBUTE + 5 * 0x100;
 
 const IMPLICIT: usize = Base::LINK + Base::IMPLICIT * 0x100;
@@ -67,9 +83,7 @@ fn parents_fine(base: &[u8], t: usize, n: usize, last: usize, sdss: u16, held: &
     ensures { Decides (ParentsBefore base.now held.now t sdss n) result }
 {
     let mut most = last;
-    let mut i = n;
-    while 0 < i {
-        i -= 1;
+    for i in (0..n).rev() {
         let parent = base::parent(base, t, i);
         if most <= parent {
             return false;
@@ -83,25 +97,25 @@ fn parents_fine(base: &[u8], t: usize, n: usize, last: usize, sdss: u16, held: &
 }
 
 // An object type with n parents and one more. The last with the places behind it is one number, which is small where they are zero.
-fn object_fine(base: &[u8], t: usize, n: usize, sdss: u16, held: &[u16]) -> usize
+fn object_fine(base: &[u8], t: usize, n: usize, sdss: u16, held: &[u16]) -> Option<Numbering>
     requires base_len { (length base.now ≡ base_length) × ((length held.now ≡ limits.types) × ((0 < t) × (t < limits.types))) }
     requires n_bound { (n < 4) × ObjectFront base.now t n }
     ensures { Told (ObjectFine base.now held.now t sdss) base.now t result }
 {
     let last = places(base, t) >> (n * 8);
     if last >= Limits::TYPES {
-        return 0;
+        return None;
     }
     if !parent_fine(base, last, sdss, held) {
-        return 0;
+        return None;
     }
     if !parents_fine(base, t, n, last, sdss, held) {
-        return 0;
+        return None;
     }
     if t <= last {
-        return 2;
+        return Some(Numbering::Anywhere);
     }
-    1
+    Some(Numbering::Below)
 }
 
 // ---- link types
@@ -138,7 +152,7 @@ fn link_fine(base: &[u8], t: usize, front: usize, sdss: u16, held: &[u16]) -> bo
 // ---- any type
 
 // A type that some SDS holds. The first number turned by a byte is 0x100 and how many parents where it is an object type's.
-fn used_fine(base: &[u8], t: usize, sdss: u16, held: &[u16]) -> usize
+fn used_fine(base: &[u8], t: usize, sdss: u16, held: &[u16]) -> Option<Numbering>
     requires base_len { (length base.now ≡ base_length) × ((length held.now ≡ limits.types) × ((0 < t) × (t < limits.types))) }
     requires sdss_value { (sdss ≡ sdss_of held.now t) × (0 < sdss) }
     ensures { Told (TypeFine base.now held.now t) base.now t result }
@@ -149,27 +163,26 @@ fn used_fine(base: &[u8], t: usize, sdss: u16, held: &[u16]) -> usize
         return object_fine(base, t, (turned - 0x101) as usize, sdss, held);
     }
     if places(base, t) != 0 {
-        return 0;
+        return None;
     }
     let kind = front % 0x100;
     if kind == Base::ATTRIBUTE {
-        return (front <= LAST_VALUE_KIND) as usize;
+        return (front <= LAST_VALUE_KIND).then_some(Numbering::Below);
     }
     if kind != Base::LINK {
-        return 0;
+        return None;
     }
-    link_fine(base, t, front, sdss, held) as usize
+    link_fine(base, t, front, sdss, held).then_some(Numbering::Below)
 }
 
-// A type that no SDS holds has to be unused: its eight bytes are told at once. 0 where t is not fine, 1 where it is, and its parents are
-// numbered below it; else 2.
-fn type_fine(base: &[u8], t: usize, held: &[u16]) -> usize
+// A type that no SDS holds has to be unused: its eight bytes are told at once.
+fn type_fine(base: &[u8], t: usize, held: &[u16]) -> Option<Numbering>
     requires { (length base.now ≡ base_length) × ((length held.now ≡ limits.types) × ((0 < t) × (t < limits.types))) }
     ensures { Told (TypeFine base.now held.now t) base.now t result }
 {
     let sdss = held[t];
     if sdss == 0 {
-        return base::is_type_unused(base, t) as usize;
+        return (row_bits(base, t) == 0).then_some(Numbering::Below);
     }
     used_fine(base, t, sdss, held)
 }
@@ -189,14 +202,6 @@ fn root_fine(base: &[u8], held: &[u16]) -> bool
 
 // ---- unused types, four at once: many bases have few types, and these first
 
-// 0 only where the row is zero.
-fn row_bits(base: &[u8], t: usize) -> usize
-    requires { (length base.now ≡ base_length) × (t < limits.types) }
-    ensures { result ≡ 0 → part base.now (type_at t) type_width ≡ replicate type_width 0 }
-{
-    front(base, t) | places(base, t)
-}
-
 // The four types before t. Where they are not unused, each is looked at by itself.
 fn four_unused(base: &[u8], t: usize, held: &[u16]) -> bool
     requires { (length base.now ≡ base_length) × ((length held.now ≡ limits.types) × ((4 ≤ t) × (t ≤ limits.types))) }
@@ -213,41 +218,31 @@ fn used_end(base: &[u8], held: &[u16]) -> usize
     requires { (length base.now ≡ base_length) × (length held.now ≡ limits.types) }
     ensures { (0 < result) × ((result ≤ limits.types) × UnheldFrom base.now held.now result) }
 {
-    let mut t = Limits::TYPES;
-    while 4 < t {
-        if !four_unused(base, t, held) {
-            return t;
+    for n in (1..Limits::TYPES / 4).rev() {
+        let end = n * 4 + 4;
+        if !four_unused(base, end, held) {
+            return end;
         }
-        t -= 4;
     }
-    t
+    4
 }
 
 // ---- all types
 
-// 0 where the types are not fine; 1 where they are, and every parent is numbered below its child; else 2.
-pub fn types_fine(base: &[u8], held: &[u16]) -> usize
+// Where the parents are numbered, if the types are fine.
+pub fn types_fine(base: &[u8], held: &[u16]) -> Option<Numbering>
     requires base_len { length base.now ≡ base_length }
     requires holds { Holds base.now held.now }
     ensures { TypesTold base.now result }
 {
     if !root_fine(base, held) {
-        return 0;
+        return None;
     }
-    let mut falls = true;
-    let mut t = used_end(base, held) - 1;
-    while 0 < t {
-        let told = type_fine(base, t, held);
-        if told == 0 {
-            return 0;
+    let mut numbering = Numbering::Below;
+    for t in (1..used_end(base, held)).rev() {
+        if type_fine(base, t, held)? == Numbering::Anywhere {
+            numbering = Numbering::Anywhere;
         }
-        if told != 1 {
-            falls = false;
-        }
-        t -= 1;
     }
-    if falls {
-        return 1;
-    }
-    2
+    Some(numbering)
 }

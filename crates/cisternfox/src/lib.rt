@@ -25,42 +25,42 @@ pub extern "C" fn cf_base_length() -> usize
 pub extern "C" fn cf_fresh(base: &mut [u8]) -> Answer
     ensures { Freshened base.old result base.new }
 {
-    change_sdss::fresh(base)
+    Answer::from(change_sdss::fresh(base))
 }
 
 #[unsafe(no_mangle)]
 pub extern "C" fn cf_new_sds(base: &mut [u8], name: &[u8]) -> Answer
     ensures { Kept base.old (new_sds name.now) result base.new }
 {
-    change_sdss::new_sds(base, name)
+    Answer::from(change_sdss::new_sds(base, name))
 }
 
 #[unsafe(no_mangle)]
 pub extern "C" fn cf_remove_sds(base: &mut [u8], sds: usize) -> Answer
     ensures { Kept base.old (remove_sds sds) result base.new }
 {
-    change_sdss::remove_sds(base, sds)
+    Answer::from(change_sdss::remove_sds(base, sds))
 }
 
 #[unsafe(no_mangle)]
 pub extern "C" fn cf_new_object(base: &mut [u8], sds: usize, name: &[u8], parents: &[u8]) -> Answer
     ensures { Kept base.old (new_object sds name.now parents.now) result base.new }
 {
-    change_objects::new_object(base, sds, name, parents)
+    Answer::from(change_objects::new_object(base, sds, name, parents))
 }
 
 #[unsafe(no_mangle)]
 pub extern "C" fn cf_new_attribute(base: &mut [u8], sds: usize, name: &[u8], value: usize) -> Answer
     ensures { Kept base.old (new_attribute sds name.now value) result base.new }
 {
-    change_types::new_attribute(base, sds, name, value)
+    Answer::from(change_types::new_attribute(base, sds, name, value))
 }
 
 #[unsafe(no_mangle)]
 pub extern "C" fn cf_new_designation(base: &mut [u8], sds: usize, name: &[u8]) -> Answer
     ensures { Kept base.old (new_designation sds name.now) result base.new }
 {
-    change_types::new_designation(base, sds, name)
+    Answer::from(change_types::new_designation(base, sds, name))
 }
 
 #[unsafe(no_mangle)]
@@ -74,7 +74,7 @@ pub extern "C" fn cf_new_pair(
 ) -> Answer
     ensures { Kept base.old (new_pair sds name.now reverse.now category back) result base.new }
 {
-    change_pairs::new_pair(base, sds, name, reverse, category, back)
+    Answer::from(change_pairs::new_pair(base, sds, name, reverse, category, back))
 }
 
 #[unsafe(no_mangle)]
@@ -88,35 +88,35 @@ pub extern "C" fn cf_import(
 ) -> Answer
     ensures { Kept base.old (import target source name.now new.now new_reverse.now) result base.new }
 {
-    change_imports::import(base, target, source, name, new, new_reverse)
+    Answer::from(change_imports::import(base, target, source, name, new, new_reverse))
 }
 
 #[unsafe(no_mangle)]
 pub extern "C" fn cf_apply(base: &mut [u8], sds: usize, attribute: &[u8], to: &[u8]) -> Answer
     ensures { Kept base.old (apply sds attribute.now to.now) result base.new }
 {
-    change_applications::apply(base, sds, attribute, to)
+    Answer::from(change_applications::apply(base, sds, attribute, to))
 }
 
 #[unsafe(no_mangle)]
 pub extern "C" fn cf_unapply(base: &mut [u8], sds: usize, attribute: &[u8], to: &[u8]) -> Answer
     ensures { Kept base.old (unapply sds attribute.now to.now) result base.new }
 {
-    change_applications::unapply(base, sds, attribute, to)
+    Answer::from(change_applications::unapply(base, sds, attribute, to))
 }
 
 #[unsafe(no_mangle)]
 pub extern "C" fn cf_apply_link(base: &mut [u8], sds: usize, link: &[u8], object: &[u8]) -> Answer
     ensures { Kept base.old (apply_link sds link.now object.now) result base.new }
 {
-    change_ends::apply_link(base, sds, link, object)
+    Answer::from(change_ends::apply_link(base, sds, link, object))
 }
 
 #[unsafe(no_mangle)]
 pub extern "C" fn cf_unapply_link(base: &mut [u8], sds: usize, link: &[u8], object: &[u8]) -> Answer
     ensures { Kept base.old (unapply_link sds link.now object.now) result base.new }
 {
-    change_ends::unapply_link(base, sds, link, object)
+    Answer::from(change_ends::unapply_link(base, sds, link, object))
 }
 
 #[unsafe(no_mangle)]
@@ -128,7 +128,7 @@ pub extern "C" fn cf_add_destination(
 ) -> Answer
     ensures { Kept base.old (add_destination sds link.now object.now) result base.new }
 {
-    change_ends::add_destination(base, sds, link, object)
+    Answer::from(change_ends::add_destination(base, sds, link, object))
 }
 
 #[unsafe(no_mangle)]
@@ -140,35 +140,35 @@ pub extern "C" fn cf_remove_destination(
 ) -> Answer
     ensures { Kept base.old (remove_destination sds link.now object.now) result base.new }
 {
-    change_ends::remove_destination(base, sds, link, object)
+    Answer::from(change_ends::remove_destination(base, sds, link, object))
 }
 
 #[unsafe(no_mangle)]
 pub extern "C" fn cf_remove_type(base: &mut [u8], sds: usize, name: &[u8]) -> Answer
     ensures { Kept base.old (remove_type sds name.now) result base.new }
 {
-    change_presences::remove::remove_type(base, sds, name)
+    Answer::from(change_presences::remove::remove_type(base, sds, name))
 }
 
 #[unsafe(no_mangle)]
 pub extern "C" fn cf_remove_number(base: &mut [u8], sds: usize, t: usize) -> Answer
     ensures { Kept base.old (remove_number sds t) result base.new }
 {
-    change_presences::remove::remove_number(base, sds, t)
+    Answer::from(change_presences::remove::remove_number(base, sds, t))
 }
 
 #[unsafe(no_mangle)]
 pub extern "C" fn cf_rename(base: &mut [u8], sds: usize, name: &[u8], new: &[u8]) -> Answer
     ensures { Kept base.old (rename sds name.now new.now) result base.new }
 {
-    change_presences::rename::rename(base, sds, name, new)
+    Answer::from(change_presences::rename::rename(base, sds, name, new))
 }
 
 #[unsafe(no_mangle)]
 pub extern "C" fn cf_rename_number(base: &mut [u8], sds: usize, t: usize, new: &[u8]) -> Answer
     ensures { Kept base.old (rename_number sds t new.now) result base.new }
 {
-    change_presences::rename::rename_number(base, sds, t, new)
+    Answer::from(change_presences::rename::rename_number(base, sds, t, new))
 }
 
 #[unsafe(no_mangle)]
@@ -181,7 +181,7 @@ pub extern "C" fn cf_set_modes(
 ) -> Answer
     ensures { Kept base.old (set_modes sds name.now usage definition) result base.new }
 {
-    change_presences::modes::set_modes(base, sds, name, usage, definition)
+    Answer::from(change_presences::modes::set_modes(base, sds, name, usage, definition))
 }
 
 #[unsafe(no_mangle)]
@@ -194,7 +194,7 @@ pub extern "C" fn cf_scan_object(
 ) -> Answer
     ensures { Listed base.now (scan_object schema.now t code (room output.old)) result output.old output.new }
 {
-    ask::scan_object(base, schema, t, code, output)
+    Answer::from(ask::scan_object(base, schema, t, code, output))
 }
 
 #[unsafe(no_mangle)]
@@ -207,49 +207,49 @@ pub extern "C" fn cf_scan_link(
 ) -> Answer
     ensures { Listed base.now (scan_link schema.now t code (room output.old)) result output.old output.new }
 {
-    ask::scan_link(base, schema, t, code, output)
+    Answer::from(ask::scan_link(base, schema, t, code, output))
 }
 
 #[unsafe(no_mangle)]
 pub extern "C" fn cf_profile(base: &[u8], schema: &[u8], t: usize, output: &mut [u8]) -> Answer
     ensures { Listed base.now (profile schema.now t (room output.old)) result output.old output.new }
 {
-    ask::profile(base, schema, t, output)
+    Answer::from(ask::profile(base, schema, t, output))
 }
 
 #[unsafe(no_mangle)]
 pub extern "C" fn cf_find(base: &[u8], schema: &[u8], name: &[u8]) -> Answer
     ensures { Answered base.now (find schema.now name.now) result }
 {
-    ask::find(base, schema, name)
+    Answer::from(ask::find(base, schema, name))
 }
 
 #[unsafe(no_mangle)]
 pub extern "C" fn cf_depth(base: &[u8], schema: &[u8], t: usize) -> Answer
     ensures { Answered base.now (depth_of schema.now t) result }
 {
-    ask::depth(base, schema, t)
+    Answer::from(ask::depth(base, schema, t))
 }
 
 #[unsafe(no_mangle)]
 pub extern "C" fn cf_descendant_set(base: &[u8], schema: &[u8], t: usize) -> Answer
     ensures { Answered base.now (descendant_set schema.now t) result }
 {
-    ask::descendant_set(base, schema, t)
+    Answer::from(ask::descendant_set(base, schema, t))
 }
 
 #[unsafe(no_mangle)]
 pub extern "C" fn cf_modes(base: &[u8], schema: &[u8], t: usize) -> Answer
     ensures { Answered base.now (modes_of schema.now t) result }
 {
-    ask::modes(base, schema, t)
+    Answer::from(ask::modes(base, schema, t))
 }
 
 #[unsafe(no_mangle)]
 pub extern "C" fn cf_name(base: &[u8], sds: usize, t: usize) -> Answer
     ensures { Answered base.now (name sds t) result }
 {
-    ask::name_place(base, sds, t)
+    Answer::from(ask::name_place(base, sds, t))
 }
 
 // ---- the exchange file
@@ -266,12 +266,12 @@ pub extern "C" fn cf_file_most() -> usize
 pub extern "C" fn cf_write_file(base: &[u8], output: &mut [u8]) -> Answer
     ensures { Filed base.now (write_file (length output.old)) result output.old output.new }
 {
-    file::write_file(base, output)
+    Answer::from(file::write_file(base, output))
 }
 
 #[unsafe(no_mangle)]
 pub extern "C" fn cf_read_file(base: &mut [u8], file: &[u8]) -> Answer
     ensures { ReadIn base.old file.now result base.new }
 {
-    file::read_file(base, file)
+    Answer::from(file::read_file(base, file))
 }

@@ -6,17 +6,19 @@ use mathlib.Core.List.{List, [], ◌∷◌, ◌++◌}
 use mathlib.Core.Bool.{Bool, true, false, not, cond, ◌||◌}
 use lib.Dec.{ltb, leb}
 use borrow.Author.Tests.{ltb-true, leb-false, eqb-false, not-false}
+use Rattle.std.specs.Prelude.{Result, Err}
+use Rattle.rules.specs.declared.Refused.{Refused}
 use Rattle.rules.specs.01-Lists.{all}
 use Rattle.rules.specs.02-Limits.{limits}
 use Rattle.rules.specs.03-Names.{Name, well_formed}
 use Rattle.rules.specs.04-Schema.{Schema, used_sds, bears}
-use Rattle.rules.specs.09-Refusals.{Refusal, Refusals, ◌when◌, unknown_sds, system_sds, malformed, no_such_name}
+use Rattle.rules.specs.09-Refusals.{Refusal, Refusals, ◌when◌, unknown_sds, system_sds, malformed, no_such_name, number_of, value_of}
 use Rattle.rules.proofs.Bools.{and_both, or_neither}
 use Rattle.rules.proofs.09-Refusals.{numbers_beyond, Passed, passed_none, passed_more}
 use Rattle.base.specs.Back.{schema_of}
 use Rattle.base.specs.Tested.{told, Tested}
 use Rattle.base.specs.Tested.Tested.{spoiled, tested}
-use Rattle.base.proofs.TestedLaws.{Come, come_first, come_stops, come_past, tested_first, tested_sound}
+use Rattle.base.proofs.TestedLaws.{Come, come_first, come_stops, come_past, come_rest, tested_sound}
 use Rattle.lookup.specs.Found.{NamedIn}
 use Rattle.conditions.specs.Aimed.{sds_refusals, aim_refusals, Aimed, TypeOf, RefusedOr}
 use Rattle.rules.proofs.NameTests.{name_there, name_missing}
@@ -89,30 +91,15 @@ pub come_aimed : {b : List ℕ} (d : ℕ) {bad : Bool} {no : ℕ} → Tested b (
 unfolding all
 come_aimed d t z rest = come_on t z refl rest
 
-tested_as : {b : List ℕ} {rs : Refusals} {no no' : ℕ} → no' ≡ no → Tested b rs no 0 → Tested b rs no' 0
-tested_as {b} {rs} e t = subst (λ (x : ℕ). Tested b rs x 0) (sym e) t
+-- a refusal of its own
+pub refused_here : {A : Type 0} {b : List ℕ} {whole : Refusals} {n : ℕ} {holds : Bool} {rest : Refusals} (e : Refused) {So : A → Type 0}
+    → Come b whole ((n when holds) ∷ rest) → holds ≡ true → number_of e ≡ n → value_of e ≡ 0 → RefusedOr b whole (Err e) So
+refused_here {b = b} {whole} e come q n v = record { told = subst (λ x. Tested b whole (number_of e) x) (sym v) (come_stops come q n); so = tt }
 
--- refused, or else
-module _ {b : List ℕ} {rs : Refusals} {no : ℕ} {So : Type 0} where
-  pub refused_by : Tested b rs no 0 → (no ≡ 0 → ⊥) → RefusedOr b rs no So
-  refused_by t z = record { told = t; so = λ e. absurd (z e) }
-
-  pub passed_by : Tested b rs no 0 → So → RefusedOr b rs no So
-  passed_by t x = record { told = t; so = λ _. x }
-
-  -- told by a number that was tested before
-  pub passed_as : no ≡ 0 → Tested b rs 0 0 → So → RefusedOr b rs no So
-  passed_as z t x = passed_by (tested_as z t) x
-
--- by a function that was called first
-pub refused_first : {b : List ℕ} {rs : Refusals} (rest : Refusals) {no no' : ℕ} {So : Type 0} → Tested b rs no 0 → (no ≡ 0 → ⊥) → no' ≡ no
-    → RefusedOr b (rs ++ rest) no' So
-refused_first rest t z e = refused_by (tested_as e (tested_first rest t z)) (λ y. z (sym e ∙ y))
-
-module _ {b : List ℕ} {whole : Refusals} {n : ℕ} {holds : Bool} {rest : Refusals} {no : ℕ} {So : Type 0} where
-  -- by a test of its own
-  pub refused_here : Come b whole ((n when holds) ∷ rest) → holds ≡ true → no ≡ n → 0 < n → RefusedOr b whole no So
-  refused_here come e q p = refused_by (come_stops come e q) (λ z. omega arith)
+-- what a function that was called refuses, which tests all that is left
+pub refused_rest : {A : Type 0} {b : List ℕ} {whole rs : Refusals} {r : Result A Refused} {So : A → Type 0} → Come b whole rs
+    → RefusedOr b rs r So → RefusedOr b whole r So
+refused_rest c r = record { told = come_rest c r.told; so = r.so }
 
 -- ---- the types of names
 

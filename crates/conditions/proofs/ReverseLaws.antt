@@ -43,19 +43,20 @@ module _ {b : List ℕ} (s : Sound b) {l : ℕ} (h : l < 128) {k : ℕ} (code : 
     unfolding reverse
     no_reverse r e = none_there l (ap reverse_in (kind_is b l h ∙ shows_designation b l (sym code.is ∙ three) (sym r.is ∙ e)))
 
-    pub its_reverse : {x r : ℕ} → Reads b (type_at l + value_offset) x → (x ≡ 4 → ⊥) → Reads b (type_at l + reverse_offset) r → ReverseOf (schema_of b) l r
-    unfolding reverse
-    its_reverse {x} {r} v n w = record {
-      fits = omega (arith, below);
-      is = ap reverse_in paired_so ∙ sym (one_is below);
-      pair = λ k. (x, paired_so);
-    }
-      where
-        link : is_link (kind_of (schema_of b) l) ≡ true
-        link = sym (link_byte b l k h code.is) ∙ eq-eqb k 3 three
+    module _ {x r : ℕ} (v : Reads b (type_at l + value_offset) x) (n : x ≡ 4 → ⊥) (w : Reads b (type_at l + reverse_offset) r) where
+      link : is_link (kind_of (schema_of b) l) ≡ true
+      link = sym (link_byte b l k h code.is) ∙ eq-eqb k 3 three
 
-        paired_so : kind_of (schema_of b) l ≡ paired x r
-        paired_so = link_paired b l h link (λ q. n (v.is ∙ q)) ∙ (λ i. paired (sym v.is i) (sym w.is i))
+      paired_so : kind_of (schema_of b) l ≡ paired x r
+      paired_so = link_paired b l h link (λ q. n (v.is ∙ q)) ∙ (λ i. paired (sym v.is i) (sym w.is i))
 
-        below : r < 128
-        below = let (c, e) = (sound_good s).reverse_in_turn l x r paired_so in link_below b r (ap is_link e)
+      pub reverse_below : r < 128
+      reverse_below = let (c, e) = (sound_good s).reverse_in_turn l x r paired_so in link_below b r (ap is_link e)
+
+      pub its_reverse : ReverseOf (schema_of b) l r
+      unfolding reverse
+      its_reverse = record {
+        fits = omega (arith, reverse_below);
+        is = ap reverse_in paired_so ∙ sym (one_is reverse_below);
+        pair = λ k. (x, paired_so);
+      }

@@ -3,7 +3,8 @@
 
 pub mod aimed;
 
-ghost use Rattle.std.specs.Prelude.{◌≡◌, ◌<◌, eqb, length};
+ghost use Rattle.std.specs.Prelude.{◌≡◌, ◌<◌, eqb, length, IfSome};
+ghost use Rattle.std.specs.Option.{unwrap_or};
 ghost use Rattle.rules.specs.01-Lists.{any};
 ghost use Rattle.rules.specs.02-Limits.{limits};
 ghost use Rattle.rules.specs.04-Schema.{present, is_parent, applied, has_end};
@@ -13,7 +14,6 @@ ghost use Rattle.base.specs.Back.{schema_of};
 ghost use Rattle.conditions.specs.Reverse.{ReverseOf};
 
 use base::Base;
-use rules::Limits;
 
 // ---- types
 
@@ -22,29 +22,27 @@ pub fn is_parent(base: &[u8], t: usize, a: usize) -> bool
     requires { Sound base.now × (t < limits.types) }
     ensures { result ≡ is_parent (schema_of base.now) t a }
 {
-    let n = base::parent_count(base, t);
-    let mut i = 0;
-    while i < n {
+    for i in 0..base::parent_count(base, t) {
         if base::parent(base, t, i) == a {
             return true;
         }
-        i += 1;
     }
     false
 }
 
-// The reverse of type t, or as many as there are types where it has none.
-pub fn reverse_of(base: &[u8], t: usize) -> usize
+// The reverse of type t, if it has one.
+pub fn reverse_of(base: &[u8], t: usize) -> Option<usize>
     requires { Sound base.now × (t < limits.types) }
-    ensures { ReverseOf (schema_of base.now) t result }
+    ensures reverse { ReverseOf (schema_of base.now) t (unwrap_or result limits.types) }
+    ensures below { IfSome result (λ r. r < limits.types) }
 {
     if base::kind(base, t) != Base::LINK {
-        return Limits::TYPES;
+        return None;
     }
     if base::value(base, t) == Base::DESIGNATION {
-        return Limits::TYPES;
+        return None;
     }
-    base::reverse(base, t)
+    Some(base::reverse(base, t))
 }
 
 // ---- presences
@@ -54,7 +52,7 @@ pub fn is_present(base: &[u8], d: usize, t: usize) -> bool
     requires { length base.now ≡ base_length }
     ensures { result ≡ present (schema_of base.now) d t }
 {
-    lookup::presences::presence_row(base, d, t) < base::used::presence_count(base)
+    lookup::presences::presence_row(base, d, t).is_some()
 }
 
 // Whether type t is in some SDS.
@@ -62,13 +60,10 @@ pub fn is_elsewhere(base: &[u8], t: usize) -> bool
     requires { length base.now ≡ base_length }
     ensures { result ≡ any (λ p. eqb p.type t) (schema_of base.now).presences }
 {
-    let n = base::used::presence_count(base);
-    let mut i = 0;
-    while i < n {
+    for i in 0..base::used::presence_count(base) {
         if base::presence_type(base, i) == t {
             return true;
         }
-        i += 1;
     }
     false
 }
@@ -79,7 +74,7 @@ pub fn is_applied(base: &[u8], d: usize, t: usize, a: usize) -> bool
     requires { length base.now ≡ base_length }
     ensures { result ≡ applied (schema_of base.now) d t a }
 {
-    lookup::applications::application_row(base, d, t, a) < base::used::application_count(base)
+    lookup::applications::application_row(base, d, t, a).is_some()
 }
 
 // ---- ends
@@ -89,5 +84,5 @@ pub fn is_end(base: &[u8], d: usize, l: usize, side: usize, o: usize) -> bool
     requires d_bound { (d < 256) × ((l < 256) × ((side < 2) × (o < 256))) }
     ensures { result ≡ has_end (schema_of base.now) d l (read_side side) o }
 {
-    lookup::ends::end_row(base, d, l, side, o) < base::used::end_count(base)
+    lookup::ends::end_row(base, d, l, side, o).is_some()
 }

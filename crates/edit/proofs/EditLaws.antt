@@ -1,5 +1,5 @@
 -- A row put in among the bytes, or taken out, is put into the schema that they show, or taken out. Assumes nothing.
-use Prim.Native.Nat.{ℕ, zero, suc, ◌+◌, ◌*◌, ◌%◌, ◌≤◌, ◌<◌}
+use Prim.Native.Nat.{ℕ, zero, suc, ◌+◌, ◌*◌, ◌≤◌, ◌<◌}
 use native.Mathlib.Omega.{arith}
 use mathlib.Core.Path.{◌≡◌, refl, sym, ap, ◌∙◌}
 use mathlib.Core.Logic.{◌⊎◌, ⊎_elim}
@@ -68,16 +68,11 @@ unlike {t = t} l k q a fit it none y i e =
 
 -- ---- presences
 
-pub presence_built : (d t u f : ℕ) (n y : List ℕ) → (d < 256) × ((t < 256) × (length n ≤ limits.name)) → (u < 256) × (f < 256)
-    → y ≡ written (set (set (set (set (replicate presence_width 0) 0 (d % 256)) type_offset (t % 256)) usage_offset (u % 256)) definition_offset (f % 256))
-    name_offset n → y ≡ presence_row (with_modes u f (new_presence d n t))
+pub presence_built : (d t u f : ℕ) (n y : List ℕ) → length n ≤ limits.name
+    → y ≡ written (set (set (set (set (replicate presence_width 0) 0 d) type_offset t) usage_offset u) definition_offset f) name_offset n
+    → y ≡ presence_row (with_modes u f (new_presence d n t))
 unfolding presence_row
-presence_built d t u f n y h m e =
-    let d-is : d % 256 ≡ d = omega arith in
-    let t_is : t % 256 ≡ t = omega arith in
-    let u_is : u % 256 ≡ u = omega arith in
-    let f_is : f % 256 ≡ f = omega arith in
-    e ∙ rw (d-is, t_is, u_is, f_is) (field_written (d ∷ []) (t ∷ u ∷ f ∷ []) n limits.name name_offset refl h.1.1)
+presence_built d t u f n y h e = e ∙ field_written (d ∷ []) (t ∷ u ∷ f ∷ []) n limits.name name_offset refl h
 
 pub presence_unlike : {s : Schema} → Storable s → (a : Presence) → by_name.Fit a
     → (bears s a.sds a.name ≡ false) ⊎ (present s a.sds a.type ≡ false) → Unlike presences a s.presences
@@ -92,14 +87,9 @@ presence_unlike st a fit =
 
 -- ---- applications
 
-pub application_built : (d t a : ℕ) → (d < 256) × ((t < 256) × (a < 256))
-    → d % 256 ∷ t % 256 ∷ a % 256 ∷ [] ≡ application_row (record { sds = d; to = t; attribute = a })
+pub application_built : (d t a : ℕ) → d ∷ t ∷ a ∷ [] ≡ application_row (record { sds = d; to = t; attribute = a })
 unfolding application_row
-application_built d t a h =
-    let d-is : d % 256 ≡ d = omega arith in
-    let t_is : t % 256 ≡ t = omega arith in
-    let a_is : a % 256 ≡ a = omega arith in
-    λ i. d-is i ∷ t_is i ∷ a_is i ∷ []
+application_built d t a = refl
 
 pub application_unlike : {s : Schema} → Storable s → (x : Application) → applied s x.sds x.to x.attribute ≡ false
     → Unlike applications x s.applications
@@ -117,15 +107,9 @@ side_of zero h = refl
 side_of (suc zero) h = refl
 side_of (suc (suc k)) h = absurd (omega arith)
 
-pub end_built : (d l k o : ℕ) → (d < 256) × ((l < 256) × ((k < 2) × (o < 256)))
-    → d % 256 ∷ l % 256 ∷ k % 256 ∷ o % 256 ∷ [] ≡ end_row (record { sds = d; link = l; side = read_side k; object = o })
+pub end_built : (d l k o : ℕ) → k < 2 → d ∷ l ∷ k ∷ o ∷ [] ≡ end_row (record { sds = d; link = l; side = read_side k; object = o })
 unfolding end_row
-end_built d l k o h =
-    let d-is : d % 256 ≡ d = omega arith in
-    let l_is : l % 256 ≡ l = omega arith in
-    let k_is : k % 256 ≡ side_code (read_side k) = omega (arith, side_of k h.1.1.0) in
-    let o_is : o % 256 ≡ o = omega arith in
-    λ i. d-is i ∷ l_is i ∷ k_is i ∷ o_is i ∷ []
+end_built d l k o h = ap (λ (k : ℕ). d ∷ l ∷ k ∷ o ∷ []) (sym (side_of k h))
 
 pub end_unlike : {s : Schema} → Storable s → (x : End) → has_end s x.sds x.link x.side x.object ≡ false → Unlike ends x s.ends
 unfolding has_end

@@ -1,5 +1,5 @@
 -- Two bytes over the modes of a row are those modes in the schema. Assumes nothing.
-use Prim.Native.Nat.{ℕ, ◌+◌, ◌%◌, ◌<◌}
+use Prim.Native.Nat.{ℕ, ◌+◌, ◌<◌}
 use native.Mathlib.Omega.{arith}
 use mathlib.Core.Path.{◌≡◌, refl, sym, ap, ◌∙◌, subst}
 use mathlib.Core.Logic.{⊎_elim}
@@ -61,17 +61,17 @@ module _ {b : List ℕ} (x : Stored b) (i u f : ℕ) (h : i < presence_count b) 
       sym (take-take (length (before_modes p)) presences.width (drop (presence_at i) b) (omega (arith, before_long p)))
       ∙ ap (take (length (before_modes p))) row ∙ take_at (before_modes p) (p.usage ∷ p.definition ∷ []) (length (before_modes p)) refl
 
-  pub modes_written : (get_or b (presence_at i) 0 ≡ 0 → ⊥) → (u < 256) × (f < 256) → rising presence_before (modes_row i u f ps) ≡ true → {b' : List ℕ}
-      → b' ≡ written b (presence_at i + usage_offset) (u % 256 ∷ f % 256 ∷ []) → Shows b' (with_presences (schema_of b) (modes_row i u f ps))
-  modes_written elsewhere m rise e = record {
+  pub modes_written : (get_or b (presence_at i) 0 ≡ 0 → ⊥) → rising presence_before (modes_row i u f ps) ≡ true → {b' : List ℕ}
+      → b' ≡ written b (presence_at i + usage_offset) (u ∷ f ∷ []) → Shows b' (with_presences (schema_of b) (modes_row i u f ps))
+  modes_written elsewhere rise e = record {
     rows = keeps_presences.storable x.rows (record {
       room = omega (arith, length-set ps i q, k.room);
       used = λ y j. ⊎_elim (λ g. subst (Used presences) (sym g) (elsewhere_used presences_sort q other)) (k.used y) (set_in ps i q j);
       fit = λ y j. ⊎_elim (λ g. subst by_name.Fit (sym g) (k.fit p (place_in nowhere ps i there))) (k.fit y) (set_in ps i q j);
       rise = rise;
     });
-    shown = e ∙ rw (u_is, f_is)
-        (ap (λ (n : ℕ). written b (presence_at i + n) (u ∷ f ∷ [])) (sym (before_long p))
+    shown = e
+        ∙ (ap (λ (n : ℕ). written b (presence_at i + n) (u ∷ f ∷ [])) (sym (before_long p))
         ∙ sym (written_behind b (before_modes p) (u ∷ f ∷ []) (presence_at i) front)
         ∙ ap (written b (presence_at i)) (sym (row_parted q)) ∙ ap (λ (l : List ℕ). written l (presence_at i) (presence_row q)) x.shown
         ∙ row_over keeps_presences.stands (schema_of b) i q there k.room);
@@ -79,12 +79,6 @@ module _ {b : List ℕ} (x : Stored b) (i u f : ℕ) (h : i < presence_count b) 
     where
       k : Ordered by_name ps
       k = x.rows.presences
-
-      u_is : u % 256 ≡ u
-      u_is = omega arith
-
-      f_is : f % 256 ≡ f
-      f_is = omega arith
 
       other : q.sds ≡ 0 → ⊥
       other z = elsewhere (ap (λ (y : Presence). y.sds) (sym (presence_is b i nowhere h)) ∙ z)

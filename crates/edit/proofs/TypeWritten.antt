@@ -1,5 +1,5 @@
 -- A row over that of a type is that kind in the schema. Assumes nothing.
-use Prim.Native.Nat.{ℕ, zero, suc, ◌-◌, ◌%◌, ◌≤◌, ◌<◌}
+use Prim.Native.Nat.{ℕ, zero, suc, ◌-◌, ◌≤◌, ◌<◌}
 use native.Mathlib.Omega.{arith}
 use mathlib.Core.Path.{◌≡◌, refl, sym, ap, ◌∙◌}
 use mathlib.Core.Logic.{◌⊎◌, inl, inr, ⊎_elim}
@@ -23,17 +23,12 @@ use Rattle.base.proofs.Tables.{types_stand, row_over}
 
 -- ---- the row
 
-pub type_built : (kind value reverse : ℕ) (ps y : List ℕ) → (kind < 256) × ((value < 256) × (reverse < 256)) → length ps ≤ 4
-    → y ≡ written (kind % 256 ∷ value % 256 ∷ reverse % 256 ∷ length ps % 256 ∷ 0 ∷ 0 ∷ 0 ∷ 0 ∷ []) parents_offset ps → y ≡ type_fields kind value reverse ps
-type_built kind value reverse ps y h l e =
-    let kind_is : kind % 256 ≡ kind = omega arith in
-    let value_is : value % 256 ≡ value = omega arith in
-    let reverse_is : reverse % 256 ≡ reverse = omega arith in
-    let count_is : length ps % 256 ≡ length ps = omega arith in
+pub type_built : (kind value reverse : ℕ) (ps y : List ℕ) → length ps ≤ 4
+    → y ≡ written (kind ∷ value ∷ reverse ∷ length ps ∷ 0 ∷ 0 ∷ 0 ∷ 0 ∷ []) parents_offset ps → y ≡ type_fields kind value reverse ps
+type_built kind value reverse ps y l e =
     let room = type_width - parents_offset in
     let front = kind ∷ value ∷ reverse ∷ length ps ∷ [] in
-    e ∙ rw (kind_is, value_is, reverse_is, count_is)
-    (field_written front [] ps room parents_offset refl l ∙ ap (λ (r : List ℕ). front ++ r) (append-nil (pad room ps)))
+    e ∙ field_written front [] ps room parents_offset refl l ∙ ap (λ (r : List ℕ). front ++ r) (append-nil (pad room ps))
 
 -- ---- the schema
 

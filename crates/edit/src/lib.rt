@@ -2,7 +2,7 @@
 // always sound; here it need only be stored. Where a row starts and how wide it is, `base` says.
 #![tactic(auto)]
 
-ghost use Rattle.std.specs.Prelude.{◌≡◌, ◌⊎◌, true, false, ◌||◌, ◌≤◌, ◌<◌, length, get_or};
+ghost use Rattle.std.specs.Prelude.{◌≡◌, ◌⊎◌, true, false, ◌||◌, ◌+◌, ◌*◌, ◌≤◌, ◌<◌, length, get_or};
 ghost use Rattle.rules.specs.01-Lists.{put, rising};
 ghost use Rattle.rules.specs.02-Limits.{limits};
 ghost use Rattle.rules.specs.03-Names.{blank, well_formed};
@@ -13,12 +13,20 @@ ghost use Rattle.rules.specs.10-Changes.{nameless};
 ghost use Rattle.rules.specs.Read.{read_side};
 ghost use Rattle.base.specs.Back.{schema_of, presence_count, application_count, end_count};
 ghost use Rattle.base.specs.Stored.{Stored, Shows, less_row, modes_row, TypeWritten, type_fields};
-ghost use Rattle.rows.specs.Table.{PutIn, written};
+ghost use Rattle.rows.specs.Table.{PutIn, written, closed};
 ghost use Rattle.base.specs.Tables.{presences};
 ghost use Rattle.base.specs.Rows.{sds_at, presence_at};
 
-use base::Base;
+use base::{Base, Table};
 use rules::Limits;
+
+// Row i of the n of a table goes.
+fn take_row(base: &mut [u8], table: Table, n: usize, i: usize)
+    requires { (length base.old ≡ base_length) × ((i < n) × (n ≤ table.room)) }
+    ensures { base.new ≡ closed base.old (table.start + i * table.width) (table.start + n * table.width) table.width }
+{
+    rows::table::take_row(base, table.row(i), table.row(n), table.width);
+}
 
 // ---- SDSs
 
@@ -27,9 +35,8 @@ pub fn write_sds(base: &mut [u8], d: usize, name: &[u8])
     requires { (length base.old ≡ base_length) × ((d < limits.sdss) × (length name.now ≤ limits.name)) }
     ensures { base.new ≡ written base.old (sds_at d) (sds_row name.now) }
 {
-    let at = Base::SDSS_AT + d * Base::SDS_WIDTH;
-    let end = at + Base::SDS_WIDTH;
-    rows::table::clear(&mut base[at..end]);
+    let at = Table::SDSS.row(d);
+    rows::table::clear(&mut base[at..at + Base::SDS_WIDTH]);
     rows::table::write(base, at, name);
 }
 
@@ -47,11 +54,11 @@ fn presence_bytes(
     requires usage_bound { (usage < 256) × (definition < 256) }
     ensures { result ≡ presence_row (with_modes usage definition (new_presence d name.now t)) }
 {
-    let mut row: [u8; Base::PRESENCE_WIDTH] = [0; Base::PRESENCE_WIDTH];
-    row[0] = (d % 256) as u8;
-    row[Base::TYPE_OFFSET] = (t % 256) as u8;
-    row[Base::USAGE_OFFSET] = (usage % 256) as u8;
-    row[Base::DEFINITION_OFFSET] = (definition % 256) as u8;
+    let mut row = [0; Base::PRESENCE_WIDTH];
+    row[0] = d as u8;
+    row[Base::TYPE_OFFSET] = t as u8;
+    row[Base::USAGE_OFFSET] = usage as u8;
+    row[Base::DEFINITION_OFFSET] = definition as u8;
     rows::table::write(&mut row, Base::NAME_OFFSET, name);
     row
 }
@@ -121,8 +128,8 @@ pub fn write_modes(base: &mut [u8], i: usize, usage: usize, definition: usize)
     ensures { let s = schema_of base.old in
         Shows base.new (with_presences s (modes_row i usage definition s.presences)) }
 {
-    let modes = [(usage % 256) as u8, (definition % 256) as u8];
-    let at = Base::PRESENCES_AT + i * Base::PRESENCE_WIDTH + Base::USAGE_OFFSET;
+    let modes = [usage as u8, definition as u8];
+    let at = Table::PRESENCES.row(i) + Base::USAGE_OFFSET;
     rows::table::write(base, at, &modes);
 }
 
@@ -133,9 +140,7 @@ pub fn take_presence(base: &mut [u8], i: usize)
     ensures { let s = schema_of base.old in Shows base.new (with_presences s (less_row i s.presences)) }
 {
     let n = base::used::presence_count(base);
-    let at = Base::PRESENCES_AT + i * Base::PRESENCE_WIDTH;
-    let end = Base::PRESENCES_AT + n * Base::PRESENCE_WIDTH;
-    rows::table::take_row(base, at, end, Base::PRESENCE_WIDTH);
+    take_row(base, Table::PRESENCES, n, i);
 }
 
 // ---- applications
@@ -149,7 +154,7 @@ pub fn put_application(base: &mut [u8], d: usize, t: usize, a: usize)
     ensures { let s = schema_of base.old in
         Shows base.new (with_applications s (put application_before (record { sds = d; to = t; attribute = a }) s.applications)) }
 {
-    let row = [(d % 256) as u8, (t % 256) as u8, (a % 256) as u8];
+    let row = [d as u8, t as u8, a as u8];
     let n = base::used::application_count(base);
     rows::table::put_in(base, Base::APPLICATIONS_AT, n, &row, 0);
 }
@@ -161,9 +166,7 @@ pub fn take_application(base: &mut [u8], i: usize)
     ensures { let s = schema_of base.old in Shows base.new (with_applications s (less_row i s.applications)) }
 {
     let n = base::used::application_count(base);
-    let at = Base::APPLICATIONS_AT + i * Base::APPLICATION_WIDTH;
-    let end = Base::APPLICATIONS_AT + n * Base::APPLICATION_WIDTH;
-    rows::table::take_row(base, at, end, Base::APPLICATION_WIDTH);
+    take_row(base, Table::APPLICATIONS, n, i);
 }
 
 // ---- ends
@@ -177,12 +180,7 @@ pub fn put_end(base: &mut [u8], d: usize, l: usize, side: usize, o: usize)
     ensures { let s = schema_of base.old in
         Shows base.new (with_ends s (put end_before (record { sds = d; link = l; side = read_side side; object = o }) s.ends)) }
 {
-    let row = [
-        (d % 256) as u8,
-        (l % 256) as u8,
-        (side % 256) as u8,
-        (o % 256) as u8,
-    ];
+    let row = [d as u8, l as u8, side as u8, o as u8];
     let n = base::used::end_count(base);
     rows::table::put_in(base, Base::ENDS_AT, n, &row, 0);
 }
@@ -194,9 +192,7 @@ pub fn take_end(base: &mut [u8], i: usize)
     ensures { let s = schema_of base.old in Shows base.new (with_ends s (less_row i s.ends)) }
 {
     let n = base::used::end_count(base);
-    let at = Base::ENDS_AT + i * Base::END_WIDTH;
-    let end = Base::ENDS_AT + n * Base::END_WIDTH;
-    rows::table::take_row(base, at, end, Base::END_WIDTH);
+    take_row(base, Table::ENDS, n, i);
 }
 
 // ---- types
@@ -217,16 +213,15 @@ pub fn write_type(
     ensures { TypeWritten base.old t (type_fields kind value reverse parents.now) base.new }
 {
     let mut row = [
-        (kind % 256) as u8,
-        (value % 256) as u8,
-        (reverse % 256) as u8,
-        (parents.len() % 256) as u8,
+        kind as u8,
+        value as u8,
+        reverse as u8,
+        parents.len() as u8,
         0,
         0,
         0,
         0,
     ];
     rows::table::write(&mut row, Base::PARENTS_OFFSET, parents);
-    let at = Base::TYPES_AT + t * Base::TYPE_WIDTH;
-    rows::table::write(base, at, &row);
+    rows::table::write(base, Table::TYPES.row(t), &row);
 }

@@ -2,9 +2,10 @@
 use Prim.Native.Nat.{ℕ, ◌≤◌, ◌<◌}
 use native.Mathlib.Omega.{arith}
 use mathlib.Core.Path.{◌≡◌, refl, sym, ap, subst, ◌∙◌}
-use mathlib.Core.List.{List, ◌++◌, append-nil}
+use mathlib.Core.List.{List}
+use Rattle.std.specs.Prelude.{Ok, Err}
 use mathlib.Core.Bool.{Bool, true, false, cond, true≢false, false≢true}
-use lib.ListN.{length, take, drop, drop_of_length-le}
+use lib.ListN.{length, take, drop}
 use lib.Seq.{take_at}
 use borrow.Author.Tests.{lt-ltb, le-ltb}
 use Rattle.rules.specs.declared.Answer.{Answer}
@@ -15,10 +16,8 @@ use Rattle.rules.specs.09-Refusals.{Outcome, verdict, short_output, answer_of, t
 use Rattle.rules.specs.09-Refusals.Outcome.{refused, done}
 use Rattle.rules.specs.11-File.{file_of, write_file, WrittenAs}
 use Rattle.rules.specs.12-Contracts.{Filed, file_after, ReadIn}
-use Rattle.rules.specs.12-Contracts.ReadIn.{malformed, not_sound, read}
+use Rattle.rules.specs.12-Contracts.ReadIn.{malformed, read}
 use Rattle.rows.specs.Decides.{Decides}
-use Rattle.rows.specs.Table.{written}
-use Rattle.rows.proofs.Written.{written_first}
 use Rattle.base.specs.Back.{schema_of}
 use Rattle.base.proofs.Back.{way_back, canonical_picture, sound_canonical, sound_good}
 use Rattle.file_form.specs.Form.{Told}
@@ -66,12 +65,9 @@ module _ {b : List ℕ} (x : Sound b) where
 
 -- ---- in
 
--- bytes put down in a work area, and how many they are
+-- bytes put down in a work area
 pub taken_back : {list area area' : List ℕ} {n : ℕ} → PutDown list area area' n → take n area' ≡ list
 taken_back {list} {area} {n = n} p = ap (take n) p.is ∙ take_at list (drop (length list) area) n (sym p.long)
-
-pub taken_long : {list area area' : List ℕ} {n : ℕ} → PutDown list area area' n → n ≡ length (take n area')
-taken_long p = p.long ∙ ap length (sym (taken_back p))
 
 -- a file is read exactly where what it was loaded into tells of it: the file of a good schema shows that schema there
 module _ {before file area : List ℕ} (l : Loaded file area) where
@@ -101,19 +97,10 @@ module _ {before file area : List ℕ} (l : Loaded file area) where
                 is = w.is ∙ ap file_of (sym (ap schema_of (l.shows s w) ∙ way_back w.good));
               })
 
--- nothing is left of what stood there
-pub copied : (area base : List ℕ) → length area ≡ length base → {after : List ℕ} → after ≡ written base 0 area → after ≡ area
-copied area base long e =
-    e ∙ written_first base area
-    ∙ ap (λ (r : List ℕ). area ++ r) (drop_of_length-le base {i = length area} (omega arith)) ∙ append-nil area
+module _ {before file : List ℕ} {a : Answer} (long : length before ≡ base_length) where
+  pub read_malformed : {start : ℕ} → Told file (Err start) → a ≡ telling 20 start → ReadIn before file a before
+  read_malformed {start} t answer = let (none, longest) = t.malformed in malformed long none start longest answer refl
 
-module _ {before file : List ℕ} {a : Answer} (long : length before ≡ base_length) {good : Bool} {start : ℕ} (t : Told file good start) where
-  pub read_malformed : good ≡ false → a ≡ telling 20 start → ReadIn before file a before
-  read_malformed e answer = malformed long (t.malformed e) start t.longest answer refl
-
-  module _ (e : good ≡ true) {r : Bool} {after : List ℕ} (x : Accepts before file r after) where
-    pub read_unsound : r ≡ false → a ≡ refusal 21 → ReadIn before file a after
-    read_unsound f answer = let (none, same) = x.left f in not_sound long (t.formed e) none answer same
-
+  module _ {done : Unit} (t : Told file (Ok done)) {r : Bool} {after : List ℕ} (x : Accepts before file r after) where
     pub read_done : r ≡ true → a ≡ success 0 0 0 → ReadIn before file a after
     read_done f answer = let (s, w, shown) = x.taken f in read long s w answer shown

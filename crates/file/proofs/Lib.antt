@@ -1,3 +1,2 @@
 pub mod PartsLaws
-pub mod StandsLaws
 pub mod FileLaws

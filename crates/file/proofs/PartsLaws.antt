@@ -3,18 +3,21 @@ use Prim.Native.Nat.{ℕ, ◌+◌, ◌-◌, ◌≤◌, ◌<◌}
 use native.Mathlib.Numerals.{add-one}
 use native.Mathlib.Omega.{arith}
 use mathlib.Core.Path.{◌≡◌, refl, sym, ap, ◌∙◌}
-use mathlib.Core.List.{List, [], ◌++◌, append_assoc, append-nil}
+use mathlib.Core.List.{List, [], ◌∷◌, ◌++◌, append-nil}
+use mathlib.Core.Logic.{◌≢◌}
+use mathlib.Core.Bool.{false}
 use borrow.Author.Tests.{eqb-true, eqb-false}
 use borrow.Rule.Slice.PartMut.{mid_of, put_mid}
 use borrow.Author.Rules.{part_to_end}
 use lib.Dec.{eqb}
-use lib.ListN.{length, get_or, take, drop, length-take, length-drop, drop_of_length-le}
-use lib.Seq.{take_at, take-add, take_all, length-take-le, drop_at, drop-cons, drop-drop}
+use lib.ListN.{length, get_or, drop, length-drop, drop_of_length-le}
+use lib.Seq.{drop-cons, drop-drop}
 use Rattle.rules.specs.01-Lists.{joined, numbers}
 use Rattle.rules.specs.04-Schema.{Schema}
-use Rattle.rows.specs.Rows.{part}
+use Rattle.rules.proofs.07-Picture.{append_both}
 use Rattle.rows.specs.Table.{written}
 use Rattle.rows.specs.Decides.{Decides}
+use Rattle.rows.proofs.Decides.{decides_no}
 use Rattle.file_out_presences.specs.Out.{PutDown}
 use Rattle.file_out_presences.proofs.PutLaws.{Putting, putting_none, putting_as, putting_room, putting_more, putting_done, put_front}
 use Rattle.file_out.specs.Parts.{file_parts}
@@ -56,9 +59,6 @@ module _ (ps : List (List ℕ)) where
   down_none out₀ h = putting_none (omega arith)
 
   module _ {out₀ out : List ℕ} {at : ℕ} (j : ℕ) (d : Down out₀ out at j) where
-    pub down_at : at ≤ length out
-    down_at = omega (arith, putting_room [] (behind j) d)
-
     module _ (h : j < length ps) where
       pub down_room : length (get_or ps j []) ≤ length (mid_of at (length out - at) out)
       down_room = rw (part_to_end out at) (omega (arith, length-drop at out, putting_room (get_or ps j []) (behind (j + 1)) (putting_as (next j h) d)))
@@ -73,42 +73,37 @@ module _ (ps : List (List ℕ)) where
 
   -- ---- compared
 
-  -- the file begins with the first j parts, which end at `at`
-  pub record Met (file : List ℕ) (at j : ℕ) : Type 0 where
-    pub inside : at ≤ length file
-    pub is : take at file ++ behind j ≡ joined ps
+  -- the first j parts are passed: what is left of the file decides
+  pub record Met (file rest : List ℕ) (j : ℕ) : Type 0 where
+    pub left : file ≡ joined ps → rest ≡ behind j
+    pub all : rest ≡ behind j → file ≡ joined ps
 
-  pub met_none : (file : List ℕ) → Met file 0 0
-  met_none file = record { inside = omega arith; is = refl }
+  pub met_none : (file : List ℕ) → Met file file 0
+  met_none file = record { left = λ e. e; all = λ e. e }
 
-  module _ {file : List ℕ} {at j : ℕ} (m : Met file at j) where
-    long : length (take at file) ≡ at
-    long = length-take-le at file m.inside
-
-    -- `bytes` are part j: where they do not stand there it is no file of these parts
+  module _ {file rest : List ℕ} {j : ℕ} (m : Met file rest j) where
+    -- `bytes` are part j: what does not begin with them is no file of these parts
     module _ {bytes : List ℕ} (h : j < length ps) (q : bytes ≡ get_or ps j []) where
       here : behind j ≡ bytes ++ behind (j + 1)
       here = next j h ∙ ap (λ (l : List ℕ). l ++ behind (j + 1)) (sym q)
 
-      pub met_not : (part file at (length bytes) ≡ bytes → ⊥) → file ≡ joined ps → ⊥
-      met_not not e =
-          not (ap (take (length bytes)) (ap (drop at) (e ∙ sym m.is) ∙ drop_at (take at file) (behind j) at long ∙ here)
-          ∙ take_at bytes (behind (j + 1)) (length bytes) refl)
+      pub met_not : ((more : List ℕ) → rest ≢ bytes ++ more) → Decides (file ≡ joined ps) false
+      met_not other = decides_no (λ e. other (behind (j + 1)) (m.left e ∙ here))
 
-      pub met_more : {n : ℕ} → n ≡ length bytes → part file at (length bytes) ≡ bytes → Met file (at + n) (j + 1)
-      met_more e is = record {
-        inside = omega (arith, m.inside, ap length is, length-take (length bytes) (drop at file), length-drop at file);
-        is =
-            ap (λ (k : ℕ). take (at + k) file ++ behind (j + 1)) e
-            ∙ ap (λ (l : List ℕ). l ++ behind (j + 1)) (take-add at (length bytes) file ∙ ap (λ (l : List ℕ). take at file ++ l) is)
-            ∙ append_assoc (take at file) bytes (behind (j + 1)) ∙ ap (λ (l : List ℕ). take at file ++ l) (sym here) ∙ m.is;
+      pub met_more : {more : List ℕ} → rest ≡ bytes ++ more → Met file more (j + 1)
+      met_more {more} is = record {
+        left = λ e. (append_both bytes bytes more (behind (j + 1)) refl (sym is ∙ m.left e ∙ here)).1;
+        all = λ e. m.all (is ∙ ap (λ l. bytes ++ l) e ∙ sym here);
       }
 
-    -- the parts are passed: where the file ends decides
-    pub met_end : length ps ≤ j → Decides (file ≡ joined ps) (eqb at (length file))
+    -- the parts are passed: the file is that of them where nothing is left of it
+    pub met_end : length ps ≤ j → Decides (file ≡ joined ps) (eqb (length rest) 0)
     met_end h =
-        let all : take at file ≡ joined ps = sym (append-nil (take at file)) ∙ ap (λ (l : List ℕ). take at file ++ l) (sym (past j h)) ∙ m.is in
         record {
-          holds = λ e. sym (take_all at file (omega (arith, eqb-true at (length file) e))) ∙ all;
-          fails = λ e f. eqb-false at (length file) e (sym long ∙ ap length (all ∙ sym f));
+          holds = λ e. m.all (none rest (eqb-true (length rest) 0 e) ∙ sym (past j h));
+          fails = λ e f. eqb-false (length rest) 0 e (ap length (m.left f ∙ past j h));
         }
+      where
+        none : (l : List ℕ) → length l ≡ 0 → l ≡ []
+        none [] e = refl
+        none (x ∷ l) e = absurd (omega arith)

@@ -2,11 +2,11 @@
 #![tactic(auto)]
 
 ghost use Rattle.std.specs.Prelude.{◌≡◌, cond, ◌≤◌, length};
+ghost use Rattle.rules.specs.09-Refusals.{answered};
 ghost use Rattle.rules.specs.07-Picture.{Sound, base_length};
 ghost use Rattle.rules.specs.11-File.{file_of, write_file};
 ghost use Rattle.rules.specs.12-Contracts.{Filed, ReadIn};
 ghost use Rattle.base.specs.Back.{schema_of};
-ghost use Rattle.rows.specs.Rows.{part};
 ghost use Rattle.rows.specs.Decides.{Decides};
 ghost use Rattle.file_out_presences.specs.Out.{PutDown};
 ghost use Rattle.file.specs.Accept.{Loaded, ToldBy, Accepts};
@@ -14,7 +14,7 @@ ghost use Rattle.file.specs.Accept.{Loaded, ToldBy, Accepts};
 use base::Base;
 use file_out::Parts;
 use file_sections::Width;
-use rules::{Answer, Limits};
+use rules::{Done, Limits, Refused};
 
 // How long a file is at most: the six counts, and every section at its limit, with 4 parents a type.
 pub const MOST: usize = 6 * Width::COUNT
@@ -27,18 +27,18 @@ pub const MOST: usize = 6 * Width::COUNT
 
 // ---- out
 
-pub fn write_file(base: &[u8], out: &mut [u8]) -> Answer
-    ensures { Filed base.now (write_file (length out.old)) result out.old out.new }
+pub fn write_file(base: &[u8], out: &mut [u8]) -> Result<Done, Refused>
+    ensures { Filed base.now (write_file (length out.old)) (answered result) out.old out.new }
 {
     if !sound::is_sound(base) {
-        return Answer::refused(1);
+        return Err(Refused::NotSound);
     }
     let length = file_out::length(base);
     if out.len() < length {
-        return Answer::refused(15);
+        return Err(Refused::ShortOutput);
     }
     put_down(base, out);
-    Answer::done(length, 0, 0)
+    Ok(Done(length, 0, 0))
 }
 
 // Part behind part.
@@ -47,30 +47,27 @@ fn put_down(base: &[u8], out: &mut [u8]) -> usize
     ensures { PutDown (file_of (schema_of base.now)) out.old out.new result }
 {
     let mut at = 0;
-    let mut j = 0;
-    while j < Parts::MANY {
+    for j in 0..Parts::MANY {
         at += file_out::part(base, j, &mut out[at..]);
-        j += 1;
     }
     at
 }
 
 // ---- in
 
-pub fn read_file(base: &mut [u8], file: &[u8]) -> Answer
-    ensures { ReadIn base.old file.now result base.new }
+pub fn read_file(base: &mut [u8], file: &[u8]) -> Result<Done, Refused>
+    ensures { ReadIn base.old file.now (answered result) base.new }
 {
     if base.len() != Base::LENGTH {
-        return Answer::refused(1);
+        return Err(Refused::NotSound);
     }
-    let form = file_form::form(file);
-    if !form.good {
-        return Answer::telling(20, form.start);
+    if let Err(start) = file_form::form(file) {
+        return Err(Refused::MalformedFile(start));
     }
     if !accept(base, file) {
-        return Answer::refused(21);
+        return Err(Refused::UnsoundFile);
     }
-    Answer::done(0, 0, 0)
+    Ok(Done(0, 0, 0))
 }
 
 // The base becomes the one that is written as the file, if there is one: decided first, then copied. What a bad file makes of the work
@@ -79,7 +76,7 @@ fn accept(base: &mut [u8], file: &[u8]) -> bool
     requires { length base.old ≡ base_length }
     ensures { Accepts base.old file.now result base.new }
 {
-    let mut area: [u8; Base::LENGTH] = [0; Base::LENGTH];
+    let mut area = [0; Base::LENGTH];
     load(file, &mut area);
     let good = is_told_by(&area, file);
     copy_if(good, &area, base);
@@ -91,7 +88,7 @@ fn copy_if(good: bool, area: &[u8], base: &mut [u8])
     ensures { base.new ≡ cond good area.now base.old }
 {
     if good {
-        rows::table::write(base, 0, area);
+        base.copy_from_slice(area);
     }
 }
 
@@ -107,10 +104,7 @@ fn load(file: &[u8], area: &mut [u8])
 fn is_told_by(area: &[u8], file: &[u8]) -> bool
     ensures { Decides (ToldBy area.now file.now) result }
 {
-    if !sound::is_sound(area) {
-        return false;
-    }
-    is_file_of(area, file)
+    sound::is_sound(area) && is_file_of(area, file)
 }
 
 // Whether the file is that of the base, part by part.
@@ -118,34 +112,14 @@ fn is_file_of(base: &[u8], file: &[u8]) -> bool
     requires { Sound base.now }
     ensures { Decides (file.now ≡ file_of (schema_of base.now)) result }
 {
-    let mut bytes: [u8; Parts::MOST] = [0; Parts::MOST];
-    let mut at = 0;
-    let mut j = 0;
-    while j < Parts::MANY {
+    let mut bytes = [0; Parts::MOST];
+    let mut rest = file;
+    for j in 0..Parts::MANY {
         let n = file_out::part(base, j, &mut bytes);
-        if !stands_at(file, at, &bytes[..n]) {
+        let Some(behind) = rest.strip_prefix(&bytes[..n]) else {
             return false;
-        }
-        at += n;
-        j += 1;
+        };
+        rest = behind;
     }
-    at == file.len()
-}
-
-// Whether these bytes stand in the file from `at` on.
-fn stands_at(file: &[u8], at: usize, bytes: &[u8]) -> bool
-    requires { at ≤ length file.now }
-    ensures { Decides (part file.now at (length bytes.now) ≡ bytes.now) result }
-{
-    if file.len() - at < bytes.len() {
-        return false;
-    }
-    let mut i = 0;
-    while i < bytes.len() {
-        if file[at + i] != bytes[i] {
-            return false;
-        }
-        i += 1;
-    }
-    true
+    rest.is_empty()
 }

@@ -1,21 +1,18 @@
 -- A file walked section by section. Assumes nothing.
-use Prim.Native.Nat.{ℕ, suc, ◌+◌, ◌-◌, ◌≤◌, ◌<◌}
+use Prim.Native.Nat.{ℕ, ◌+◌, ◌-◌, ◌≤◌}
 use native.Mathlib.Nat.{zero-add}
-use native.Mathlib.Numerals.{add-one}
 use native.Mathlib.Omega.{arith}
 use mathlib.Core.Path.{◌≡◌, refl, sym, subst, ◌∙◌}
 use mathlib.Core.List.Memᴰ
 use mathlib.Core.List.{List, [], ◌∷◌, ◌++◌}
 use mathlib.Core.Bool.{Bool, true, false, false≢true}
-use lib.Dec.{eqb}
-use lib.ListN.{length, get_or, drop, drop_of_length-le}
-use lib.Seq.{drop-cons, drop-drop, take_all}
-use borrow.Author.Tests.{eqb-true, eqb-false}
+use lib.ListN.{length, drop}
+use lib.Seq.{drop-drop, take_all}
+use Rattle.std.specs.Prelude.{Result, Ok, Err, IsErr, IsErrAnd}
 use Rattle.rules.specs.01-Lists.{rising, joined}
 use Rattle.rules.specs.11-File.{Section, section, Sections, widths, WellFormed, shared}
 use Rattle.file_form.specs.Form.{Told}
 use Rattle.file_form.specs.Walk.{Start, Walked}
-use Rattle.file_form.specs.declared.Walk.{Walk}
 use Rattle.file_form.proofs.Starts.{shared_self, shared_most, shared_start, start_as, start_none}
 use Rattle.file_form.proofs.Starts.{Some, then_followed, followed_then, then_stop, then_pass}
 use Rattle.file_form.proofs.Sections.{section_length}
@@ -53,75 +50,68 @@ module _ (w : ℕ) (ws : List ℕ) {l : List ℕ} {k : ℕ} where
 -- ---- what the walk's end tells
 
 module _ {file : List ℕ} {k : ℕ} where
-  told_whole : Start WellFormed file k true → Told file (eqb k (length file)) k
-  told_whole s =
-      record {
-        formed = λ e. formed (eqb-true k (length file) e);
-        malformed = λ e m. malformed (eqb-false k (length file) e) m;
-        longest = s.longest;
-      }
-    where
-      formed : k ≡ length file → WellFormed file
-      formed e =
-          let some = s.longest.some in
-          let long : length some ≡ k = s.passed refl in
-          let start = shared_start file some (s.longest.reached ∙ sym long) in
-          subst (λ (l : List ℕ). WellFormed l) (sym start ∙ take_all (length some) file (omega arith)) s.longest.is
+  told_formed : Start WellFormed file k true → k ≡ length file → Told file (Ok tt)
+  told_formed s e =
+      let some = s.longest.some in
+      let long : length some ≡ k = s.passed refl in
+      let start = shared_start file some (s.longest.reached ∙ sym long) in
+      record { formed = subst (λ (l : List ℕ). WellFormed l) (sym start ∙ take_all (length some) file (omega arith)) s.longest.is; malformed = tt }
 
-      malformed : (k ≡ length file → ⊥) → WellFormed file → ⊥
-      malformed n m =
-          let most = s.longest.most file m in
-          let least = (shared_most file s.longest.some).0 in
-          n (omega (arith, shared_self file, s.longest.reached))
-
-  told_stopped : Start WellFormed file k false → Told file false k
-  told_stopped s =
+  told_behind : Start WellFormed file k true → (k ≡ length file → ⊥) → Told file (Err k)
+  told_behind s n =
       record {
-        formed = λ e. absurd (false≢true e);
-        malformed = λ e m. omega (arith, s.stopped refl file m, shared_self file);
-        longest = s.longest;
+        formed = tt;
+        malformed = (
+          λ m.
+              let most = s.longest.most file m in
+              let least = (shared_most file s.longest.some).0 in
+              n (omega (arith, shared_self file, s.longest.reached)),
+          s.longest,
+        );
       }
+
+  told_stopped : Start WellFormed file k false → Told file (Err k)
+  told_stopped s = record { formed = tt; malformed = (λ m. omega (arith, s.stopped refl file m, shared_self file), s.longest) }
+
+-- what `?` makes of an Err is that Err
+pub told_on : {file : List ℕ} {k : ℕ} → Told file (Err k) → (r : Result Unit ℕ) → IsErr r × IsErrAnd r (λ e. e ≡ k) → Told file r
+told_on told (Ok v) (none, same) = absurd (false≢true none)
+told_on {file} told (Err e) (none, same) = rw same told
 
 -- ---- section by section
 
--- the first i sections stand before `at`: the others decide
-pub record Passed (file : List ℕ) (at i : ℕ) : Type 0 where
+-- the sections before `at` are passed: the others, of these widths, decide
+pub record Passed (file : List ℕ) (at : ℕ) (ws : List ℕ) : Type 0 where
   pub inside : at ≤ length file
-  pub decides : (k : ℕ) (whole : Bool) → Start (Sections (drop i widths)) (drop at file) k whole → Start WellFormed file (at + k) whole
+  pub decides : (k : ℕ) (whole : Bool) → Start (Sections ws) (drop at file) k whole → Start WellFormed file (at + k) whole
 
-pub passed_none : (file : List ℕ) → Passed file 0 0
+pub passed_none : (file : List ℕ) → Passed file 0 widths
 passed_none file = record { inside = omega arith; decides = λ k whole t. rw (zero-add k) t }
 
-module _ {file : List ℕ} {at i : ℕ} (p : Passed file at i) where
-  pub passed_all : 6 ≤ i → Told file (eqb at (length file)) at
+module _ {file : List ℕ} {at : ℕ} (p : Passed file at []) where
+  passed_all : Start WellFormed file at true
   unfolding Sections
-  passed_all h = told_whole (rw zero at (p.decides 0 true (rw (drop_of_length-le widths h) (start_none (drop at file)))))
-    where
-      zero : at + 0 ≡ at
-      zero = omega arith
+  passed_all = let zero : at + 0 ≡ at = omega arith in rw zero at (p.decides 0 true (start_none (drop at file)))
 
-  module _ {w : ℕ} {r : Walk} (h : i < 6) (is : w ≡ get_or widths i 0) (walked : Walked w file at r) where
-    walk : (whole : Bool) → r.whole ≡ whole → Start (Section w) (drop at file) (r.at - at) whole
-    walk whole e = subst (λ (t : Bool). Start (Section w) (drop at file) (r.at - at) t) e walked.start
+  pub formed : at ≡ length file → Told file (Ok tt)
+  formed = told_formed passed_all
 
-    far : at + (r.at - at) ≡ r.at
-    far = omega (arith, walked.further)
+  pub behind : (at ≡ length file → ⊥) → Told file (Err at)
+  behind = told_behind passed_all
 
-    pub passed_stop : r.whole ≡ false → Told file false r.at
-    passed_stop e =
-        let rest : Start (Sections (drop i widths)) (drop at file) (r.at - at) false
-        = rw (drop-cons widths i 0 h, ← is) (sections_stop w (drop (suc i) widths) (walk false e)) in
-        told_stopped (rw far at (p.decides (r.at - at) false rest))
+module _ {file : List ℕ} {at w end : ℕ} {ws : List ℕ} (p : Passed file at (w ∷ ws)) where
+  far : {whole : Bool} → Walked w file at end whole → at + (end - at) ≡ end
+  far walked = omega (arith, walked.further)
 
-    pub passed_go : r.whole ≡ true → Passed file r.at (i + 1)
-    passed_go e =
-        record {
-          inside = walked.inside;
-          decides = λ k whole t.
-              let far_on : at + (r.at - at + k) ≡ r.at + k = omega (arith, walked.further) in
-              let behind : Start (Sections (drop (suc i) widths)) (drop (r.at - at) (drop at file)) k whole
-              = rw (drop-drop (r.at - at) at file, far) (rw add-one at t) in
-              let rest : Start (Sections (drop i widths)) (drop at file) (r.at - at + k) whole
-              = rw (drop-cons widths i 0 h, ← is) (sections_pass w (drop (suc i) widths) (walk true e) behind) in
-              rw far_on at (p.decides (r.at - at + k) whole rest);
-        }
+  pub stopped : Walked w file at end false → Told file (Err end)
+  stopped walked = told_stopped (rw (far walked) at (p.decides (end - at) false (sections_stop w ws walked.start)))
+
+  pub passed : Walked w file at end true → Passed file end ws
+  passed walked =
+      record {
+        inside = walked.inside;
+        decides = λ k whole t.
+            let far_on : at + (end - at + k) ≡ end + k = omega (arith, walked.further) in
+            let others : Start (Sections ws) (drop (end - at) (drop at file)) k whole = rw (drop-drop (end - at) at file, far walked) t in
+            rw far_on at (p.decides (end - at + k) whole (sections_pass w ws walked.start others));
+      }

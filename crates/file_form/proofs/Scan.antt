@@ -1,102 +1,70 @@
 -- The loops over the bytes of an entry: what is left decides. Assumes nothing.
 use Prim.Native.Nat.{ℕ, zero, suc, ◌+◌, ◌-◌, ◌/◌, ◌%◌, ◌≤◌, ◌<◌}
-use native.Mathlib.Nat.{zero-add}
 use native.Mathlib.Numerals.{add-one}
 use native.Mathlib.Omega.{arith}
-use mathlib.Core.Path.{◌≡◌, refl, sym, ◌∙◌}
-use mathlib.Core.List.{List, []}
-use mathlib.Core.Bool.{true, false}
+use mathlib.Core.Path.{◌≡◌, refl, sym, ap, ◌∙◌}
+use mathlib.Core.List.{List, [], ◌∷◌}
+use mathlib.Core.Logic.{◌⊎◌, ⊎_elim}
+use mathlib.Core.Bool.{true, false, ◌&&◌}
+use lib.Dec.{eqb}
+use Rattle.std.specs.List.{list_all}
 use lib.ListN.{length, get_or, take, drop, length-drop, drop_of_length-le}
-use lib.Seq.{drop-cons}
+use lib.Seq.{drop-cons, drop-drop}
 use borrow.Author.Tests.{lt-ltb, le-ltb, eq-eqb, ne_eqb}
 use borrow.Author.Rules.{part_to_end}
 use Rattle.file_form.specs.Walk.{full, above, within, top_byte, top}
 
 -- ---- every byte is 255
 
-pub record FullFrom (l : List ℕ) (i : ℕ) : Type 0 where
-  pub inside : i ≤ length l
-  pub decides : full l ≡ full (drop i l)
-
-pub full_first : (l : List ℕ) → FullFrom l 0
-full_first l = record { inside = omega arith; decides = refl }
-
-module _ {l : List ℕ} {i : ℕ} (s : FullFrom l i) where
-  pub full_stop : i < length l → (get_or l i 0 ≡ 255 → ⊥) → false ≡ full l
-  unfolding full
-  full_stop h n = sym (s.decides ∙ rw (drop-cons l i 0 h, ne_eqb (get_or l i 0) 255 n))
-
-  pub full_go : i < length l → get_or l i 0 ≡ 255 → FullFrom l (i + 1)
-  unfolding full
-  full_go h e = record { inside = omega arith; decides = s.decides ∙ rw (add-one, drop-cons l i 0 h, eq-eqb (get_or l i 0) 255 e) }
-
-  pub full_end : length l ≤ i → true ≡ full l
-  unfolding full
-  full_end h = sym (s.decides ∙ rw (drop_of_length-le l h))
+pub full_all : (l : List ℕ) → full l ≡ list_all (λ b. eqb b 255) l
+unfolding full
+full_all [] = refl
+full_all (x ∷ l) = ap (λ t. eqb x 255 && t) (full_all l)
 
 -- ---- above the entry before
 
-pub record AboveFrom (p e : List ℕ) (j : ℕ) : Type 0 where
-  pub inside : j ≤ length e
-  pub decides : above p e ≡ j + above (drop j p) (drop j e)
+-- behind the first j bytes of both stand ps and es, which decide
+pub record AboveFrom (p e : List ℕ) (j : ℕ) (ps es : List ℕ) : Type 0 where
+  pub behind : ps ≡ drop j p
+  pub size : j + length es ≡ length e
+  pub decides : above p e ≡ j + above ps es
 
-pub above_first : (p e : List ℕ) → AboveFrom p e 0
-above_first p e = record { inside = omega arith; decides = sym (zero-add (above p e)) }
-
-module _ {p e : List ℕ} {j : ℕ} (s : AboveFrom p e j) where
-  pub above_end : length p ≤ j → length e ≡ above p e
+module _ {p e : List ℕ} {j : ℕ} where
+  pub above_end : (ps es : List ℕ) → AboveFrom p e j ps es → (length es ≡ 0) ⊎ (length ps ≡ 0) → length e ≡ above p e
   unfolding above
-  above_end h = sym (s.decides ∙ rw (drop_of_length-le p h) (omega (arith, s.inside, length-drop j e)))
+  above_end [] es s t = sym (s.decides ∙ s.size)
+  above_end (y ∷ ps) [] s t = sym (s.decides ∙ s.size)
+  above_end (y ∷ ps) (x ∷ es) s t = absurd (⊎_elim (λ none. omega arith) (λ none. omega arith) t)
 
-  module _ (h : j < length p) where
-    pub above_short : length e ≤ j → j ≡ above p e
+  module _ {x y : ℕ} {ps es : List ℕ} (s : AboveFrom p e j (y ∷ ps) (x ∷ es)) where
+    pub above_more : y < x → length e ≡ above p e
     unfolding above
-    above_short k = sym (s.decides ∙ rw (drop-cons p j 0 h, drop_of_length-le e k) (omega arith))
+    above_more t = sym (s.decides ∙ rw (lt-ltb y x t) (omega (arith, s.size)))
 
-    module _ (k : j < length e) where
-      pub above_more : get_or p j 0 < get_or e j 0 → length e ≡ above p e
+    pub above_less : x < y → j ≡ above p e
+    unfolding above
+    above_less t = sym (s.decides ∙ rw (le-ltb y x (omega arith), lt-ltb x y t) (omega arith))
+
+    rest : take (length p - (j + 1)) (drop (j + 1) p) ≡ ps
+    rest = part_to_end p (j + 1) ∙ sym (drop-drop 1 j p) ∙ ap (drop 1) (sym s.behind)
+
+    -- the same byte: something above must be left behind it
+    module _ (more : x ≤ y) (less : y ≤ x) where
+      pub above_full : full (take (length p - (j + 1)) (drop (j + 1) p)) ≡ true → j ≡ above p e
       unfolding above
-      above_more t =
-          sym (s.decides ∙ rw (drop-cons p j 0 h, drop-cons e j 0 k, lt-ltb (get_or p j 0) (get_or e j 0) t) (omega (arith, length-drop (suc j) e)))
+      above_full f =
+          let all : full ps ≡ true = rw rest at f in
+          sym (s.decides ∙ rw (le-ltb y x more, le-ltb x y less, all) (omega arith))
 
-      pub above_less : get_or e j 0 < get_or p j 0 → j ≡ above p e
+      pub above_go : full (take (length p - (j + 1)) (drop (j + 1) p)) ≡ false → AboveFrom p e (j + 1) ps es
       unfolding above
-      above_less t =
-          sym (s.decides
-          ∙ rw (drop-cons p j 0 h, drop-cons e j 0 k, le-ltb (get_or p j 0) (get_or e j 0) (omega arith), lt-ltb (get_or e j 0) (get_or p j 0) t) (omega arith))
-
-      -- the same byte: something above must be left behind it
-      module _ (t : get_or p j 0 ≡ get_or e j 0) where
-        pub above_full : full (take (length p - (j + 1)) (drop (j + 1) p)) ≡ true → j ≡ above p e
-        unfolding above
-        above_full f =
-            let all : full (drop (suc j) p) ≡ true = rw (part_to_end p (j + 1), add-one) at f in
-            sym (s.decides
-            ∙ rw (
-              drop-cons p j 0 h,
-              drop-cons e j 0 k,
-              le-ltb (get_or p j 0) (get_or e j 0) (omega arith),
-              le-ltb (get_or e j 0) (get_or p j 0) (omega arith),
-              all,
-            ) (omega arith))
-
-        pub above_go : full (take (length p - (j + 1)) (drop (j + 1) p)) ≡ false → AboveFrom p e (j + 1)
-        unfolding above
-        above_go f =
-            let part : full (drop (suc j) p) ≡ false = rw (part_to_end p (j + 1), add-one) at f in
-            let next : j + 1 ≡ suc j = omega arith in
-            record {
-              inside = omega arith;
-              decides = s.decides
-                  ∙ rw (
-                    next,
-                    drop-cons p j 0 h,
-                    drop-cons e j 0 k,
-                    le-ltb (get_or p j 0) (get_or e j 0) (omega arith),
-                    le-ltb (get_or e j 0) (get_or p j 0) (omega arith),
-                    part,
-                  ) (omega arith);
-            }
+      above_go f =
+          let part : full ps ≡ false = rw rest at f in
+          record {
+            behind = sym (sym (drop-drop 1 j p) ∙ ap (drop 1) (sym s.behind));
+            size = omega (arith, s.size);
+            decides = s.decides ∙ rw (le-ltb y x more, le-ltb x y less, part) (omega arith);
+          }
 
 -- ---- with enough left above
 
@@ -117,17 +85,14 @@ pub record WithinFrom (w m : ℕ) (e : List ℕ) (j : ℕ) : Type 0 where
   pub inside : j ≤ length e
   pub decides : within (top w m) e ≡ j + within (top (w - j) m) (drop j e)
 
-pub within_first : (w m : ℕ) (e : List ℕ) → length e ≤ w → WithinFrom w m e 0
-within_first w m e h = let all : w - 0 ≡ w = omega arith in record { short = h; inside = omega arith; decides = rw all (omega arith) }
-
 module _ {w m : ℕ} {e : List ℕ} {j : ℕ} (s : WithinFrom w m e j) where
-  pub within_end : length e ≤ j → j ≡ within (top w m) e
+  pub within_end : length e ≤ j → length e ≡ within (top w m) e
   unfolding within top
   within_end h = sym (s.decides ∙ rw (drop_of_length-le e h) (none (w - j)))
     where
-      none : (k : ℕ) → j + within (top k m) [] ≡ j
-      none zero = omega arith
-      none (suc k) = omega arith
+      none : (k : ℕ) → j + within (top k m) [] ≡ length e
+      none zero = omega (arith, s.inside)
+      none (suc k) = omega (arith, s.inside)
 
   module _ (h : j < length e) where
     step : w - j ≡ suc (w - (j + 1))

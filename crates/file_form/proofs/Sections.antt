@@ -1,5 +1,5 @@
 -- A section walked entry by entry. Assumes nothing.
-use Prim.Native.Nat.{ℕ, zero, suc, ◌+◌, ◌*◌, ◌-◌, ◌≤◌, ◌<◌}
+use Prim.Native.Nat.{ℕ, zero, suc, ◌+◌, ◌*◌, ◌-◌, min, ◌≤◌, ◌<◌}
 use native.Mathlib.Omega.{arith}
 use mathlib.Core.Path.{◌≡◌, refl, sym, ap, subst, ◌∙◌}
 use mathlib.Core.List.{List, [], ◌∷◌, ◌++◌}
@@ -11,7 +11,7 @@ use lib.ListN.{length, get_or, take, drop, length-drop}
 use lib.Seq.{get_or-take, get_or-drop, drop-drop, take_all}
 use Rattle.rules.specs.11-File.{Entry, Section, shared, Longest}
 use Rattle.rules.proofs.Sections.{Bytes}
-use Rattle.file_form.specs.Walk.{fitting, Start, Reach, Walked}
+use Rattle.file_form.specs.Walk.{fitting, Start, Walked}
 use Rattle.file_form.proofs.Starts.{Some, shared_same, shared_most, shared_start, start_as, start_wide, start_short, start_none, then_stop, then_pass}
 use Rattle.file_form.proofs.Values.{many, value}
 use Rattle.file_form.proofs.Fit.{Between}
@@ -94,21 +94,20 @@ part l at w = take w (drop at l)
 bytes_from : (file : List ℕ) → Bytes file → (at : ℕ) → Bytes (drop at file)
 bytes_from file bytes at i = rw (get_or-drop at file i 0) (bytes (at + i))
 
--- the entries up to `here` are read, `before` is where the last of them starts: the `left` that follow decide
-pub record Left (w : ℕ) (file : List ℕ) (at before here left : ℕ) : Type 0 where
+-- the entries up to `here` are read, `prev` is the last of them: the `left` that follow decide
+pub record Left (w : ℕ) (file : List ℕ) (at : ℕ) (prev : List ℕ) (here left : ℕ) : Type 0 where
   pub wide : 2 ≤ w
   pub bytes : Bytes file
-  pub order : before ≤ here
   pub further : at ≤ here
   pub inside : here ≤ length file
   pub few : left < 65536
-  pub prior : Prior w (part file before (here - before))
-  pub room : past (part file before (here - before)) + left ≤ many w
-  pub decides : (k : ℕ) (whole : Bool) → Start (Run w (past (part file before (here - before))) left) (drop here file) k whole
+  pub prior : Prior w prev
+  pub room : past prev + left ≤ many w
+  pub decides : (k : ℕ) (whole : Bool) → Start (Run w (past prev) left) (drop here file) k whole
       → Start (Section w) (drop at file) (here - at + k) whole
 
 module _ (w : ℕ) (file : List ℕ) (at : ℕ) (wide : 2 ≤ w) (bytes : Bytes file) where
-  pub walked_short : at ≤ length file → length file - at < 2 → Walked w file at (record { at = length file; whole = false })
+  pub walked_short : at ≤ length file → length file - at < 2 → Walked w file at (length file) false
   walked_short h k =
       let long = length-drop at file in
       record {
@@ -118,59 +117,58 @@ module _ (w : ℕ) (file : List ℕ) (at : ℕ) (wide : 2 ≤ w) (bytes : Bytes 
             (section_short w wide (drop at file) (bytes_from file bytes at) (omega arith));
       }
 
-  pub left_first : (low high : ℕ) → at + 2 ≤ length file → low ≡ get_or file at 0 → high ≡ get_or file (at + 1) 0
-      → Left w file at (at + 2) (at + 2) (low + 256 * high)
+  pub left_first : (n : ℕ) → at + 2 ≤ length file → n ≡ get_or file at 0 + get_or file (at + 1) 0 * 256 → Left w file at [] (at + 2) n
   unfolding past
-  left_first low high h x y =
-      let none : at + 2 - (at + 2) ≡ 0 = omega arith in
+  left_first n h x =
       let two : at + 2 - at ≡ 2 = omega arith in
       let long = length-drop at file in
       record {
         wide = wide;
         bytes = bytes;
-        order = omega arith;
         further = omega arith;
         inside = h;
         few = omega (arith, bytes at, bytes (at + 1));
-        prior = rw none (inl refl);
-        room = rw none (omega (arith, bytes at, bytes (at + 1), many_two w wide));
-        decides = λ k whole. rw (none, two) (λ t. section_first w (drop at file) (bytes_from file bytes at) (omega arith) k whole (again k whole t));
+        prior = inl refl;
+        room = omega (arith, bytes at, bytes (at + 1), many_two w wide);
+        decides = λ k whole. rw two (λ t. section_first w (drop at file) (bytes_from file bytes at) (omega arith) k whole (again k whole t));
       }
     where
-      again : (k : ℕ) (whole : Bool) → Start (Run w 0 (low + 256 * high)) (drop (at + 2) file) k whole
-          → Start (Run w 0 (count (drop at file))) (drop 2 (drop at file)) k whole
-      again k whole t = let zero : at + 0 ≡ at = omega arith in rw (get_or-drop at file 0 0, get_or-drop at file 1 0, drop-drop 2 at file, zero, ← x, ← y) t
+      counted : n ≡ count (drop at file)
+      counted = let zero : at + 0 ≡ at = omega arith in rw (get_or-drop at file 0 0, get_or-drop at file 1 0, zero) (omega arith)
+
+      again : (k : ℕ) (whole : Bool) → Start (Run w 0 n) (drop (at + 2) file) k whole → Start (Run w 0 (count (drop at file))) (drop 2 (drop at file)) k whole
+      again k whole t = rw (drop-drop 2 at file, ← counted) t
 
 past_entry : (w : ℕ) (p : List ℕ) → 2 ≤ w → Entry w p → past p ≡ suc (value p)
 past_entry w [] h e = absurd (omega (arith, e.wide))
 past_entry w (x ∷ p) h e = past_some x p
 
 -- r of the bytes from `here` up to e can stand there, with m entries to come
-module _ {w : ℕ} {file : List ℕ} {at before here e m r : ℕ} (s : Left w file at before here (suc m)) (ends : Reach (length file) here w e)
-    (good : r ≡ fitting w (part file before (here - before)) m (part file here (e - here))) where
+module _ {w : ℕ} {file : List ℕ} {at : ℕ} {prev : List ℕ} {here e m r : ℕ} (s : Left w file at prev here (suc m)) (ends : e ≡ here + min w (length file - here))
+    (good : r ≡ fitting w prev m (part file here (e - here))) where
   abbrev Next : List ℕ → Type 0
-  Next = Between w (past (part file before (here - before))) (many w - suc m)
+  Next = Between w (past prev) (many w - suc m)
 
   same_part : part file here (e - here) ≡ part file here w
   same_part = go (ltb e (here + w)) refl
     where
       go : (t : Bool) → ltb e (here + w) ≡ t → part file here (e - here) ≡ part file here w
       go true f =
-          let last = ends.all (ltb-true e (here + w) f) in
+          let less = ltb-true e (here + w) f in
           let long = length-drop here file in
-          take_all (e - here) (drop here file) (omega arith) ∙ sym (take_all w (drop here file) (omega (arith, ltb-true e (here + w) f)))
-      go false f = let all : e - here ≡ w = omega (arith, ends.most, ltb-false e (here + w) f) in rw all
+          take_all (e - here) (drop here file) (omega (arith, ends)) ∙ sym (take_all w (drop here file) (omega (arith, ends)))
+      go false f = let all : e - here ≡ w = omega (arith, ends, ltb-false e (here + w) f) in rw all
 
   found : Longest Next (drop here file) r
   found =
       subst (λ (n : ℕ). Longest Next (drop here file) n) (sym (good ∙ rw same_part))
-      (entry_longest w m (part file before (here - before)) (drop here file) s.wide (omega (arith, s.few)) s.prior
+      (entry_longest w m prev (drop here file) s.wide (omega (arith, s.few)) s.prior
       (bytes_from file s.bytes here) (omega (arith, s.room)))
 
   inside : here + r ≤ length file
   inside = omega (arith, (shared_most (drop here file) found.some).0, found.reached, length-drop here file, s.inside)
 
-  stop : r < w → Walked w file at (record { at = here + r; whole = false })
+  stop : r < w → Walked w file at (here + r) false
   unfolding Run
   stop k =
       let far : here - at + r ≡ here + r - at = omega (arith, s.further) in
@@ -182,15 +180,14 @@ module _ {w : ℕ} {file : List ℕ} {at before here e m r : ℕ} (s : Left w fi
         start = subst (λ (n : ℕ). Start (Section w) (drop at file) n false) far (s.decides r false run);
       }
 
-  go : w ≤ r → Left w file at here e m
+  go : w ≤ r → Left w file at (part file here (e - here)) e m
   unfolding Run
   go k =
       record {
         wide = s.wide;
         bytes = s.bytes;
-        order = ends.from;
-        further = omega (arith, s.further, ends.from);
-        inside = ends.inside;
+        further = omega (arith, s.further, ends);
+        inside = omega (arith, ends, s.inside);
         few = omega (arith, s.few);
         prior = rw reach (inr whole.entry);
         room = rw (reach, past_entry w (part file here w) s.wide whole.entry) (omega (arith, whole.high, s.room));
@@ -201,14 +198,10 @@ module _ {w : ℕ} {file : List ℕ} {at before here e m r : ℕ} (s : Left w fi
       }
     where
       reach : e - here ≡ w
-      reach = cases (ltb e (here + w)) refl
-        where
-          cases : (t : Bool) → ltb e (here + w) ≡ t → e - here ≡ w
-          cases true f = let less = ltb-true e (here + w) f in absurd (omega (arith, ends.all less, inside))
-          cases false f = omega (arith, ends.most, ltb-false e (here + w) f)
+      reach = omega (arith, ends, inside)
 
       e_at : e ≡ here + w
-      e_at = omega (arith, reach, ends.from)
+      e_at = omega (arith, reach, ends)
 
       here_on : here + w - here ≡ w
       here_on = omega arith
@@ -226,19 +219,19 @@ module _ {w : ℕ} {file : List ℕ} {at before here e m r : ℕ} (s : Left w fi
           subst (λ (x : List ℕ). Next x) (sym start ∙ rw long) all.is
 
 -- the same of the code's numbers
-module _ {w : ℕ} {file : List ℕ} {at before here e left r : ℕ} (s : Left w file at before here left) (some : 0 < left)
-    (ends : Reach (length file) here w e) (good : r ≡ fitting w (part file before (here - before)) (left - 1) (part file here (e - here))) where
+module _ {w : ℕ} {file : List ℕ} {at : ℕ} {prev : List ℕ} {here e left r : ℕ} (s : Left w file at prev here left) (some : 0 < left)
+    (ends : e ≡ here + min w (length file - here)) (good : r ≡ fitting w prev (left - 1) (part file here (e - here))) where
   more : left ≡ suc (left - 1)
   more = omega arith
 
-  pub left_stop : r < w → Walked w file at (record { at = here + r; whole = false })
-  left_stop = stop (subst (λ (n : ℕ). Left w file at before here n) more s) ends good
+  pub left_stop : r < w → Walked w file at (here + r) false
+  left_stop = stop (subst (λ (n : ℕ). Left w file at prev here n) more s) ends good
 
-  pub left_go : w ≤ r → Left w file at here e (left - 1)
-  left_go = go (subst (λ (n : ℕ). Left w file at before here n) more s) ends good
+  pub left_go : w ≤ r → Left w file at (part file here (e - here)) e (left - 1)
+  left_go = go (subst (λ (n : ℕ). Left w file at prev here n) more s) ends good
 
-pub left_done : {w : ℕ} {file : List ℕ} {at before here left : ℕ} → Left w file at before here left → left ≡ 0
-    → Walked w file at (record { at = here; whole = true })
+pub left_done : {w : ℕ} {file : List ℕ} {at : ℕ} {prev : List ℕ} {here left : ℕ} → Left w file at prev here left → left ≡ 0
+    → Walked w file at here true
 unfolding Run
 left_done {w} {file} {at} {here = here} {left = zero} s e =
     let far : here - at + 0 ≡ here - at = omega arith in

@@ -1,8 +1,7 @@
 -- What is told of a file.
-use Rattle.std.specs.Prelude.{ℕ, ◌≡◌, List, Bool, true, false}
+use Rattle.std.specs.Prelude.{ℕ, List, Result, IfOk, IfErr}
 use Rattle.rules.specs.11-File.{WellFormed, Longest}
 
-pub record Told (file : List ℕ) (good : Bool) (start : ℕ) : Type 0 where
-  pub formed : good ≡ true → WellFormed file
-  pub malformed : good ≡ false → WellFormed file → ⊥
-  pub longest : Longest WellFormed file start
+pub record Told (file : List ℕ) (r : Result Unit ℕ) : Type 0 where
+  pub formed : IfOk r (λ _. WellFormed file)
+  pub malformed : IfErr r (λ start. (WellFormed file → ⊥) × Longest WellFormed file start)

@@ -1,7 +1,6 @@
 -- What the walk over a file computes, byte by byte.
-use Rattle.std.specs.Prelude.{ℕ, zero, suc, ◌+◌, ◌-◌, ◌/◌, ◌%◌, min, ◌≤◌, ◌<◌, ◌≡◌, List, [], ◌∷◌, Bool, true, false, cond, ◌&&◌, ltb, eqb, length, drop}
+use Rattle.std.specs.Prelude.{ℕ, zero, suc, ◌-◌, ◌/◌, ◌%◌, min, ◌≤◌, ◌<◌, ◌≡◌, List, [], ◌∷◌, Bool, true, false, cond, ◌&&◌, ltb, eqb, length, drop}
 use Rattle.rules.specs.11-File.{Section, shared, Longest}
-use Rattle.file_form.specs.declared.Walk.{Walk}
 
 -- every byte is 255
 unfoldable pub full : List ℕ → Bool
@@ -39,15 +38,8 @@ pub record Start (L : List ℕ → Type 0) (l : List ℕ) (k : ℕ) (whole : Boo
   pub passed : whole ≡ true → length longest.some ≡ k
   pub stopped : whole ≡ false → (other : List ℕ) → L other → shared l other < length other
 
--- an entry of width w that starts at `here` ends at r, or the bytes do
-pub record Reach (len here w r : ℕ) : Type 0 where
-  pub from : here ≤ r
-  pub inside : r ≤ len
-  pub most : r ≤ here + w
-  pub all : r < here + w → r ≡ len
-
--- a section read from `at` on
-pub record Walked (w : ℕ) (file : List ℕ) (at : ℕ) (r : Walk) : Type 0 where
-  pub further : at ≤ r.at
-  pub inside : r.at ≤ length file
-  pub start : Start (Section w) (drop at file) (r.at - at) r.whole
+-- a section read from `at` on, up to `end`; `whole`: it ends there; not `whole`: so far some section begins as these bytes do
+pub record Walked (w : ℕ) (file : List ℕ) (at end : ℕ) (whole : Bool) : Type 0 where
+  pub further : at ≤ end
+  pub inside : end ≤ length file
+  pub start : Start (Section w) (drop at file) (end - at) whole

@@ -1,147 +1,69 @@
 // The form of an exchange file. What its entries say is not looked at.
 #![tactic(auto)]
 
-ghost use Rattle.std.specs.Prelude.{◌≡◌, ◌≤◌, ◌<◌, length, get_or};
-ghost use Rattle.rules.specs.11-File.{widths};
+ghost use Rattle.std.specs.Prelude.{◌≡◌, ◌≤◌, ◌<◌, length, true, false, MatchResult};
 ghost use Rattle.file_form.specs.Form.{Told};
-ghost use Rattle.file_form.specs.Walk.{full, above, within, top_byte, top, fitting, Reach, Walked};
+ghost use Rattle.file_form.specs.Walk.{full, above, within, top_byte, top, fitting, Walked};
 
 use file_sections::Width;
 
-// Whether a file is well formed, and how long a start it shares with one that is.
-#[derive(Clone, Copy)]
-pub struct Verdict {
-    pub good: bool,
-    pub start: usize,
-}
-
-// Where a walk has come to, and whether what it was to pass is passed whole.
-#[derive(Clone, Copy)]
-pub struct Walk {
-    pub at: usize,
-    pub whole: bool,
-}
-
-const SECTIONS: usize = 6;
-
-pub fn form(file: &[u8]) -> Verdict
-    ensures { Told file.now result.good result.start }
+// Whether a file is well formed; if not, the Err is how long a start it shares with one that is.
+pub fn form(file: &[u8]) -> Result<(), usize>
+    ensures { Told file.now result }
 {
-    let mut at = 0;
-    let mut i = 0;
-    while i < SECTIONS {
-        let walk = section(file, at, width(i));
-        at = walk.at;
-        if !walk.whole {
-            return Verdict {
-                good: false,
-                start: at,
-            };
-        }
-        i += 1;
-    }
-    Verdict {
-        good: at == file.len(),
-        start: at,
-    }
+    let types = section(file, 0, Width::SDS)?;
+    let parents = section(file, types, Width::TYPE)?;
+    let presences = section(file, parents, Width::PARENT)?;
+    let applications = section(file, presences, Width::PRESENCE)?;
+    let ends = section(file, applications, Width::APPLICATION)?;
+    let end = section(file, ends, Width::END)?;
+    if end == file.len() { Ok(()) } else { Err(end) }
 }
 
-// How wide the entries of a section are. No table: a constant array is written to the stack.
-fn width(i: usize) -> usize
-    requires { i < 6 }
-    ensures { (result ≡ get_or widths i 0) × (2 ≤ result) }
-{
-    match i {
-        0 => Width::SDS,
-        1 => Width::TYPE,
-        2 => Width::PARENT,
-        3 => Width::PRESENCE,
-        4 => Width::APPLICATION,
-        5 => Width::END,
-        _ => 0,
-    }
-}
-
-// The section of entries of width w that starts at `at`.
-fn section(file: &[u8], at: usize, w: usize) -> Walk
+// Where the section of entries of width w that starts at `at` ends; if it does not, the Err is up to where some section begins so.
+fn section(file: &[u8], at: usize, w: usize) -> Result<usize, usize>
     requires { (at ≤ length file.now) × (2 ≤ w) }
-    ensures { Walked w file.now at result }
+    ensures { MatchResult result (λ end. Walked w file.now at end true) (λ end. Walked w file.now at end false) }
 {
     if file.len() - at < Width::COUNT {
-        return Walk {
-            at: file.len(),
-            whole: false,
-        };
+        return Err(file.len());
     }
-    let mut left = wide(file[at]) + 256 * wide(file[at + 1]);
+    let n = u16::from_le_bytes([file[at], file[at + 1]]);
     let mut here = at + Width::COUNT;
-    let mut before = here;
-    while 0 < left {
-        left -= 1;
-        let end = reach(file.len(), here, w);
-        let good = fitting(&file[before..here], &file[here..end], w, left);
+    let mut prev = &file[here..here];
+    for left in (0..n).rev() {
+        let end = here + w.min(file.len() - here);
+        let entry = &file[here..end];
+        let good = fitting(prev, entry, w, left);
         if good < w {
-            return Walk {
-                at: here + good,
-                whole: false,
-            };
+            return Err(here + good);
         }
-        before = here;
+        prev = entry;
         here = end;
     }
-    Walk {
-        at: here,
-        whole: true,
-    }
-}
-
-// Where an entry from `here` on ends, or the file before it.
-fn reach(len: usize, here: usize, w: usize) -> usize
-    requires { here ≤ len }
-    ensures { Reach len here w result }
-{
-    if len - here < w {
-        return len;
-    }
-    here + w
+    Ok(here)
 }
 
 // How many bytes of e can begin an entry of width w above `prev`, with so many more entries to come. Where entries rise, an early byte
 // mostly tells that all of them can.
-fn fitting(prev: &[u8], e: &[u8], w: usize, more: usize) -> usize
-    requires { (length e.now ≤ w) × (more < 65536) }
+fn fitting(prev: &[u8], e: &[u8], w: usize, more: u16) -> usize
+    requires { length e.now ≤ w }
     ensures { result ≡ fitting w prev.now more e.now }
 {
-    let high = above(prev, e);
-    let low = leaving(e, w, more);
-    if high < low {
-        return high;
-    }
-    low
+    above(prev, e).min(leaving(e, w, more))
 }
 
 // How many can begin one above `prev`; where there is no entry before, prev is empty.
 fn above(prev: &[u8], e: &[u8]) -> usize
     ensures { result ≡ above prev.now e.now }
 {
-    let mut j = 0;
-    while j < prev.len() {
-        if e.len() <= j {
-            return j;
-        }
-        let x = e[j];
-        let y = prev[j];
+    for (j, (&x, &y)) in e.iter().zip(prev).enumerate() {
         if y < x {
             return e.len();
         }
-        if x < y {
+        if x < y || is_full(&prev[j + 1..]) {
             return j;
         }
-        let next = j + 1;
-        if is_full(&prev[next..]) {
-            return j;
-        }
-        j = next;
     }
     e.len()
 }
@@ -150,24 +72,15 @@ fn above(prev: &[u8], e: &[u8]) -> usize
 fn is_full(l: &[u8]) -> bool
     ensures { result ≡ full l.now }
 {
-    let mut i = 0;
-    while i < l.len() {
-        if l[i] != 255 {
-            return false;
-        }
-        i += 1;
-    }
-    true
+    l.iter().all(|&b| b == 255)
 }
 
 // How many can begin one that leaves so many above itself.
-fn leaving(e: &[u8], w: usize, more: usize) -> usize
-    requires { (length e.now ≤ w) × (more < 65536) }
+fn leaving(e: &[u8], w: usize, more: u16) -> usize
+    requires { length e.now ≤ w }
     ensures { result ≡ within (top w more) e.now }
 {
-    let mut j = 0;
-    while j < e.len() {
-        let x = wide(e[j]);
+    for (j, &x) in e.iter().enumerate() {
         let z = last_byte(w - j, more);
         if x < z {
             return e.len();
@@ -175,27 +88,19 @@ fn leaving(e: &[u8], w: usize, more: usize) -> usize
         if z < x {
             return j;
         }
-        j += 1;
     }
-    j
+    e.len()
 }
 
 // The byte behind which k - 1 follow, of the last string that leaves so many above itself.
-fn last_byte(k: usize, more: usize) -> usize
-    requires { more < 65536 }
+fn last_byte(k: usize, more: u16) -> u8
+    requires { 0 < k }
     ensures { result ≡ top_byte k more }
 {
-    if 2 < k {
-        return 255;
+    let [low, high] = more.to_le_bytes();
+    match k {
+        1 => 255 - low,
+        2 => 255 - high,
+        _ => 255,
     }
-    if k == 2 {
-        return 255 - more / 256;
-    }
-    255 - more % 256
-}
-
-fn wide(x: u8) -> usize
-    ensures { (result ≡ x) × (result < 256) }
-{
-    x as usize
 }

@@ -1,111 +1,95 @@
 -- The contracts of loading, out of what was counted, put in and copied. Assumes nothing.
-use Prim.Native.Nat.{ℕ, suc, ◌+◌, ◌*◌, ◌-◌, ◌≤◌, ◌<◌}
+use Prim.Native.Nat.{ℕ, suc, ◌+◌, ◌<◌}
 use native.Mathlib.Omega.{arith}
-use mathlib.Core.Path.{◌≡◌, refl, sym, ap, subst, ◌∙◌}
-use mathlib.Core.List.{List, [], ◌++◌, map, append-nil}
-use lib.ListN.{length, take, drop, length-map}
-use lib.Seq.{take_at, drop-drop}
+use mathlib.Core.Path.{◌≡◌, refl, sym, ap, ◌∙◌}
+use mathlib.Core.List.{List, [], ◌∷◌, ◌++◌, map, append-nil}
+use mathlib.Core.List.Memᴰ
+use Rattle.std.specs.Prelude.{Some}
+use lib.ListN.{length, drop, length-append, length-map}
 use Rattle.rules.specs.01-Lists.{joined}
 use Rattle.rules.specs.02-Limits.{limits}
 use Rattle.rules.specs.04-Schema.{Schema, with_presences, with_applications}
 use Rattle.rules.specs.06-Good.{Good}
 use Rattle.rules.specs.07-Picture.{presence_width, application_width, application_row, end_width, end_row, picture}
 use Rattle.rules.specs.11-File.{section, presence_entries, application_entries, end_entries}
-use Rattle.rules.proofs.Sections.{Wide, joined_wide}
+use Rattle.rules.proofs.07-Picture.{append_both}
+use Rattle.rules.proofs.Sections.{Wide}
 use Rattle.rules.proofs.11-File.{wide_presences, wide_applications, wide_ends, presence_count}
-use Rattle.rows.specs.Rows.{part, rows}
 use Rattle.rows.specs.Table.{PutIn, written}
 use Rattle.base.specs.Tables.{presences, applications, ends}
 use Rattle.base.proofs.Tables.{keeps_applications, keeps_ends}
-use Rattle.file_sections.specs.Section.{SectionAt}
-use Rattle.file_sections.proofs.SectionLaws.{entries_there, section_behind}
+use Rattle.file_sections.specs.Section.{EntriesAt}
+use Rattle.file_sections.proofs.SectionLaws.{are_entries, behind_entries}
 use Rattle.file_in_types.specs.Loaded.{types_alone}
-use Rattle.file_in_rows.specs.Loaded.{row_from, Puts, PresencesLoaded, TableLoaded}
-use Rattle.file_in_rows.proofs.EntryLaws.{rows_from}
+use Rattle.file_in_rows.specs.Loaded.{row_from, Puts, EntriesPut, PresencesLoaded, TableLoaded}
 use Rattle.file_in_rows.proofs.PutsLaws.{presences_put}
 use Rattle.file_in_rows.proofs.FilledLaws.{table_filled}
 
--- ---- n presences put in, one in a turn
+-- ---- presences put in, one in a turn
 
-module _ (file : List ℕ) (at n : ℕ) (before : List ℕ) where
-  -- the rows still to be put in after i turns
-  abbrev to_come : ℕ → List (List ℕ)
-  to_come i = rows presence_width row_from (n - i) (drop (at + i * presence_width) file)
+module _ (before : List ℕ) where
+  -- of the entries es, those that are left, before turn i, are the bytes l: what comes of them comes of all
+  pub record Left (i : ℕ) (es : List (List ℕ)) (l area : List ℕ) : Type 0 where
+    pub some : List (List ℕ)
+    pub wide : Wide presence_width some
+    pub are : l ≡ joined some
+    pub same : (after : List ℕ) → Puts i (map row_from some) area after → Puts 0 (map row_from es) before after
 
-  -- after i turns what comes of the rest comes of all
-  pub record Turns (i : ℕ) (area : List ℕ) : Type 0 where
-    pub left : (after : List ℕ) → Puts i (to_come i) area after → Puts 0 (rows presence_width row_from n (drop at file)) before after
+  -- of any entries that are these bytes, those that are left are the bytes l
+  pub record Turns (bytes : List ℕ) (i : ℕ) (l area : List ℕ) : Type 0 where
+    pub left : (es : List (List ℕ)) → Wide presence_width es → bytes ≡ joined es → Left i es l area
 
-  pub no_turn : Turns 0 before
-  no_turn =
-      let many : n - 0 ≡ n = omega arith in
-      let start : at + 0 * presence_width ≡ at = omega arith in
-      record { left = λ after p. rw (many, start) at p }
-
-  pub next_turn : (i : ℕ) {row area area' : List ℕ} → i < n → row ≡ row_from (part file (at + i * presence_width) presence_width)
-      → PutIn area presences.start limits.name i row area' → Turns i area → Turns (i + 1) area'
-  unfolding Puts rows
-  next_turn i {row} {area} {area'} h is put turns =
-      let one : n - i ≡ suc (n - (i + 1)) = omega arith in
+  next_left : (i : ℕ) (es some : List (List ℕ)) (l e l' area area' : List ℕ) → length e ≡ presence_width → l ≡ e ++ l' → Wide presence_width some
+      → l ≡ joined some → ((after : List ℕ) → Puts i (map row_from some) area after → Puts 0 (map row_from es) before after)
+      → PutIn area presences.start limits.name i (row_from e) area' → Left (i + 1) es l' area'
+  unfolding joined Puts
+  next_left i es [] l e l' area area' long is wide are same put = absurd (omega (arith, length-append e l', ap length (sym is ∙ are)))
+  next_left i es (f ∷ some) l e l' area area' long is wide are same put =
+      let (first, others) = append_both e f l' (joined some) (long ∙ sym (wide f (Memᴰ.head refl))) (sym is ∙ are) in
       let many : suc i ≡ i + 1 = omega arith in
-      let far : at + i * presence_width + presence_width ≡ at + (i + 1) * presence_width = omega arith in
-      let behind : drop presence_width (drop (at + i * presence_width) file) ≡ drop (at + (i + 1) * presence_width) file
-      = drop-drop presence_width (at + i * presence_width) file ∙ ap (λ (k : ℕ). drop k file) far in
-      record { left = λ after p. turns.left after (rw one (area', rw (sym is) put, rw (behind, many) p)) }
+      record {
+        some = some;
+        wide = λ x k. wide x (Memᴰ.tail k);
+        are = others;
+        same = λ after p. same after (area', rw first at put, rw many p);
+      }
 
-  pub all_turns : (i : ℕ) {area : List ℕ} → n ≤ i → Turns i area → Puts 0 (rows presence_width row_from n (drop at file)) before area
-  unfolding Puts rows
-  all_turns i {area} h turns = let none : n - i ≡ 0 = omega arith in turns.left area (rw none refl)
+  pub next_turn : (e : List ℕ) {bytes : List ℕ} {i : ℕ} {l l' row area area' : List ℕ} → Turns bytes i l area → l ≡ e ++ l'
+      → length e ≡ presence_width
+      → row ≡ row_from e → PutIn area presences.start limits.name i row area' → Turns bytes (i + 1) l' area'
+  next_turn e {i = i} {l = l} {l' = l'} {area = area} {area' = area'} turns is long made put = record {
+    left = λ es wide are.
+        let left = turns.left es wide are in
+        next_left i es left.some l e l' area area' long is left.wide left.are left.same (rw made at put);
+  }
+
+  none_left : (i : ℕ) (some : List (List ℕ)) (l area : List ℕ) → length l < presence_width → Wide presence_width some → l ≡ joined some
+      → Puts i (map row_from some) area area
+  unfolding joined Puts
+  none_left i [] l area short wide are = refl
+  none_left i (e ∷ some) l area short wide are =
+      absurd (omega (arith, length-append e (joined some), ap length are, wide e (Memᴰ.head refl)))
+
+  pub all_turns : {bytes : List ℕ} {i : ℕ} {l area : List ℕ} → Turns bytes i l area → length l < presence_width → EntriesPut bytes before area
+  all_turns {i = i} {l = l} {area = area} turns short = record {
+    puts = λ es wide are.
+        let left = turns.left es wide are in
+        left.same area (none_left i left.some l area short left.wide left.are);
+  }
 
 -- ---- one section
 
-module _ {file : List ℕ} {at w n : ℕ} (counted : SectionAt file at w n) {most : ℕ} (small : most < 65536) (es : List (List ℕ)) (rest : List ℕ)
-    (few : length es ≤ most) (wide : Wide w es) (there : drop at file ≡ section es ++ rest) where
-  many : n ≡ length es
-  many = counted.is es rest (omega arith) wide there
-
-  -- it is not over the limit
-  not_over : most < n → ⊥
-  not_over h = omega (arith, many)
-
-  -- what stands behind it
-  rest_there : drop (at + 2 + n * w) file ≡ rest
-  rest_there = rw many (section_behind file at es rest there w wide)
-
--- ---- presences
-
-pub too_many_presences : {file : List ℕ} {at n : ℕ} → SectionAt file at presence_width n → limits.presences < n → (b : List ℕ) (r : ℕ)
-    → PresencesLoaded file at b b r
-too_many_presences counted over b r =
-    record { shows = λ es rest few wide there. absurd (not_over counted (omega arith) es rest few wide there over) }
-
-pub presences_loaded : {file : List ℕ} {at n : ℕ} → SectionAt file at presence_width n → {b b' : List ℕ}
-    → Puts 0 (rows presence_width row_from n (drop (at + 2) file)) b b' → PresencesLoaded file at b b' (at + 2 + n * presence_width)
-presences_loaded {file} {at} {n} counted {b} {b'} puts = record {
-  shows = λ es rest few wide there.
-      let small : limits.presences < 65536 = omega arith in
-      let is : rows presence_width row_from n (drop (at + 2) file) ≡ map row_from es
-      = (λ i. rows presence_width row_from (many counted small es rest few wide there i) (entries_there file at es rest there i))
-      ∙ rows_from presence_width row_from es rest wide in
-      (subst (λ (l : List (List ℕ)). Puts 0 l b b') is puts, rest_there counted small es rest few wide there);
+pub presences_loaded : {file bytes : List ℕ} {at : ℕ} → EntriesAt file at presence_width limits.presences (Some bytes)
+    → {b b' : List ℕ} → EntriesPut bytes b b'
+    → PresencesLoaded file at b b' (at + 2 + length bytes)
+presences_loaded told put = record {
+  shows = λ es rest few wide there. (put.puts es wide (are_entries told es rest few wide there), behind_entries told es rest few wide there);
 }
 
--- ---- a table
-
-pub too_many_rows : {file : List ℕ} {at w n : ℕ} → SectionAt file at w n → {most : ℕ} → most < 65536 → most < n → (b : List ℕ) (to r : ℕ)
-    → TableLoaded file at w most to b b r
-too_many_rows counted small over b to r =
-    record { shows = λ es rest few wide there. absurd (not_over counted small es rest few wide there over) }
-
-pub table_loaded : {file : List ℕ} {at w n : ℕ} → SectionAt file at w n → {most : ℕ} → most < 65536 → {b b' : List ℕ} {to : ℕ}
-    → b' ≡ written b to (take (at + 2 + n * w - (at + 2)) (drop (at + 2) file)) → TableLoaded file at w most to b b' (at + 2 + n * w)
-table_loaded {file} {at} {w} {n} counted small {b} {b'} {to} is = record {
-  shows = λ es rest few wide there.
-      let long : length (joined es) ≡ at + 2 + n * w - (at + 2)
-      = joined_wide w es wide ∙ ap (λ (k : ℕ). k * w) (sym (many counted small es rest few wide there)) ∙ omega arith in
-      let bytes : take (at + 2 + n * w - (at + 2)) (drop (at + 2) file) ≡ joined es
-      = ap (take (at + 2 + n * w - (at + 2))) (entries_there file at es rest there) ∙ take_at (joined es) rest (at + 2 + n * w - (at + 2)) long in
-      (is ∙ ap (written b to) bytes, rest_there counted small es rest few wide there);
+pub table_loaded : {file bytes : List ℕ} {at w most : ℕ} → EntriesAt file at w most (Some bytes) → {b b' : List ℕ} {to : ℕ} → b' ≡ written b to bytes
+    → TableLoaded file at w most to b b' (at + 2 + length bytes)
+table_loaded told {b} {to = to} is = record {
+  shows = λ es rest few wide there. (is ∙ ap (written b to) (are_entries told es rest few wide there), behind_entries told es rest few wide there);
 }
 
 -- ---- all three

@@ -20,6 +20,10 @@ unfoldable pub Puts : ℕ → List (List ℕ) → List ℕ → List ℕ → Type
 Puts count [] b b' = b' ≡ b
 Puts count (row ∷ more) b b' = (m : List ℕ) × PutIn b presences.start limits.name count row m × Puts (suc count) more m b'
 
+-- if the bytes are those of entries of presences, their rows were put in
+pub record EntriesPut (bytes before after : List ℕ) : Type 0 where
+  pub puts : (es : List (List ℕ)) → ((e : List ℕ) → e ∈ es → length e ≡ presence_width) → bytes ≡ joined es → Puts 0 (map row_from es) before after
+
 -- if a section of such entries starts at `at`, their rows were put in, and r is where it ends
 pub record PresencesLoaded (file : List ℕ) (at : ℕ) (before after : List ℕ) (r : ℕ) : Type 0 where
   pub shows : (es : List (List ℕ)) (rest : List ℕ) → length es ≤ limits.presences → ((e : List ℕ) → e ∈ es → length e ≡ presence_width)

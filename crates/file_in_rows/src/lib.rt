@@ -2,11 +2,10 @@
 // area is tested afterwards: so nothing is asked of the bytes, and something is promised only where they are those of a good schema.
 #![tactic(auto)]
 
-ghost use Rattle.std.specs.Prelude.{◌≡◌, ◌+◌, ◌*◌, ◌≤◌, ◌<◌, length, drop};
+ghost use Rattle.std.specs.Prelude.{◌≡◌, ◌+◌, ◌*◌, ◌≤◌, ◌<◌, length};
 ghost use Rattle.rules.specs.02-Limits.{limits};
 ghost use Rattle.rules.specs.07-Picture.{presence_width, base_length};
-ghost use Rattle.rows.specs.Rows.{part, rows};
-ghost use Rattle.file_in_rows.specs.Loaded.{row_from, Puts, PresencesLoaded, TableLoaded, RowsLoaded};
+ghost use Rattle.file_in_rows.specs.Loaded.{row_from, EntriesPut, PresencesLoaded, TableLoaded, RowsLoaded};
 
 use base::Base;
 use file_sections::Width;
@@ -37,40 +36,34 @@ fn load_presences(file: &[u8], at: usize, area: &mut [u8]) -> usize
     requires { length area.old ≡ base_length }
     ensures { PresencesLoaded file.now at area.old area.new result }
 {
-    let n = file_sections::count(file, at, Width::PRESENCE);
-    if Limits::PRESENCES < n {
+    let Some(entries) = file_sections::entries(file, at, Width::PRESENCE, Limits::PRESENCES) else {
         return file.len();
-    }
-    put_presences(file, at + Width::COUNT, n, area);
-    at + Width::COUNT + n * Width::PRESENCE
+    };
+    put_presences(entries, area);
+    at + Width::COUNT + entries.len()
 }
 
-// Each of the n entries that start at `at` goes in at its place among those before it.
-fn put_presences(file: &[u8], at: usize, n: usize, area: &mut [u8])
-    requires { (length area.old ≡ base_length) × ((n ≤ limits.presences) × (at + n * presence_width ≤ length file.now)) }
-    ensures { Puts 0 (rows presence_width row_from n (drop at file.now)) area.old area.new }
+// Each of the entries goes in at its place among those before it.
+fn put_presences(entries: &[u8], area: &mut [u8])
+    requires { (length area.old ≡ base_length) × (length entries.now ≤ limits.presences * presence_width) }
+    ensures { EntriesPut entries.now area.old area.new }
 {
-    let mut i = 0;
-    while i < n {
-        let row = presence_row(file, at + i * Width::PRESENCE);
-        edit::put_row(area, i, &row);
-        i += 1;
+    for (i, entry) in entries.chunks_exact(Width::PRESENCE).enumerate() {
+        edit::put_row(area, i, &presence_row(entry));
     }
 }
 
-// The row of the presence whose entry starts at `at`.
-fn presence_row(file: &[u8], at: usize) -> [u8; Base::PRESENCE_WIDTH]
-    requires { at + presence_width ≤ length file.now }
-    ensures { result ≡ row_from (part file.now at presence_width) }
+// The row of the presence that has this entry.
+fn presence_row(entry: &[u8]) -> [u8; Base::PRESENCE_WIDTH]
+    requires { length entry.now ≡ presence_width }
+    ensures { result ≡ row_from entry.now }
 {
-    let mut row: [u8; Base::PRESENCE_WIDTH] = [0; Base::PRESENCE_WIDTH];
-    row[0] = file[at];
-    row[Base::TYPE_OFFSET] = file[at + 1];
-    row[Base::USAGE_OFFSET] = file[at + Base::USAGE_OFFSET];
-    row[Base::DEFINITION_OFFSET] = file[at + Base::DEFINITION_OFFSET];
-    let name = at + 2;
-    let end = name + Limits::NAME;
-    rows::table::write(&mut row, Base::NAME_OFFSET, &file[name..end]);
+    let mut row = [0; Base::PRESENCE_WIDTH];
+    row[0] = entry[0];
+    row[Base::TYPE_OFFSET] = entry[1];
+    row[Base::USAGE_OFFSET] = entry[Base::USAGE_OFFSET];
+    row[Base::DEFINITION_OFFSET] = entry[Base::DEFINITION_OFFSET];
+    rows::table::write(&mut row, Base::NAME_OFFSET, &entry[2..2 + Limits::NAME]);
     row
 }
 
@@ -81,12 +74,9 @@ fn load_table(file: &[u8], at: usize, w: usize, most: usize, area: &mut [u8], to
     requires { ((0 < w) × (w ≤ 20)) × ((most < 65536) × (to + most * w ≤ length area.old)) }
     ensures { TableLoaded file.now at w most to area.old area.new result }
 {
-    let n = file_sections::count(file, at, w);
-    if most < n {
+    let Some(entries) = file_sections::entries(file, at, w, most) else {
         return file.len();
-    }
-    let start = at + Width::COUNT;
-    let end = start + n * w;
-    rows::table::write(area, to, &file[start..end]);
-    end
+    };
+    rows::table::write(area, to, entries);
+    at + Width::COUNT + entries.len()
 }

@@ -7,6 +7,7 @@ use Rattle.rules.specs.04-Schema.{Schema}
 use Rattle.rules.specs.07-Picture.{base_length}
 use Rattle.rules.specs.11-File.{section, sds_entries, type_entries, parent_entries, presence_entries, application_entries, end_entries, file_of}
 use Rattle.rules.proofs.11-File.{wide_sdss, wide_types, wide_parents, sds_count, type_count, parent_count}
+use Rattle.file_in_types.specs.declared.Section.TheVariants.{Sdss, Types, Parents}
 use Rattle.file_in_types.specs.Steps.{width_of, limit_of, step_of, sds_in, type_in, parent_in, all_in}
 use Rattle.file_in_types.specs.Loaded.{SectionIn, TypesLoaded}
 use Rattle.file_in_types.proofs.TypesLaws.{types_shown}
@@ -24,8 +25,9 @@ module _ (s : Schema) where
   file_is = refl
 
 pub types_loaded : {file : List ℕ} {n : ℕ} {empty named typed whole : List ℕ} {a b r : ℕ} → n ≡ base_length → empty ≡ replicate n 0
-    → SectionIn (width_of 0) (step_of 0) (limit_of 0) file 0 empty named a → SectionIn (width_of 1) (step_of 1) (limit_of 1) file a named typed b
-    → SectionIn (width_of 2) (step_of 2) (limit_of 2) file b typed whole r → TypesLoaded file whole r
+    → SectionIn (width_of Sdss) (step_of Sdss) (limit_of Sdss) file 0 empty named a
+    → SectionIn (width_of Types) (step_of Types) (limit_of Types) file a named typed b
+    → SectionIn (width_of Parents) (step_of Parents) (limit_of Parents) file b typed whole r → TypesLoaded file whole r
 types_loaded {file} {n} {empty} {named} {typed} {whole} {a} {b} {r} long zero x y z = record {
   long = z.long;
   shows = λ s w.

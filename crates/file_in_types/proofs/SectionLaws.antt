@@ -1,90 +1,66 @@
 -- A section put into an area: the loop, and what has come of it where the section is that of a list of entries. Assumes nothing.
-use Prim.Native.Nat.{ℕ, zero, suc, ◌+◌, ◌*◌, ◌-◌, ◌≤◌, ◌<◌}
-use native.Mathlib.Nat.{suc-mul, zero-mul}
+use Prim.Native.Nat.{ℕ, ◌+◌, ◌<◌}
 use native.Mathlib.Omega.{arith}
 use mathlib.Core.Path.{◌≡◌, refl, sym, ap, ◌∙◌}
-use mathlib.Core.List.{List, [], ◌∷◌, ◌++◌, append_assoc}
+use mathlib.Core.List.{List, [], ◌∷◌, ◌++◌}
 use mathlib.Core.List.Memᴰ
-use lib.ListN.{length, take, drop}
-use lib.Seq.{take_at, drop_at, drop-drop}
+use lib.ListN.{length, length-append}
+use Rattle.std.specs.Prelude.{Some}
 use Rattle.rules.specs.01-Lists.{joined}
 use Rattle.rules.specs.07-Picture.{base_length}
+use Rattle.rules.proofs.07-Picture.{append_both}
 use Rattle.rules.proofs.Sections.{Wide}
-use Rattle.rows.proofs.Rows.{slice_part}
-use Rattle.file_sections.specs.Section.{SectionAt}
-use Rattle.file_sections.proofs.SectionLaws.{entries_there, section_behind}
-use Rattle.file_in_types.specs.Steps.{Step, all_in, first_in}
+use Rattle.file_sections.specs.Section.{EntriesAt}
+use Rattle.file_sections.proofs.SectionLaws.{are_entries, behind_entries}
+use Rattle.file_in_types.specs.Steps.{Step, all_in}
 use Rattle.file_in_types.specs.Loaded.{SectionIn}
 
--- the bytes of one entry and of the others
-pub one_more : (w left : ℕ) → 0 < left → left * w ≡ w + (left - 1) * w
-one_more w left h =
-    let one : left ≡ suc (left - 1) = omega arith in
-    ap (λ (k : ℕ). k * w) one ∙ suc-mul (left - 1) w ∙ omega arith
+module _ (step : Step) (w : ℕ) (area₀ : List ℕ) where
+  -- of the entries es, those that are left are the bytes l
+  pub record Left (es : List (List ℕ)) (l area : List ℕ) : Type 0 where
+    pub some : List (List ℕ)
+    pub wide : Wide w some
+    pub are : l ≡ joined some
+    pub same : all_in step es area₀ ≡ all_in step some area
 
-module _ (step : Step) (w : ℕ) where
-  -- the entries of a section are those that stand behind its count
-  first_all : (es : List (List ℕ)) (rest area : List ℕ) → Wide w es → first_in step w (length es) (joined es ++ rest) area ≡ all_in step es area
-  unfolding first_in all_in joined
-  first_all [] rest area wide = refl
-  first_all (e ∷ es) rest area wide =
-      let long = wide e (Memᴰ.head refl) in
-      let behind = joined es ++ rest in
-      let n = length es in
-      ap (λ (l : List ℕ). first_in step w (suc n) l area) (append_assoc e (joined es) rest)
-      ∙ ap (λ (l : List ℕ). first_in step w n l (step (take w (e ++ behind)) area)) (drop_at e behind w long)
-      ∙ ap (λ (x : List ℕ). first_in step w n behind (step x area)) (take_at e behind w long)
-      ∙ first_all es rest (step e area) (λ x i. wide x (Memᴰ.tail i))
-
-  one_in : (left : ℕ) (l area : List ℕ) → 0 < left → first_in step w left l area ≡ first_in step w (left - 1) (drop w l) (step (take w l) area)
-  unfolding first_in
-  one_in zero l area h = absurd (omega arith)
-  one_in (suc left) l area h = let e : suc left - 1 ≡ left = omega arith in rw e
-
-  none_left : (left : ℕ) (l area : List ℕ) → left ≡ 0 → first_in step w left l area ≡ area
-  unfolding first_in
-  none_left left l area e = ap (λ (k : ℕ). first_in step w k l area) e
-
-  -- of n entries from `at` on `left` are left, which stand from `here` on
-  pub record Going (file : List ℕ) (at n : ℕ) (area₀ area : List ℕ) (here left : ℕ) : Type 0 where
-    pub ends : here + left * w ≡ at + 2 + n * w
-    pub fits : here + left * w ≤ length file
+  -- of any entries that are these bytes, those that are left are the bytes l
+  pub record Going (bytes l area : List ℕ) : Type 0 where
     pub long : length area ≡ base_length
-    pub rest : first_in step w n (drop (at + 2) file) area₀ ≡ first_in step w left (drop here file) area
+    pub rest : (es : List (List ℕ)) → Wide w es → bytes ≡ joined es → Left es l area
 
-  pub going_next : {file : List ℕ} {at n : ℕ} {area₀ area area' : List ℕ} {here left : ℕ} → Going file at n area₀ area here left → 0 < left
-      → area' ≡ step (take ((here + w) - here) (drop here file)) area → length area' ≡ base_length → Going file at n area₀ area' (here + w) (left - 1)
-  going_next {file = file} {area = area} {here = here} {left = left} g h e long =
-      let more = one_more w left h in
+  next_left : (es some : List (List ℕ)) (l e l' area : List ℕ) → 0 < w → length e ≡ w → l ≡ e ++ l' → Wide w some → l ≡ joined some
+      → all_in step es area₀ ≡ all_in step some area → Left es l' (step e area)
+  unfolding joined all_in
+  next_left es [] l e l' area pos long is wide are same = absurd (omega (arith, length-append e l', ap length (sym is ∙ are)))
+  next_left es (f ∷ some) l e l' area pos long is wide are same =
+      let (first, others) = append_both e f l' (joined some) (long ∙ sym (wide f (Memᴰ.head refl))) (sym is ∙ are) in
       record {
-        ends = omega (arith, more, g.ends);
-        fits = omega (arith, more, g.fits);
-        long = long;
-        rest = g.rest ∙ one_in left (drop here file) area h
-            ∙ ap (λ (l : List ℕ). first_in step w (left - 1) l (step (take w (drop here file)) area)) (drop-drop w here file)
-            ∙ ap (λ (x : List ℕ). first_in step w (left - 1) (drop (here + w) file) x) (sym (e ∙ ap (λ (l : List ℕ). step l area) (slice_part file here w)));
+        some = some;
+        wide = λ x i. wide x (Memᴰ.tail i);
+        are = others;
+        same = same ∙ ap (λ x. all_in step some (step x area)) (sym first);
       }
 
-  module _ (file : List ℕ) (at n : ℕ) (area₀ : List ℕ) (count : SectionAt file at w n) where
-    pub going_start : n < 65536 → length area₀ ≡ base_length → Going file at n area₀ area₀ (at + 2) n
-    going_start h long = record { ends = refl; fits = count.fits h; long = long; rest = refl }
+  pub going_next : {bytes l e l' area area' : List ℕ} → 0 < w → Going bytes l area → l ≡ e ++ l' → length e ≡ w → area' ≡ step e area
+      → length area' ≡ base_length → Going bytes l' area'
+  going_next {bytes} {l} {e} {l'} {area} pos g is wide stepped long = record {
+    long = long;
+    rest = λ es each are.
+        let left = g.rest es each are in
+        rw stepped (next_left es left.some l e l' area pos wide is left.wide left.are left.same);
+  }
 
-    module _ (limit : ℕ) (small : limit < 65536) where
-      pub over_limit : limit < n → length area₀ ≡ base_length → SectionIn w step limit file at area₀ area₀ at
-      over_limit h long = record { long = long; is = λ es rest few wide there. absurd (omega (arith, count.is es rest (omega arith) wide there)) }
+  none_left : (some : List (List ℕ)) (l area : List ℕ) → length l < w → Wide w some → l ≡ joined some → all_in step some area ≡ area
+  unfolding joined all_in
+  none_left [] l area short wide are = refl
+  none_left (e ∷ some) l area short wide are =
+      absurd (omega (arith, length-append e (joined some), ap length are, wide e (Memᴰ.head refl)))
 
-      pub going_done : {area : List ℕ} {here left : ℕ} → Going file at n area₀ area here left → left ≤ 0 → SectionIn w step limit file at area₀ area here
-      going_done {area} {here} {left} g h = record {
-        long = g.long;
-        is = λ es rest few wide there.
-            let none : left ≡ 0 = omega arith in
-            let all : n ≡ length es = count.is es rest (omega arith) wide there in
-            let ends : here ≡ at + 2 + length es * w
-            = omega (arith, g.ends, ap (λ (k : ℕ). k * w) none, zero-mul w, ap (λ (k : ℕ). k * w) all) in (
-              sym (g.rest ∙ none_left left (drop here file) area none)
-                  ∙ ap (λ (k : ℕ). first_in step w k (drop (at + 2) file) area₀) all
-                  ∙ ap (λ (l : List ℕ). first_in step w (length es) l area₀) (entries_there file at es rest there)
-                  ∙ first_all es rest area₀ wide,
-              ap (λ (k : ℕ). drop k file) ends ∙ section_behind file at es rest there w wide,
-            );
-      }
+  pub going_done : {file bytes l area : List ℕ} {at limit : ℕ} → EntriesAt file at w limit (Some bytes) → Going bytes l area → length l < w
+      → SectionIn w step limit file at area₀ area (at + 2 + length bytes)
+  going_done {l = l} {area = area} told g short = record {
+    long = g.long;
+    is = λ es rest few wide there.
+        let left = g.rest es wide (are_entries told es rest few wide there) in
+        (sym (left.same ∙ none_left left.some l area short left.wide left.are), behind_entries told es rest few wide there);
+  }

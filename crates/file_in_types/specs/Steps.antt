@@ -1,10 +1,12 @@
 -- What an entry of SDSs, types or parents makes of an area, whatever bytes both have, and so what a section makes of it.
-use Rattle.std.specs.Prelude.{ℕ, zero, suc, ◌+◌, ◌*◌, List, [], ◌∷◌, cond, ltb, get_or, take, drop, set}
+use Rattle.std.specs.Prelude.{ℕ, ◌+◌, ◌*◌, List, [], ◌∷◌, cond, ltb, get_or, drop, set}
 use Rattle.rules.specs.02-Limits.{limits}
 use Rattle.rules.specs.11-File.{widths}
 use Rattle.rules.specs.Read.{count_offset, parents_offset}
 use Rattle.rows.specs.Table.{written}
 use Rattle.base.specs.Rows.{sds_at, type_at}
+use Rattle.file_in_types.specs.declared.Section.{Section}
+use Rattle.file_in_types.specs.declared.Section.TheVariants.{Sdss, Types, Parents}
 
 -- what an entry makes of an area
 abbrev pub Step : Type 0
@@ -32,19 +34,25 @@ parent_more area at a = cond (ltb (get_or area (at + count_offset) 0) 4) (parent
 unfoldable pub parent_in : Step
 parent_in e area = cond (ltb (get_or e 0 0) limits.types) (parent_more area (type_at (get_or e 0 0)) (get_or e 1 0)) area
 
--- ---- a section by its number: 0 SDSs, 1 types, 2 parents
+-- ---- a section
 
 -- how many bytes an entry has
-abbrev pub width_of : ℕ → ℕ
-width_of k = get_or widths k 0
+abbrev pub width_of : Section → ℕ
+width_of Sdss = get_or widths 0 0
+width_of Types = get_or widths 1 0
+width_of Parents = get_or widths 2 0
 
 -- how many entries there may be
-abbrev pub limit_of : ℕ → ℕ
-limit_of k = get_or (limits.sdss ∷ limits.types ∷ []) k (limits.types * 4)
+abbrev pub limit_of : Section → ℕ
+limit_of Sdss = limits.sdss
+limit_of Types = limits.types
+limit_of Parents = limits.types * 4
 
 -- what one makes of an area
-abbrev pub step_of : ℕ → Step
-step_of k = get_or (sds_in ∷ type_in ∷ []) k parent_in
+abbrev pub step_of : Section → Step
+step_of Sdss = sds_in
+step_of Types = type_in
+step_of Parents = parent_in
 
 -- ---- entries, one after another
 
@@ -53,8 +61,3 @@ module _ (step : Step) where
   unfoldable pub all_in : List (List ℕ) → List ℕ → List ℕ
   all_in [] area = area
   all_in (e ∷ es) area = all_in es (step e area)
-
-  -- the first n, of width w, of a run of bytes
-  unfoldable pub first_in : ℕ → ℕ → List ℕ → List ℕ → List ℕ
-  first_in w zero l area = area
-  first_in w (suc n) l area = first_in w n (drop w l) (step (take w l) area)

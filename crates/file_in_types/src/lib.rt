@@ -4,6 +4,7 @@
 
 ghost use Rattle.std.specs.Prelude.{◌≡◌, ◌≤◌, ◌<◌, length};
 ghost use Rattle.rules.specs.07-Picture.{base_length};
+ghost use Rattle.file_in_types.specs.declared.Section.TheVariants.{Sdss, Types, Parents};
 ghost use Rattle.file_in_types.specs.Steps.{width_of, limit_of, step_of, sds_in, type_in, parent_in};
 ghost use Rattle.file_in_types.specs.Loaded.{SectionIn, TypesLoaded};
 
@@ -13,101 +14,84 @@ use rules::Limits;
 
 const MOST_PARENTS: usize = 4;
 
-// The sections, by number.
-#[derive(Clone, Copy)]
-struct Which {}
-
-impl Which {
-    const SDSS: usize = 0;
-
-    const TYPES: usize = 1;
-
-    const PARENTS: usize = 2;
-}
-
 // SDSs, types and parents of a file, put into an area that then shows nothing else; where the presences start in the file.
 pub fn load_types(file: &[u8], area: &mut [u8]) -> usize
     requires { length area.old ≡ base_length }
     ensures { TypesLoaded file.now area.new result }
 {
     rows::table::clear(area);
-    let types_at = put_section(Which::SDSS, file, 0, area);
-    let parents_at = put_section(Which::TYPES, file, types_at, area);
-    put_section(Which::PARENTS, file, parents_at, area)
+    let types_at = put_section(Section::Sdss, file, 0, area);
+    let parents_at = put_section(Section::Types, file, types_at, area);
+    put_section(Section::Parents, file, parents_at, area)
 }
 
 // ---- a section
 
+#[derive(Clone, Copy)]
+enum Section {
+    Sdss,
+    Types,
+    Parents,
+}
+
+impl Section {
+    // How many bytes an entry has.
+    fn width(self) -> usize
+        ensures { (result ≡ width_of self) × ((0 < result) × (result ≤ 20)) }
+    {
+        match self {
+            Section::Sdss => Width::SDS,
+            Section::Types => Width::TYPE,
+            Section::Parents => Width::PARENT,
+        }
+    }
+
+    // How many entries there may be.
+    fn most(self) -> usize
+        ensures { (result ≡ limit_of self) × (result < 65536) }
+    {
+        match self {
+            Section::Sdss => Limits::SDSS,
+            Section::Types => Limits::TYPES,
+            Section::Parents => Limits::TYPES * MOST_PARENTS,
+        }
+    }
+
+    fn put(self, entry: &[u8], area: &mut [u8])
+        requires { (length entry.now ≡ width_of self) × (length area.old ≡ base_length) }
+        ensures { area.new ≡ step_of self entry.now area.old }
+    {
+        match self {
+            Section::Sdss => put_sds(entry, area),
+            Section::Types => put_type(entry, area),
+            Section::Parents => put_parent(entry, area),
+        }
+    }
+}
+
 // Its entries from `at` on, if they are not too many; where the next section starts.
-fn put_section(which: usize, file: &[u8], at: usize, area: &mut [u8]) -> usize
-    requires { (which < 3) × (length area.old ≡ base_length) }
-    ensures { SectionIn (width_of which) (step_of which) (limit_of which) file.now at area.old area.new result }
+fn put_section(section: Section, file: &[u8], at: usize, area: &mut [u8]) -> usize
+    requires { length area.old ≡ base_length }
+    ensures { SectionIn (width_of section) (step_of section) (limit_of section) file.now at area.old area.new result }
 {
-    let w = width(which);
-    let n = file_sections::count(file, at, w);
-    if most(which) < n {
+    let w = section.width();
+    let Some(entries) = file_sections::entries(file, at, w, section.most()) else {
         return at;
+    };
+    for entry in entries.chunks_exact(w) {
+        section.put(entry, area);
     }
-    let mut here = at + Width::COUNT;
-    let mut left = n;
-    while 0 < left {
-        let end = here + w;
-        put_entry(which, &file[here..end], area);
-        here = end;
-        left -= 1;
-    }
-    here
-}
-
-// How many bytes an entry has.
-fn width(which: usize) -> usize
-    requires { which < 3 }
-    ensures { (result ≡ width_of which) × ((0 < result) × (result ≤ 20)) }
-{
-    match which {
-        Which::SDSS => Width::SDS,
-        Which::TYPES => Width::TYPE,
-        Which::PARENTS => Width::PARENT,
-        _ => 0,
-    }
-}
-
-// How many entries there may be.
-fn most(which: usize) -> usize
-    requires { which < 3 }
-    ensures { (result ≡ limit_of which) × (result < 65536) }
-{
-    match which {
-        Which::SDSS => Limits::SDSS,
-        Which::TYPES => Limits::TYPES,
-        Which::PARENTS => Limits::TYPES * MOST_PARENTS,
-        _ => 0,
-    }
+    at + Width::COUNT + entries.len()
 }
 
 // ---- an entry
 
-fn put_entry(which: usize, entry: &[u8], area: &mut [u8])
-    requires { (which < 3) × ((length entry.now ≡ width_of which) × (length area.old ≡ base_length)) }
-    ensures { area.new ≡ step_of which entry.now area.old }
-{
-    if which == Which::SDSS {
-        put_sds(entry, area);
-        return;
-    }
-    if which == Which::TYPES {
-        put_type(entry, area);
-        return;
-    }
-    put_parent(entry, area);
-}
-
 // Its name is the row of the SDS of that number.
 fn put_sds(entry: &[u8], area: &mut [u8])
-    requires { (length entry.now ≡ width_of 0) × (length area.old ≡ base_length) }
+    requires { (length entry.now ≡ width_of Sdss) × (length area.old ≡ base_length) }
     ensures { area.new ≡ sds_in entry.now area.old }
 {
-    let d = rows::byte(entry, 0);
+    let d = usize::from(entry[0]);
     if Limits::SDSS <= d {
         return;
     }
@@ -117,10 +101,10 @@ fn put_sds(entry: &[u8], area: &mut [u8])
 
 // A row as it stands before its type has parents.
 fn put_type(entry: &[u8], area: &mut [u8])
-    requires { (length entry.now ≡ width_of 1) × (length area.old ≡ base_length) }
+    requires { (length entry.now ≡ width_of Types) × (length area.old ≡ base_length) }
     ensures { area.new ≡ type_in entry.now area.old }
 {
-    let t = rows::byte(entry, 0);
+    let t = usize::from(entry[0]);
     if Limits::TYPES <= t {
         return;
     }
@@ -131,10 +115,10 @@ fn put_type(entry: &[u8], area: &mut [u8])
 
 // One parent more, behind those that the type has.
 fn put_parent(entry: &[u8], area: &mut [u8])
-    requires { (length entry.now ≡ width_of 2) × (length area.old ≡ base_length) }
+    requires { (length entry.now ≡ width_of Parents) × (length area.old ≡ base_length) }
     ensures { area.new ≡ parent_in entry.now area.old }
 {
-    let t = rows::byte(entry, 0);
+    let t = usize::from(entry[0]);
     if Limits::TYPES <= t {
         return;
     }
@@ -144,5 +128,5 @@ fn put_parent(entry: &[u8], area: &mut [u8])
     }
     let at = Base::TYPES_AT + t * Base::TYPE_WIDTH;
     area[at + Base::PARENTS_OFFSET + n] = entry[1];
-    area[at + Base::COUNT_OFFSET] = (n + 1) as u8;
+    area[at + Base::COUNT_OFFSET] += 1;
 }

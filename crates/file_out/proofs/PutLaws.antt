@@ -4,7 +4,7 @@ use native.Mathlib.Nat.{add-zero}
 use native.Mathlib.Omega.{arith}
 use mathlib.Core.Path.{◌≡◌, refl, sym, ap, subst, ◌∙◌}
 use mathlib.Core.List.{List, [], ◌∷◌, ◌++◌}
-use lib.ListN.{length, set, length-append, length-set}
+use lib.ListN.{length, set, length-append}
 use Rattle.rules.specs.01-Lists.{joined}
 use Rattle.rules.specs.11-File.{section}
 use Rattle.rows.specs.Table.{written}
@@ -31,12 +31,6 @@ put_behind {l} {m} {o} {o'} {o''} {from} {at} p h q = record {
   long = omega (arith, p.long, q.long, length-append l m);
   is = q.is ∙ ap (λ (x : List ℕ). written x at m) p.is ∙ written_next o l m from at (omega arith) p.long;
 }
-
-pub put_two : (o : List ℕ) (at x y : ℕ) → at + 1 < length o → PutOn (x ∷ y ∷ []) o at (set (set o at x) (at + 1) y) (at + 2)
-put_two o at x y h =
-    let long : length (set o at x) ≡ length o = length-set o at x in
-    let both = put_behind (put_one o at x (omega arith)) (omega arith) (put_one (set o at x) (at + 1) y (omega arith)) in
-    record { long = omega arith; is = both.is }
 
 -- the same bytes, said in another way
 pub put_as : {l l' o o' : List ℕ} {r : ℕ} → l ≡ l' → PutDown l o o' r → PutDown l' o o' r
@@ -77,9 +71,6 @@ module _ (es : List (List ℕ)) where
   module _ {n : ℕ} (e : n ≡ length es) {o o' : List ℕ} {at : ℕ} (h : length (section es) ≤ length o) (p : PutOn (count_bytes n) o 0 o' at) where
     fits_counted : length (count_bytes n ++ joined es) ≤ length o
     fits_counted = omega (arith, ap length (section_is e))
-
-    pub section_same : length o' ≡ length o
-    section_same = counted_same n (joined es) fits_counted p
 
     pub section_room : at + length (joined es) ≤ length o'
     section_room = counted_room n (joined es) fits_counted p

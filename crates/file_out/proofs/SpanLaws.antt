@@ -29,9 +29,6 @@ pub record Counting {A : Type 0} (f : ℕ → List A) (n k r : ℕ) : Type 0 whe
   pub left : r + length (span f k (n - k)) ≡ length (span f 0 n)
 
 module _ {A : Type 0} {f : ℕ → List A} {n : ℕ} where
-  pub counting_none : Counting f n 0 0
-  counting_none = let all : n - 0 ≡ n = omega arith in record { left = rw all (omega arith) }
-
   pub counting_more : {k r r' : ℕ} → Counting f n k r → k < n → r' ≡ r + length (f k) → Counting f n (k + 1) r'
   counting_more {k} {r} {r'} c h e =
       record { left = omega (arith, c.left, ap length (span_next f n k h), length-append (f k) (span f (k + 1) (n - (k + 1)))) }

@@ -6,7 +6,7 @@ pub mod numbered;
 pub mod parents;
 pub mod tables;
 
-ghost use Rattle.std.specs.Prelude.{◌≡◌, [], ◌∷◌, ◌+◌, ◌≤◌, ◌<◌, length};
+ghost use Rattle.std.specs.Prelude.{◌≡◌, ◌≤◌, ◌<◌, length};
 ghost use Rattle.rules.specs.07-Picture.{Sound};
 ghost use Rattle.rules.specs.11-File.{file_of};
 ghost use Rattle.base.specs.Back.{schema_of};
@@ -22,6 +22,7 @@ use rules::Limits;
 const TYPE_KEPT: usize = Width::TYPE - 1;
 
 // Which part is which. Those of the presences are their count, and the entries of each SDS.
+// Numbers and no enum: whoever makes a file counts them through, and those of the SDSs differ by their number alone.
 #[derive(Clone, Copy)]
 pub struct Parts {}
 
@@ -47,24 +48,14 @@ impl Parts {
     pub const MOST: usize = Width::COUNT + Limits::TYPES * Width::PRESENCE;
 }
 
-// Two bytes from `at` on; what is told is where they end.
-fn put_two(first: usize, second: usize, out: &mut [u8], at: usize) -> usize
-    requires first_bound { (first < 256) × (second < 256) }
-    requires at_in_bounds { at + 1 < length out.old }
-    ensures { PutOn (first ∷ second ∷ []) out.old at out.new result }
-{
-    out[at] = first as u8;
-    out[at + 1] = second as u8;
-    at + 2
-}
-
 // A count, low byte first.
 fn put_count(n: usize, out: &mut [u8]) -> usize
     requires n_bound { n < 65536 }
     requires in_bounds { 2 ≤ length out.old }
     ensures { PutOn (count_bytes n) out.old 0 out.new result }
 {
-    put_two(n % 256, n / 256, out, 0)
+    rows::table::write(out, 0, &(n as u16).to_le_bytes());
+    Width::COUNT
 }
 
 // How long the file of a sound base is.
@@ -94,49 +85,39 @@ pub fn part(base: &[u8], j: usize, out: &mut [u8]) -> usize
     requires j_in_bounds { length (part_of (schema_of base.now) j) ≤ length out.old }
     ensures { PutDown (part_of (schema_of base.now) j) out.old out.new result }
 {
-    if j == Parts::SDSS {
-        return numbered::put(
+    match j {
+        Parts::SDSS => numbered::put(
             base,
             Base::SDSS_AT,
             Base::SDS_WIDTH,
             Limits::SDSS,
             Base::SDS_WIDTH,
             out,
-        );
-    }
-    if j == Parts::TYPES {
-        return numbered::put(
+        ),
+        Parts::TYPES => numbered::put(
             base,
             Base::TYPES_AT,
             Base::TYPE_WIDTH,
             Limits::TYPES,
             TYPE_KEPT,
             out,
-        );
-    }
-    if j == Parts::PARENTS {
-        return parents::put(base, out);
-    }
-    if j == Parts::PRESENCES {
-        return put_count(lookup::presences::count(base), out);
-    }
-    if j < Parts::APPLICATIONS {
-        return file_out_presences::presences_in(base, j - Parts::FIRST_SDS, out);
-    }
-    if j == Parts::APPLICATIONS {
-        return tables::put(
+        ),
+        Parts::PARENTS => parents::put(base, out),
+        Parts::PRESENCES => put_count(lookup::presences::count(base), out),
+        Parts::APPLICATIONS => tables::put(
             base,
             Base::APPLICATIONS_AT,
             Base::APPLICATION_WIDTH,
             tables::applications(base),
             out,
-        );
+        ),
+        Parts::ENDS => tables::put(
+            base,
+            Base::ENDS_AT,
+            Base::END_WIDTH,
+            tables::ends(base),
+            out,
+        ),
+        _ => file_out_presences::presences_in(base, j - Parts::FIRST_SDS, out),
     }
-    tables::put(
-        base,
-        Base::ENDS_AT,
-        Base::END_WIDTH,
-        tables::ends(base),
-        out,
-    )
 }

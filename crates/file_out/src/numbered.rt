@@ -10,13 +10,11 @@ pub fn count(base: &[u8], start: usize, width: usize, n: usize) -> usize
     requires { (0 < width) × (start + n * width ≤ length base.now) }
     ensures { Counted (length (begun_rows base.now start width n)) n result }
 {
-    let mut used: usize = 0;
-    let mut k: usize = 0;
-    while k < n {
+    let mut used = 0;
+    for k in 0..n {
         if base[start + k * width] != 0 {
             used += 1;
         }
-        k += 1;
     }
     used
 }
@@ -46,10 +44,8 @@ pub fn put(base: &[u8], start: usize, width: usize, n: usize, kept: usize, out: 
 {
     let many = count(base, start, width, n);
     let mut at = super::put_count(many, out);
-    let mut k: usize = 0;
-    while k < n {
+    for k in 0..n {
         at = put_row(base, start + k * width, kept, k, out, at);
-        k += 1;
     }
     at
 }

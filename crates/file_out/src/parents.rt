@@ -10,6 +10,7 @@ ghost use Rattle.base.specs.Back.{schema_of};
 ghost use Rattle.file_out.specs.Put.{PutOn};
 ghost use Rattle.file_out_presences.specs.Out.{PutDown};
 
+use file_sections::Width;
 use rules::Limits;
 
 // How many there are; no type has more than four.
@@ -17,11 +18,9 @@ pub fn count(base: &[u8]) -> usize
     requires { Sound base.now }
     ensures { Counted (length (parent_entries (schema_of base.now))) 512 result }
 {
-    let mut n: usize = 0;
-    let mut t: usize = 0;
-    while t < Limits::TYPES {
+    let mut n = 0;
+    for t in 0..Limits::TYPES {
         n += base::parent_count(base, t);
-        t += 1;
     }
     n
 }
@@ -33,12 +32,10 @@ fn put_of(base: &[u8], t: usize, out: &mut [u8], from: usize) -> usize
     requires t_in_bounds { from + length (joined (map (parent_entry t) (parents (schema_of base.now) t))) ≤ length out.old }
     ensures { PutOn (joined (map (parent_entry t) (parents (schema_of base.now) t))) out.old from out.new result }
 {
-    let n = base::parent_count(base, t);
     let mut at = from;
-    let mut i: usize = 0;
-    while i < n {
-        at = super::put_two(t, base::parent(base, t, i), out, at);
-        i += 1;
+    for i in 0..base::parent_count(base, t) {
+        rows::table::write(out, at, &[t as u8, base::parent(base, t, i) as u8]);
+        at += Width::PARENT;
     }
     at
 }
@@ -51,10 +48,8 @@ pub fn put(base: &[u8], out: &mut [u8]) -> usize
 {
     let many = count(base);
     let mut at = super::put_count(many, out);
-    let mut t: usize = 0;
-    while t < Limits::TYPES {
+    for t in 0..Limits::TYPES {
         at = put_of(base, t, out, at);
-        t += 1;
     }
     at
 }

@@ -11,7 +11,7 @@ use mathlib.Core.Bool.{Bool, true, false, ◌||◌, false≢true}
 use lib.Dec.{eqb, ltb}
 use lib.ListN.{length, get_or, set, drop, length-set, length-drop, drop_of_length-le}
 use lib.Seq.{drop-cons, drop-set-lt, get_or-set_same}
-use borrow.Author.Tests.{eqb-true, eqb-false, eq-eqb, ne_eqb, ltb-true, ltb-false}
+use borrow.Author.Tests.{eqb-true, eq-eqb, ne_eqb, ltb-true, ltb-false}
 use Rattle.rules.specs.01-Lists.{◌∈◌}
 use Rattle.rules.specs.04-Schema.{Schema, is_object, kind_of}
 use Rattle.rules.specs.05-Descent.{Parent, Descends, members}
@@ -24,25 +24,22 @@ use Rattle.rules.proofs.05-Descent.{past, child_object, descends_over, members_a
 use Rattle.rules.proofs.Parts.{parent_in, parent_of}
 use Rattle.base.specs.Rows.{type_at}
 use Rattle.base.specs.Back.{schema_of}
-use Rattle.type_set.proofs.Members.{members_le, members_same}
-use Rattle.graph.specs.Graph.{reached, Unsettled}
+use Rattle.type_set.proofs.Members.{members_same}
+use Rattle.graph.specs.Graph.{reached, Unsettled, AllSettled, Grounded, AllGrounded, Settled}
+use Rattle.graph.specs.Graph.Grounded.{ground}
 use Rattle.lookup.specs.Parents.{Parental, Falling}
 use Rattle.lookup.proofs.Parents.{object_below, parent_below, parent_at, parent_place}
-
--- every way up from t ends, whichever parents it takes
-pub data Grounded (s : Schema) : ℕ → Type 0 where
-  ground : {t : ℕ} → ((a : ℕ) → Parent s t a → Grounded s a) → Grounded s t
 
 -- a way up from t: each type on it is a parent of the one before
 abbrev pub Way : Schema → ℕ → List ℕ → Type 0
 Way s t [] = Unit {0}
 Way s t (a ∷ l) = Parent s (reached t l) a × Way s t l
 
--- a walk that has settled p, with every type behind t, and is on a way up from t, which stands in w from `at` on: what is settled is
--- grounded, what is on the way is not settled
-pub record Walk (s : Schema) (p : ℕ → Bool) (t : ℕ) (w : List ℕ) (at : ℕ) : Type 0 where
-  pub grounded : (k : ℕ) → p k ≡ true → Grounded s k
-  pub passed : (k : ℕ) → k < 128 → t < k → p k ≡ true
+-- a walk that began with p₀ settled, has settled p, and is on a way up from t, which stands in w from `at` on: what is settled is grounded,
+-- what is on the way is not settled
+pub record Walk (s : Schema) (p₀ p : ℕ → Bool) (t : ℕ) (w : List ℕ) (at : ℕ) : Type 0 where
+  pub grounded : AllGrounded s p
+  pub kept : (k : ℕ) → p₀ k ≡ true → p k ≡ true
   pub way : Way s t (drop at w)
   pub out : (x : ℕ) → x ∈ drop at w → p x ≡ false
 
@@ -98,22 +95,22 @@ module _ {s : Schema} where
         ((λ i. h a (up a (Memᴰ.tail i))), rest),
       )
 
-  pub walk_none : (p : ℕ → Bool) (w : List ℕ) → length w ≡ 128 → ((k : ℕ) → p k ≡ false) → Walk s p 127 w 128
-  walk_none p w long none =
+  pub walk_none : (p : ℕ → Bool) (t : ℕ) (w : List ℕ) → length w ≡ 128 → AllGrounded s p → Walk s p p t w 128
+  walk_none p t w long all =
       let empty : drop 128 w ≡ [] = drop_of_length-le w {i = 128} (omega arith) in
       record {
-        grounded = λ k e. absurd (false≢true (sym (none k) ∙ e));
-        passed = λ k h l. absurd (omega arith);
+        grounded = all;
+        kept = λ k e. e;
         way = rw empty tt;
         out = rw empty (λ x i. absurd (Memᴰ.not-nil i));
       }
 
-  module _ {p : ℕ → Bool} {t : ℕ} {w : List ℕ} {at : ℕ} (walk : Walk s p t w at) {c : ℕ} (here : c ≡ reached t (drop at w)) where
+  module _ {p₀ p : ℕ → Bool} {t : ℕ} {w : List ℕ} {at : ℕ} (walk : Walk s p₀ p t w at) {c : ℕ} (here : c ≡ reached t (drop at w)) where
     -- from c, where it has come to, a way goes on to a parent that is not settled
-    pub walk_up : {a : ℕ} → at ≤ length w → 0 < at → Parent s c a → p a ≡ false → Walk s p t (set w (at - 1) a) (at - 1)
+    pub walk_up : {a : ℕ} → at ≤ length w → 0 < at → Parent s c a → p a ≡ false → Walk s p₀ p t (set w (at - 1) a) (at - 1)
     walk_up {a} le more by e = record {
       grounded = walk.grounded;
-      passed = walk.passed;
+      kept = walk.kept;
       way = rw longer ((rw here at by), walk.way);
       out = rw longer (λ x i. ⊎_elim (λ q. rw q e) (walk.out x) (Memᴰ.cases_cons i));
     }
@@ -125,7 +122,7 @@ module _ {s : Schema} where
             ∙ rw (get_or-set_same w (at - 1) a 0 (omega arith), up, drop-set-lt at w (at - 1) a (omega arith))
 
     -- where all its parents are settled c is: r is p with c
-    module _ {r : ℕ → Bool} (parents : (a : ℕ) → Parent s c a → p a ≡ true) (made : (k : ℕ) → r k ≡ eqb k c || p k) where
+    module _ {r : ℕ → Bool} (parents : AllSettled s p c) (made : (k : ℕ) → r k ≡ eqb k c || p k) where
       ends : Grounded s c
       ends = ground (λ a by. walk.grounded a (parents a by))
 
@@ -135,32 +132,18 @@ module _ {s : Schema} where
       settled : r c ≡ true
       settled = made c ∙ or_left (eqb c c) (p c) (eq-eqb c c refl)
 
-      pub still : (k : ℕ) → r k ≡ true → Grounded s k
+      still : AllGrounded s r
       still k e = ⊎_elim (λ i. rw (eqb-true k c i) ends) (walk.grounded k) (or_cases (eqb k c) (p k) (sym (made k) ∙ e))
 
-      pub settles : length (members p) ≤ length (members r)
-      settles = members_le p r stays
-
-      -- with nothing on the way c is t: from t on all are settled
-      module _ (over : length w ≤ at) where
-        none : drop at w ≡ []
-        none = drop_of_length-le w over
-
-        pub settled_from : (k : ℕ) → k < 128 → t ≤ k → r k ≡ true
-        settled_from k h l = go (eqb k t) refl
-          where
-            go : (b : Bool) → eqb k t ≡ b → r k ≡ true
-            go true e = rw (eqb-true k t e, ← (here ∙ ap (reached t) none)) settled
-            go false e = let other = eqb-false k t e in stays k (walk.passed k h (omega arith))
-
-        -- and the one before is next
-        pub walk_next : 0 < t → Walk s r (t - 1) w at
-        walk_next more = record {
-          grounded = still;
-          passed = λ k h l. settled_from k h (omega arith);
-          way = rw none tt;
-          out = rw none (λ x i. absurd (Memᴰ.not-nil i));
-        }
+      -- with nothing on the way c is t, and all is done
+      pub walk_done : length w ≤ at → Settled s p₀ t r
+      walk_done over =
+          let none : drop at w ≡ [] = drop_of_length-le w over in
+          record {
+            kept = λ k e. stays k (walk.kept k e);
+            here = rw (← (here ∙ ap (reached t) none)) settled;
+            grounded = still;
+          }
 
       -- else c is the last on the way, and goes off it
       module _ (h : at < length w) where
@@ -184,10 +167,10 @@ module _ {s : Schema} where
                 let same = members_same p r stays (ltb-false (length (members p)) (length (members r)) e) c u settled in
                 absurd (false≢true (sym (before c (Memᴰ.head refl)) ∙ same))
 
-        pub walk_down : Walk s r t w (at + 1)
+        pub walk_down : Walk s p₀ r t w (at + 1)
         walk_down = record {
           grounded = still;
-          passed = λ k u l. stays k (walk.passed k u l);
+          kept = λ k e. stays k (walk.kept k e);
           way = trail.1;
           out = λ x i.
               let other : x ≡ c → ⊥ = λ e. loopless ends (rw e at (left t c (drop (at + 1) w) trail x (Memᴰ.tail i))) in
@@ -214,15 +197,11 @@ module _ {b : List ℕ} (rows : Parental b) where
         → Unsettled (schema_of b) p t a
     unsettled_at i a l e o =
         let by : Parent (schema_of b) t a = rw e (parent_at rows t h i l) in
-        record { parent = λ u. by; out = λ u. o; none = λ u. absurd (omega (arith, parent_below rows by)) }
+        record { parent = by; out = o }
 
     pub unsettled_none : ((i : ℕ) → i < get_or b (type_at t + count_offset) 0 → p (get_or b (type_at t + parents_offset + i) 0) ≡ true)
-        → Unsettled (schema_of b) p t 128
-    unsettled_none f = record {
-      parent = λ u. absurd (omega arith);
-      out = λ u. absurd (omega arith);
-      none = λ u a by. let (i, l, e) = parent_place rows t h a by in rw e at (f i l);
-    }
+        → AllSettled (schema_of b) p t
+    unsettled_none f a by = let (i, l, e) = parent_place rows t h a by in rw e at (f i l)
 
   module _ (t : ℕ) (h : t < 128) where
     on_way : (l : List ℕ) → Way (schema_of b) t l → (x : ℕ) → x ∈ (t ∷ l) → x < 128
@@ -237,7 +216,7 @@ module _ {b : List ℕ} (rows : Parental b) where
     come_to [] w = h
     come_to (a ∷ l) (by, w) = parent_below rows by
 
-    module _ {p : ℕ → Bool} {w : List ℕ} {at : ℕ} (walk : Walk (schema_of b) p t w at) where
+    module _ {p₀ p : ℕ → Bool} {w : List ℕ} {at : ℕ} (walk : Walk (schema_of b) p₀ p t w at) where
       pub reached_below : {c : ℕ} → c ≡ reached t (drop at w) → c < 128
       reached_below here = rw here (come_to (drop at w) walk.way)
 

@@ -1,118 +1,134 @@
 -- The lowest type that rows tell: of one row, of the rows passed so far, of a table; and that it is the one that an obstacle tells.
 -- Assumes nothing.
-use Prim.Native.Nat.{ℕ, ◌+◌, ◌≤◌, ◌<◌}
+use Prim.Native.Nat.{ℕ, zero, suc, ◌+◌, ◌<◌}
+use native.Mathlib.Numerals.{add-one}
 use native.Mathlib.Omega.{arith}
 use mathlib.Core.Path.{◌≡◌, refl, sym, ap, ◌∙◌, subst}
 use mathlib.Core.Logic.{⊎_elim}
 use mathlib.Core.List.{List, ◌∷◌}
 use mathlib.Core.Bool.{Bool, true, false, ◌&&◌, ◌||◌, or-false, false≢true}
-use lib.Dec.{ltb, eqb}
-use borrow.Author.Tests.{ltb-true, ltb-false, eqb-true, eqb-false, eq-eqb, ne_eqb}
+use lib.Dec.{eqb}
+use lib.ListN.{length}
+use borrow.Author.Tests.{eqb-true, eqb-false, eq-eqb, ne_eqb}
+use Rattle.std.specs.Prelude.{Option, Some, None, IfSome, option_to_list}
+use Rattle.std.specs.Option.{unwrap_or, option_eq}
+use Rattle.std.specs.Bool.{then_some}
 use Rattle.rules.specs.01-Lists.{any, among}
 use Rattle.rules.specs.04-Schema.{Schema, Presence, End, Side, is_object, parents, is_parent, with_reverse, holds_type, present, applied, has_end}
 use Rattle.rules.specs.04-Schema.{is_end, side_code}
 use Rattle.rules.specs.05-Descent.{members}
 use Rattle.rules.specs.06-Good.{Good}
 use Rattle.rules.specs.09-Refusals.{Refusals, ◌held_by◌, types_in, child_there, applied_there, end_of, end_there, in_the_way}
-use Rattle.rules.proofs.Bools.{and_both, and_of, or_cases, or_left, or_right, same_test, fails}
+use Rattle.rules.specs.10-Changes.{obstacles}
+use Rattle.rules.proofs.Bools.{and_both, and_of, or_cases, or_left, or_right, or_neither, same_test, fails}
 use Rattle.rules.proofs.01-Lists.{any_at, any_where, among_in, in_among}
 use Rattle.rules.proofs.09-Refusals.{held, unheld, on_side, of_side}
-use Rattle.type_set.specs.Set.{Lowest}
+use Rattle.rules.specs.07-Picture.{Sound, base_length}
+use Rattle.base.specs.Tables.{presences, applications, ends}
 use Rattle.base.specs.Back.{schema_of, presence_count, application_count, end_count, presence_shown, application_shown, end_shown}
 use Rattle.base.specs.Tested.{Tested}
-use Rattle.base.proofs.TestedLaws.{Come, come_next, come_stops}
+use Rattle.base.proofs.Back.{rows_few, sound_good}
+use Rattle.base.proofs.Kept.{sound_long}
+use Rattle.base.proofs.TestedLaws.{Come, Past, come_first, come_next, come_stops}
 use Rattle.lookup.proofs.Walked.{some_presence, no_presence, some_application, no_application, some_end, no_end}
 use Rattle.conditions.specs.Reverse.{one_or_none, ReverseOf}
-use Rattle.conditions.proofs.AimedLaws.{neither}
 use Rattle.conditions.proofs.ReverseLaws.{one_is, none_is}
-use Rattle.in_use.specs.Held.{Lower, child_told, other_told, application_told, end_told}
+use Rattle.in_use.specs.Held.{LowestOf, any_below, child_told, other_told, application_told, end_told}
+
+-- ---- a row that is used can be read
+
+module _ {b : List ℕ} {i : ℕ} where
+  pub presence_reads : Sound b × (i < presence_count b) → (length b ≡ base_length) × (i < 512)
+  presence_reads (s, h) = (sound_long s, omega (arith, h, rows_few presences b))
+
+  pub application_reads : Sound b × (i < application_count b) → (length b ≡ base_length) × (i < 256)
+  application_reads (s, h) = (sound_long s, omega (arith, h, rows_few applications b))
+
+  pub end_reads : Sound b × (i < end_count b) → (length b ≡ base_length) × (i < 512)
+  end_reads (s, h) = (sound_long s, omega (arith, h, rows_few ends b))
 
 -- ---- the lowest that passes
 
-pub lowest_same : {p q : ℕ → Bool} → ((k : ℕ) → p k ≡ q k) → {r : ℕ} → Lowest p r → Lowest q r
-lowest_same e l = record { most = l.most; passes = λ h. sym (e _) ∙ l.passes h; first = λ k h. sym (e k) ∙ l.first k h }
-
-pub lowest_either : {p q : ℕ → Bool} {a b r : ℕ} → Lowest p a → Lowest q b → Lower a b r → Lowest (λ k. p k || q k) r
-lowest_either {p} {q} {a} {b} {r} x y l = record {
-  most = omega (arith, x.most, l.below_one);
-  passes = λ h. ⊎_elim
-      (λ e. or_left (p r) (q r) (ap p e ∙ x.passes (omega arith)))
-      (λ e. or_right (p r) (q r) (ap q e ∙ y.passes (omega arith)))
-      l.is;
-  first = λ k h. neither (x.first k (omega (arith, l.below_one))) (y.first k (omega (arith, l.below_other)));
+pub lowest_same : {p q : ℕ → Bool} → ((k : ℕ) → p k ≡ q k) → {r : Option ℕ} → LowestOf p r → LowestOf q r
+lowest_same e l = record {
+  is = record { most = l.is.most; passes = λ h. sym (e _) ∙ l.is.passes h; first = λ k h. sym (e k) ∙ l.is.first k h };
+  below = l.below;
 }
 
+pub lowest_none : {p : ℕ → Bool} → ((k : ℕ) → p k ≡ false) → LowestOf p None
+lowest_none none = record { is = record { most = omega arith; passes = λ h. absurd (omega arith); first = λ k h. none k }; below = tt }
+
 -- type x alone, or none
-module _ (test : Bool) (x : ℕ) where
-  pub only_one : test ≡ true → x < 128 → Lowest (λ k. test && eqb x k) x
-  only_one e h = record {
-    most = omega arith;
-    passes = λ _. and_of test (eqb x x) e (eq-eqb x x refl);
-    first = λ k u. rw e (ne_eqb x k (λ q. omega arith));
+module _ (x : ℕ) where
+  pub only_one : x < 128 → LowestOf (eqb x) (Some x)
+  only_one h = record {
+    is = record { most = omega arith; passes = λ _. eq-eqb x x refl; first = λ k u. ne_eqb x k (λ q. omega arith) };
+    below = h;
   }
 
-  pub only_none : test ≡ false → Lowest (λ k. test && eqb x k) 128
-  only_none e = record { most = omega arith; passes = λ h. absurd (omega arith); first = λ k h. rw e refl }
+  pub only_if : (test : Bool) → x < 128 → (r : Option ℕ) → r ≡ then_some test x → LowestOf (λ k. test && eqb x k) r
+  only_if true h r e = subst (λ (o : Option ℕ). LowestOf (eqb x) o) (sym e) (only_one h)
+  only_if false h r e = subst (λ (o : Option ℕ). LowestOf (λ k. false) o) (sym e) (lowest_none (λ k. refl))
 
 -- a row of SDS y, asked about SDS d
 module _ {x y : ℕ} (d : ℕ) (p : ℕ → Bool) (e : x ≡ y) where
-  pub row_elsewhere : (x ≡ d → ⊥) → Lowest (λ k. eqb y d && p k) 128
-  row_elsewhere n = record { most = omega arith; passes = λ h. absurd (omega arith); first = λ k h. rw (ne_eqb y d (λ q. n (e ∙ q))) refl }
-
-  pub row_here : x ≡ d → {r : ℕ} → Lowest p r → Lowest (λ k. eqb y d && p k) r
+  pub row_here : x ≡ d → {r : Option ℕ} → LowestOf p r → LowestOf (λ k. eqb y d && p k) r
   row_here h l = lowest_same (λ k. sym (rw (eq-eqb y d (sym e ∙ h)) refl)) l
 
 -- ---- a type or its reverse
 
-module _ (x t r : ℕ) where
-  pub either_first : x ≡ t → true ≡ among (t ∷ one_or_none r) x
+module _ (x t : ℕ) (reverse : Option ℕ) where
+  pub either_first : x ≡ t → eqb x t ≡ among (t ∷ option_to_list reverse) x
   unfolding any
-  either_first e = sym (or_left (eqb x t) (among (one_or_none r) x) (eq-eqb x t e))
+  either_first e = eq-eqb x t e ∙ sym (or_left (eqb x t) (among (option_to_list reverse) x) (eq-eqb x t e))
 
-  pub either_other : (x ≡ t → ⊥) → x < 128 → eqb x r ≡ among (t ∷ one_or_none r) x
+  pub either_last : (x ≡ t → ⊥) → option_eq eqb (Some x) reverse ≡ among (t ∷ option_to_list reverse) x
   unfolding any
-  either_other n h = last (ltb r 128) refl ∙ sym (ap (λ (b : Bool). b || among (one_or_none r) x) (ne_eqb x t n))
+  either_last n = go reverse ∙ sym (ap (λ (b : Bool). b || among (option_to_list reverse) x) (ne_eqb x t n))
     where
-      last : (b : Bool) → ltb r 128 ≡ b → eqb x r ≡ among (one_or_none r) x
-      last true e = sym (ap (λ (ts : List ℕ). among ts x) (one_is (ltb-true r 128 e)) ∙ or-false (eqb x r))
-      last false e =
-          let beyond = ltb-false r 128 e in
-          ne_eqb x r (λ q. omega arith) ∙ sym (ap (λ (ts : List ℕ). among ts x) (none_is {r = r} beyond))
+      go : (o : Option ℕ) → option_eq eqb (Some x) o ≡ among (option_to_list o) x
+      go (Some r) = sym (or-false (eqb x r))
+      go None = refl
 
--- ---- the rows passed so far
+-- ---- rows
 
-pub record Passed (tells : ℕ → ℕ → Bool) (n low : ℕ) : Type 0 where
-  pub most : low ≤ 128
-  pub told : low < 128 → (i : ℕ) × (i < n) × (tells i low ≡ true)
-  pub first : (x : ℕ) → x < low → (i : ℕ) → i < n → tells i x ≡ false
+module _ (p : ℕ → Bool) where
+  below_where : (n : ℕ) → any_below p n ≡ true → (i : ℕ) × (i < n) × (p i ≡ true)
+  unfolding any_below
+  below_where zero e = absurd (false≢true e)
+  below_where (suc n) e =
+      ⊎_elim (λ f. let (i, h, g) = below_where n f in (i, omega arith, g)) (λ f. (n, omega arith, f)) (or_cases (any_below p n) (p n) e)
 
-module _ (tells : ℕ → ℕ → Bool) where
-  pub passed_none : Passed tells 0 128
-  passed_none = record { most = omega arith; told = λ h. absurd (omega arith); first = λ x h i u. absurd (omega arith) }
-
-  pub passed_more : {i low r next : ℕ} → Passed tells i low → Lowest (tells i) r → Lower low r next → Passed tells (i + 1) next
-  passed_more {i} {low} {r} {next} p l s = record {
-    most = omega (arith, p.most, s.below_one);
-    told = λ h. ⊎_elim
-        (λ e. let (j, u, f) = p.told (omega arith) in (j, omega arith, ap (tells j) e ∙ f))
-        (λ e. (i, omega arith, ap (tells i) e ∙ l.passes (omega arith)))
-        s.is;
-    first = λ x h j u. go x h j u (eqb j i) refl;
-  }
+  below_none : (n : ℕ) → any_below p n ≡ false → (i : ℕ) → i < n → p i ≡ false
+  unfolding any_below
+  below_none zero e i h = absurd (omega arith)
+  below_none (suc n) e i h = let (f, g) = or_neither (any_below p n) (p n) e in go (eqb i n) refl g (below_none n f i)
     where
-      go : (x : ℕ) → x < next → (j : ℕ) → j < i + 1 → (b : Bool) → eqb j i ≡ b → tells j x ≡ false
-      go x h j u true e = ap (λ (k : ℕ). tells k x) (eqb-true j i e) ∙ l.first x (omega (arith, s.below_other))
-      go x h j u false e = let n = eqb-false j i e in p.first x (omega (arith, s.below_one)) j (omega arith)
+      go : (b : Bool) → eqb i n ≡ b → p n ≡ false → (i < n → p i ≡ false) → p i ≡ false
+      go true q g f = ap p (eqb-true i n q) ∙ g
+      go false q g f = let d = eqb-false i n q in f (omega arith)
+
+-- no row, and one more
+pub rows_none : (tells : ℕ → ℕ → Bool) → LowestOf (λ k. any_below (λ i. tells i k) 0) None
+unfolding any_below
+rows_none tells = lowest_none (λ k. refl)
+
+pub rows_more : (tells : ℕ → ℕ → Bool) (n : ℕ) {r : Option ℕ} → LowestOf (λ k. any_below (λ i. tells i k) n || tells n k) r
+    → LowestOf (λ k. any_below (λ i. tells i k) (n + 1)) r
+unfolding any_below
+rows_more tells n {r} l = subst (λ (m : ℕ). LowestOf (λ k. any_below (λ i. tells i k) m) r) (sym (add-one n)) l
 
 -- all n rows of a table: `some` and `none` say that they show the list
 module _ {A : Type 0} (l : List A) (row : ℕ → A) (n : ℕ) (some : (test : A → Bool) (i : ℕ) → i < n → test (row i) ≡ true → true ≡ any test l)
     (none : (test : A → Bool) → ((i : ℕ) → i < n → test (row i) ≡ false) → false ≡ any test l) where
-  of_rows : (tells : A → ℕ → Bool) {m low : ℕ} → m ≡ n → Passed (λ i. tells (row i)) m low → Lowest (λ x. any (λ a. tells a x) l) low
-  of_rows tells z p = record {
-    most = p.most;
-    passes = λ h. let (i, u, e) = p.told h in sym (some (λ a. tells a _) i (omega arith) e);
-    first = λ x h. sym (none (λ a. tells a x) (λ i u. p.first x h i (omega arith)));
-  }
+  of_rows : (tells : A → ℕ → Bool) {m : ℕ} {r : Option ℕ} → m ≡ n → LowestOf (λ k. any_below (λ i. tells (row i) k) m) r
+      → LowestOf (λ k. any (λ a. tells a k) l) r
+  of_rows tells z =
+      lowest_same (λ k. ap (any_below (λ i. tells (row i) k)) z ∙ go (λ a. tells a k) (any_below (λ i. tells (row i) k) n) refl)
+    where
+      go : (test : A → Bool) (b : Bool) → any_below (λ i. test (row i)) n ≡ b → any_below (λ i. test (row i)) n ≡ any test l
+      go test true e = let (i, h, f) = below_where (λ i. test (row i)) n e in e ∙ some test i h f
+      go test false e = e ∙ none test (below_none (λ i. test (row i)) n e)
 
 -- ---- children
 
@@ -223,84 +239,85 @@ end_is s d l o = same_test (any joined s.ends) (end_of s d l o) there (λ e. let
 
 -- ---- the tables of a base
 
-module _ (b : List ℕ) (d : ℕ) {m low : ℕ} where
-  presences_told : (tells : Presence → ℕ → Bool) → m ≡ presence_count b → Passed (λ i. tells (presence_shown b i)) m low
-      → Lowest (λ x. any (λ p. tells p x) (schema_of b).presences) low
-  presences_told tells z p = of_rows (schema_of b).presences (presence_shown b) (presence_count b) (some_presence b) (no_presence b) tells z p
+module _ (b : List ℕ) (d : ℕ) {m : ℕ} {r : Option ℕ} where
+  presences_told : (tells : Presence → ℕ → Bool) → m ≡ presence_count b → LowestOf (λ k. any_below (λ i. tells (presence_shown b i) k) m) r
+      → LowestOf (λ k. any (λ p. tells p k) (schema_of b).presences) r
+  presences_told tells z l = of_rows (schema_of b).presences (presence_shown b) (presence_count b) (some_presence b) (no_presence b) tells z l
 
-  pub types_lowest : m ≡ presence_count b → Passed (λ i x. holds_type d x (presence_shown b i)) m low → Lowest (present (schema_of b) d) low
+  pub types_lowest : m ≡ presence_count b → LowestOf (λ k. any_below (λ i. holds_type d k (presence_shown b i)) m) r
+      → LowestOf (present (schema_of b) d) r
   unfolding present
-  types_lowest z p = presences_told (λ p x. holds_type d x p) z p
+  types_lowest z l = presences_told (λ p k. holds_type d k p) z l
 
-  pub children_lowest : (t : ℕ) → m ≡ presence_count b → Passed (λ i. child_told (schema_of b) d t (presence_shown b i)) m low
-      → Lowest (child_there (schema_of b) d t) low
-  children_lowest t z p = lowest_same (child_is (schema_of b) d t) (presences_told (child_told (schema_of b) d t) z p)
+  pub children_lowest : (t : ℕ) → m ≡ presence_count b → LowestOf (λ k. any_below (λ i. child_told (schema_of b) d t (presence_shown b i) k) m) r
+      → LowestOf (child_there (schema_of b) d t) r
+  children_lowest t z l = lowest_same (child_is (schema_of b) d t) (presences_told (child_told (schema_of b) d t) z l)
 
-  pub applied_lowest : (ts : List ℕ) → m ≡ application_count b → Passed (λ i. application_told d ts (application_shown b i)) m low
-      → Lowest (λ x. any (λ t. applied_there (schema_of b) d t x) ts) low
+  pub applied_lowest : (ts : List ℕ) → m ≡ application_count b → LowestOf (λ k. any_below (λ i. application_told d ts (application_shown b i) k) m) r
+      → LowestOf (λ k. any (λ t. applied_there (schema_of b) d t k) ts) r
   unfolding applied_there applied
-  applied_lowest ts z p =
-      let l = (schema_of b).applications in
-      lowest_same (joined_told l (λ x. x.sds) (λ x. x.to) (λ x. x.attribute) d ts)
-      (of_rows l (application_shown b) (application_count b) (some_application b) (no_application b) (application_told d ts) z p)
+  applied_lowest ts z l =
+      let apps = (schema_of b).applications in
+      lowest_same (joined_told apps (λ x. x.sds) (λ x. x.to) (λ x. x.attribute) d ts)
+      (of_rows apps (application_shown b) (application_count b) (some_application b) (no_application b) (application_told d ts) z l)
 
-  pub ends_lowest : (ts : List ℕ) → m ≡ end_count b → Passed (λ i. end_told d ts (end_shown b i)) m low
-      → Lowest (λ x. any (λ t. end_there (schema_of b) d t x) ts) low
+  pub ends_lowest : (ts : List ℕ) → m ≡ end_count b → LowestOf (λ k. any_below (λ i. end_told d ts (end_shown b i) k) m) r
+      → LowestOf (λ k. any (λ t. end_there (schema_of b) d t k) ts) r
   unfolding end_there
-  ends_lowest ts z p =
-      let l = (schema_of b).ends in
+  ends_lowest ts z l =
+      let es = (schema_of b).ends in
       lowest_same
-      (λ x. joined_told l (λ e. e.sds) (λ e. e.link) (λ e. e.object) d ts x
-      ∙ (λ i. any (λ t. end_is (schema_of b) d x t i || end_is (schema_of b) d t x i) ts))
-      (of_rows l (end_shown b) (end_count b) (some_end b) (no_end b) (end_told d ts) z p)
+      (λ k. joined_told es (λ e. e.sds) (λ e. e.link) (λ e. e.object) d ts k
+      ∙ (λ i. any (λ t. end_is (schema_of b) d k t i || end_is (schema_of b) d t k i) ts))
+      (of_rows es (end_shown b) (end_count b) (some_end b) (no_end b) (end_told d ts) z l)
 
 -- ---- what an obstacle tells
 
--- the number and the type, as they are answered
-pub told_as : {b : List ℕ} {whole : Refusals} {n v no one : ℕ} → (no ≡ n) × (one ≡ v) → Tested b whole n v → Tested b whole no one
-told_as {b} {whole} (e, f) t = subst (λ (x : ℕ × ℕ). Tested b whole x.0 x.1) (sym (λ i. (e i, f i))) t
+module _ (n : ℕ) (p : ℕ → Bool) where
+  lowest_held : {t : ℕ} → LowestOf p (Some t) → ((n held_by members p).holds ≡ true) × ((n held_by members p).value ≡ t)
+  lowest_held l = held n p l.below (l.is.passes l.below) l.is.first
 
-module _ (n : ℕ) (p : ℕ → Bool) {r : ℕ} (l : Lowest p r) where
-  lowest_held : (r ≡ 128 → ⊥) → ((n held_by members p).holds ≡ true) × ((n held_by members p).value ≡ r)
-  lowest_held h = let below : r < 128 = omega (arith, l.most) in held n p below (l.passes below) l.first
-
-  lowest_unheld : r ≡ 128 → (n held_by members p).holds ≡ false
-  lowest_unheld h = unheld n p (λ k u. l.first k (omega arith))
+  lowest_unheld : LowestOf p None → (n held_by members p).holds ≡ false
+  lowest_unheld l = unheld n p (λ k u. l.is.first k u)
 
 -- of an SDS
-module _ (s : Schema) (d : ℕ) {r : ℕ} (l : Lowest (present s d) r) where
-  pub sds_held : (r ≡ 128 → ⊥) → ((12 held_by types_in s d).holds ≡ true) × ((12 held_by types_in s d).value ≡ r)
+module _ (s : Schema) (d : ℕ) where
+  pub sds_held : {t : ℕ} → LowestOf (present s d) (Some t) → ((12 held_by types_in s d).holds ≡ true) × ((12 held_by types_in s d).value ≡ t)
   unfolding types_in
-  sds_held h = lowest_held 12 (present s d) l h
+  sds_held l = lowest_held 12 (present s d) l
 
-  pub sds_empty : r ≡ 128 → (12 held_by types_in s d).holds ≡ false
+  pub sds_empty : LowestOf (present s d) None → (12 held_by types_in s d).holds ≡ false
   unfolding types_in
-  sds_empty h = lowest_unheld 12 (present s d) l h
+  sds_empty l = lowest_unheld 12 (present s d) l
 
 -- of the types ts
-module _ {b : List ℕ} {whole rest : Refusals} (n : ℕ) (holds : ℕ → ℕ → Bool) (ts : List ℕ) {r : ℕ}
-    (come : Come b whole ((n held_by in_the_way holds ts) ∷ rest)) (l : Lowest (λ x. any (λ t. holds t x) ts) r) where
-  pub held_stops : (r ≡ 128 → ⊥) → {no one : ℕ} → (no ≡ n) × (one ≡ r) → Tested b whole no one
+module _ {b : List ℕ} {whole rest : Refusals} (n : ℕ) (holds : ℕ → ℕ → Bool) (ts : List ℕ)
+    (come : Come b whole ((n held_by in_the_way holds ts) ∷ rest)) where
+  pub held_stops : {t : ℕ} → LowestOf (λ x. any (λ t. holds t x) ts) (Some t) → Tested b whole n t
   unfolding in_the_way
-  held_stops h (e, f) =
-      let (stands, is) = lowest_held n (λ x. any (λ t. holds t x) ts) l h in
-      told_as (e, f ∙ sym is) (come_stops come stands refl)
+  held_stops l =
+      let (stands, is) = lowest_held n (λ x. any (λ t. holds t x) ts) l in
+      subst (λ (x : ℕ). Tested b whole n x) is (come_stops come stands refl)
 
-  pub held_passes : r ≡ 128 → Come b whole rest
+  pub held_passes : LowestOf (λ x. any (λ t. holds t x) ts) None → Come b whole rest
   unfolding in_the_way
-  held_passes h = come_next come (lowest_unheld n (λ x. any (λ t. holds t x) ts) l h)
+  held_passes l = come_next come (lowest_unheld n (λ x. any (λ t. holds t x) ts) l)
 
-module _ {s : Schema} {t r : ℕ} (rev : ReverseOf s t r) where
+pub listed : (o : Option ℕ) → IfSome o (λ r. r < 128) → one_or_none (unwrap_or o 128) ≡ option_to_list o
+listed (Some r) h = one_is h
+listed None h = none_is {r = 128} (omega arith)
+
+module _ {s : Schema} {t : ℕ} where
   -- the reverse is looked for by its number
-  pub with_other : (holds : ℕ → ℕ → Bool) {x : ℕ} → Lowest (λ k. any (λ u. holds u k) (t ∷ one_or_none r)) x
-      → Lowest (λ k. any (λ u. holds u k) (with_reverse s t)) x
-  with_other holds l = lowest_same (λ k. ap (λ (ts : List ℕ). any (λ u. holds u k) (t ∷ ts)) (sym rev.is)) l
+  pub with_other : (o : Option ℕ) → ReverseOf s t (unwrap_or o 128) → IfSome o (λ r. r < 128) → (holds : ℕ → ℕ → Bool) {x : Option ℕ}
+      → LowestOf (λ k. any (λ u. holds u k) (t ∷ option_to_list o)) x → LowestOf (λ k. any (λ u. holds u k) (with_reverse s t)) x
+  with_other o rev below holds l = lowest_same (λ k. ap (λ (ts : List ℕ). any (λ u. holds u k) (t ∷ ts)) (sym (rev.is ∙ listed o below))) l
 
   module _ (good : Good s) (d : ℕ) where
     -- a link type is no parent
-    no_child : r < 128 → (x : ℕ) → child_there s d r x ≡ false
+    no_child : {r : ℕ} → ReverseOf s t r → r < 128 → (x : ℕ) → child_there s d r x ≡ false
     unfolding child_there is_parent
-    no_child h x =
+    no_child {r} rev h x =
         fails (present s d x && among (parents s x) r) (λ e.
         let (_, f) = and_both (present s d x) (among (parents s x) r) e in
         let (c, pair) = rev.pair h in
@@ -308,14 +325,26 @@ module _ {s : Schema} {t r : ℕ} (rev : ReverseOf s t r) where
         false≢true (sym (ap is_object turn) ∙ good.parents_objects x r (record { listed = among_in (parents s x) r f })))
 
     -- so that the children of the type are those of both
-    pub child_alone : {x : ℕ} → Lowest (child_there s d t) x → Lowest (λ k. any (λ u. child_there s d u k) (with_reverse s t)) x
+    pub child_alone : (o : Option ℕ) → ReverseOf s t (unwrap_or o 128) → IfSome o (λ r. r < 128) → {x : Option ℕ} → LowestOf (child_there s d t) x
+        → LowestOf (λ k. any (λ u. child_there s d u k) (with_reverse s t)) x
     unfolding any
-    child_alone l =
-        with_other (child_there s d)
-        (lowest_same (λ k. sym (ap (λ (y : Bool). child_there s d t k || y) (go k (ltb r 128) refl) ∙ or-false (child_there s d t k))) l)
+    child_alone o rev below l = with_other o rev below (child_there s d) (lowest_same (λ k. sym (go o rev below k)) l)
       where
-        go : (k : ℕ) (b : Bool) → ltb r 128 ≡ b → any (λ u. child_there s d u k) (one_or_none r) ≡ false
-        go k true e =
-            let h = ltb-true r 128 e in
-            ap (any (λ u. child_there s d u k)) (one_is h) ∙ or-false (child_there s d r k) ∙ no_child h k
-        go k false e = ap (any (λ u. child_there s d u k)) (none_is {r = r} (ltb-false r 128 e))
+        go : (o : Option ℕ) → ReverseOf s t (unwrap_or o 128) → IfSome o (λ r. r < 128) → (k : ℕ)
+            → any (λ u. child_there s d u k) (t ∷ option_to_list o) ≡ child_there s d t k
+        go (Some r) rev h k =
+            ap (λ (y : Bool). child_there s d t k || (y || false)) (no_child rev h k) ∙ or-false (child_there s d t k)
+        go None rev h k = or-false (child_there s d t k)
+
+-- the obstacles in their order
+module _ {b : List ℕ} (sound : Sound b) (d : ℕ) {t : ℕ} (o : Option ℕ) (rev : ReverseOf (schema_of b) t (unwrap_or o 128))
+    (below : IfSome o (λ r. r < 128)) where
+  pub child_stops : {x : ℕ} → LowestOf (child_there (schema_of b) d t) (Some x) → Tested b (obstacles d t (schema_of b)) 16 x
+  child_stops l = held_stops 16 (child_there (schema_of b) d) _ (come_first sound) (child_alone (sound_good sound) d o rev below l)
+
+  pub past_child : LowestOf (child_there (schema_of b) d t) None → Past b (obstacles d t (schema_of b)) 17
+  past_child l = held_passes 16 (child_there (schema_of b) d) _ (come_first sound) (child_alone (sound_good sound) d o rev below l)
+
+  pub past_applied : Past b (obstacles d t (schema_of b)) 17
+      → LowestOf (λ k. any (λ u. applied_there (schema_of b) d u k) (t ∷ option_to_list o)) None → Past b (obstacles d t (schema_of b)) 18
+  past_applied come l = held_passes 17 (applied_there (schema_of b) d) _ come (with_other o rev below (applied_there (schema_of b) d) l)

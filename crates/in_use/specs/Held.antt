@@ -1,13 +1,20 @@
--- What a row tells of a type that is held in an SDS: the type that holds it.
-use Rattle.std.specs.Prelude.{ℕ, ◌≤◌, ◌≡◌, ◌⊎◌, List, Bool, ◌&&◌, ◌||◌, eqb}
+-- What a row tells of a type that is held in an SDS: the type that holds it; and the lowest type that is told.
+use Rattle.std.specs.Prelude.{ℕ, zero, suc, ◌<◌, List, Bool, false, ◌&&◌, ◌||◌, eqb, Option, IfSome}
+use Rattle.std.specs.Option.{unwrap_or}
 use Rattle.rules.specs.01-Lists.{among}
+use Rattle.rules.specs.02-Limits.{limits}
 use Rattle.rules.specs.04-Schema.{Schema, Presence, Application, End, is_parent}
+use Rattle.type_set.specs.Set.{Lowest}
 
--- r is the lower of a and b
-pub record Lower (a b r : ℕ) : Type 0 where
-  pub below_one : r ≤ a
-  pub below_other : r ≤ b
-  pub is : (r ≡ a) ⊎ (r ≡ b)
+-- r is the lowest type that passes, none where none does
+pub record LowestOf (p : ℕ → Bool) (r : Option ℕ) : Type 0 where
+  pub is : Lowest p (unwrap_or r limits.types)
+  pub below : IfSome r (λ t. t < limits.types)
+
+-- one of the numbers below n passes
+unfoldable pub any_below : (ℕ → Bool) → ℕ → Bool
+any_below p zero = false
+any_below p (suc n) = any_below p n || p n
 
 -- a row puts a child x of type t into SDS d
 abbrev pub child_told : Schema → ℕ → ℕ → Presence → ℕ → Bool

@@ -5,15 +5,13 @@ use native.Mathlib.Numerals.{add-one}
 use native.Mathlib.Nat.{zero-add}
 use native.Mathlib.Omega.{arith}
 use mathlib.Core.Path.{◌≡◌, refl, sym, ◌∙◌, subst}
-use mathlib.Core.Logic.{◌⊎◌, inl, inr}
-use mathlib.Core.Bool.{Bool, true, false, ◌||◌, false≢true}
+use mathlib.Core.Bool.{Bool, true, false, false≢true}
 use lib.Dec.{eqb, ltb}
 use borrow.Author.Tests.{eqb-true, eq-eqb, ltb-true, ltb-false}
 use Rattle.rules.specs.04-Schema.{Schema, kind_of, is_object, is_parent}
 use Rattle.rules.specs.05-Descent.{Parent, Chain, depth}
 use Rattle.rules.specs.05-Descent.Chain.{at_root, up}
 use Rattle.rules.specs.06-Good.{Good}
-use Rattle.rules.proofs.Bools.{or_cases, or_left}
 use Rattle.rules.proofs.05-Descent.{members_most, objects, chain_short, depth_greatest, depth_reached}
 use Rattle.kin.specs.Kin.{parents_of}
 use Rattle.kin.proofs.KinLaws.{parent_is, is_parent_of}
@@ -30,18 +28,14 @@ pub record Level (s : Schema) (t n : ℕ) (p : ℕ → Bool) : Type 0 where
   pub all : (k : ℕ) → Above s t n k → p k ≡ true
 
 module _ (s : Schema) (t : ℕ) where
-  pub level_none : (p none : ℕ → Bool) → ((k : ℕ) → none k ≡ false) → ((k : ℕ) → p k ≡ eqb k t || none k) → Level s t 0 p
-  level_none p none empty made = record {
-    only = λ k e. at k (or_cases (eqb k t) (none k) (sym (made k) ∙ e));
+  pub level_none : (p : ℕ → Bool) → ((k : ℕ) → p k ≡ eqb k t) → Level s t 0 p
+  level_none p made = record {
+    only = λ k e. rw (eqb-true k t (sym (made k) ∙ e)) no_step;
     all = λ k way. alone way;
   }
     where
-      at : (k : ℕ) → (eqb k t ≡ true) ⊎ (none k ≡ true) → Above s t 0 k
-      at k (inl e) = rw (eqb-true k t e) no_step
-      at k (inr e) = absurd (false≢true (sym (empty k) ∙ e))
-
       alone : {k : ℕ} → Above s t 0 k → p k ≡ true
-      alone no_step = made t ∙ or_left (eqb t t) (none t) (eq-eqb t t refl)
+      alone no_step = made t ∙ eq-eqb t t refl
 
 module _ {s : Schema} {t : ℕ} where
   pub level_more : {n : ℕ} {p : ℕ → Bool} (q : ℕ → Bool) → Level s t n p → ((k : ℕ) → p k ≡ true → k < 128) → ((k : ℕ) → q k ≡ parents_of s p k)

@@ -1,11 +1,10 @@
 -- Laws of a pass over the presences, row by row, from either end. Assumes nothing.
 use Prim.Native.Nat.{ℕ, ◌+◌, ◌-◌, ◌≤◌, ◌<◌}
-use native.Mathlib.Nat.{zero-add}
 use native.Mathlib.Omega.{arith}
 use mathlib.Core.Path.{◌≡◌, refl, sym, ap, ◌∙◌}
 use mathlib.Core.Logic.{⊎_elim}
 use mathlib.Core.List.{List}
-use mathlib.Core.Bool.{Bool, true, false, ◌&&◌, ◌||◌, and-true, and-false, or-false, or_comm, true≢false, false≢true}
+use mathlib.Core.Bool.{Bool, true, false, cond, ◌&&◌, ◌||◌, and-true, and-false, or-false, or_comm, true≢false, false≢true}
 use lib.Dec.{eqb, ltb}
 use borrow.Author.Count.{below_more}
 use borrow.Author.Tests.{eqb-true, eq-eqb, ltb-true, ltb-false}
@@ -38,30 +37,35 @@ looked_for : (from n : ℕ) (down : Bool) (j : ℕ) → from ≤ j → j < from 
 looked_for from n true j l h = (from + n - 1 - j, omega arith, omega arith)
 looked_for from n false j l h = (j - from, omega arith, omega arith)
 
--- the rows before the first in these SDSs, and those behind the last, are in none
-pub spans : (b : List ℕ) (sdss : ℕ → Bool) (count from behind rest rows : ℕ) → count ≡ presence_count b → rest ≡ count - from → rows ≡ rest - behind
-    → from ≤ count → behind ≤ rest → ((i : ℕ) → i < from → sdss (presence_shown b (looked_at 0 count false i)).sds ≡ false)
-    → ((i : ℕ) → i < behind → sdss (presence_shown b (looked_at from rest true i)).sds ≡ false) → Span b sdss from rows
-spans b sdss count from behind rest rows c r n l u before after = record {
-  fits = omega arith;
-  all = λ j h e. (first j e (ltb j from) refl, last j h e (ltb j (from + rows)) refl);
+-- all rows
+pub span_all : (b : List ℕ) (sdss : ℕ → Bool) (n : ℕ) → n ≡ presence_count b → Span b sdss 0 n
+span_all b sdss n e = record { fits = omega arith; all = λ j h l. (omega arith, omega arith) }
+
+-- and the first or the last of them away, which are in none of these SDSs
+pub span_trimmed : (b : List ℕ) (sdss : ℕ → Bool) (from n m : ℕ) (down : Bool) → Span b sdss from n → m ≤ n
+    → ((i : ℕ) → i < m → sdss (presence_shown b (looked_at from n down i)).sds ≡ false) → Span b sdss (cond down from (from + m)) (n - m)
+span_trimmed b sdss from n m true span l none = record {
+  fits = omega (arith, span.fits);
+  all = λ j h e. let (low, high) = span.all j h e in (low, last j e high (ltb j (from + (n - m))) refl);
 }
   where
-    sds : ℕ → ℕ
-    sds j = (presence_shown b j).sds
-
-    first : (j : ℕ) → sdss (sds j) ≡ true → (x : Bool) → ltb j from ≡ x → from ≤ j
-    first j e true q =
-        absurd (true≢false (sym e ∙ ap (λ (k : ℕ). sdss (sds k)) (sym (zero-add j)) ∙ before j (ltb-true j from q)))
-    first j e false q = ltb-false j from q
-
-    last : (j : ℕ) → j < presence_count b → sdss (sds j) ≡ true → (x : Bool) → ltb j (from + rows) ≡ x → j < from + rows
-    last j h e true q = ltb-true j (from + rows) q
-    last j h e false q =
-        let past = ltb-false j (from + rows) q in
-        let i = from + rest - 1 - j in
-        let same : from + (rest - 1 - i) ≡ j = omega arith in
-        absurd (true≢false (sym e ∙ ap (λ (k : ℕ). sdss (sds k)) (sym same) ∙ after i (omega arith)))
+    last : (j : ℕ) → sdss (presence_shown b j).sds ≡ true → j < from + n → (x : Bool) → ltb j (from + (n - m)) ≡ x → j < from + (n - m)
+    last j e h true q = ltb-true j (from + (n - m)) q
+    last j e h false q =
+        let past = ltb-false j (from + (n - m)) q in
+        let same : from + (n - 1 - (from + n - 1 - j)) ≡ j = omega arith in
+        absurd (true≢false (sym e ∙ ap (λ (k : ℕ). sdss (presence_shown b k).sds) (sym same) ∙ none (from + n - 1 - j) (omega arith)))
+span_trimmed b sdss from n m false span l none = record {
+  fits = omega (arith, span.fits);
+  all = λ j h e. let (low, high) = span.all j h e in (first j e low (ltb j (from + m)) refl, omega arith);
+}
+  where
+    first : (j : ℕ) → sdss (presence_shown b j).sds ≡ true → from ≤ j → (x : Bool) → ltb j (from + m) ≡ x → from + m ≤ j
+    first j e h true q =
+        let before = ltb-true j (from + m) q in
+        let same : from + (j - from) ≡ j = omega arith in
+        absurd (true≢false (sym e ∙ ap (λ (k : ℕ). sdss (presence_shown b k).sds) (sym same) ∙ none (j - from) (omega arith)))
+    first j e h false q = ltb-false j (from + m) q
 
 -- ---- one look: the type of a row that is in none of these SDSs, or has no parent in q, is not added; nor is one that is there
 

@@ -2,7 +2,7 @@
 // the depth of a type.
 #![tactic(auto)]
 
-ghost use Rattle.std.specs.Prelude.{◌≡◌, true, false, ◌||◌, ℕ, ◌+◌, ◌≤◌, ◌<◌};
+ghost use Rattle.std.specs.Prelude.{◌≡◌, true, false, not, ◌||◌, ℕ, ◌+◌, ◌≤◌, ◌<◌};
 ghost use Rattle.rules.specs.02-Limits.{limits};
 ghost use Rattle.rules.specs.04-Schema.{is_object, is_parent, kind_of};
 ghost use Rattle.rules.specs.05-Descent.{depth};
@@ -20,13 +20,9 @@ fn add_parents(base: &[u8], t: usize, s: TypeSet) -> TypeSet
     requires { Parental base.now × (t < limits.types) }
     ensures { (k : ℕ) → has result k ≡ is_parent (schema_of base.now) t k || has s k }
 {
-    let n = base::parent_count(base, t);
     let mut r = s;
-    let mut i: usize = 0;
-    while i < n {
-        let a = base::parent(base, t, i);
-        r = r.add(a);
-        i += 1;
+    for i in 0..base::parent_count(base, t) {
+        r = r.add(base::parent(base, t, i));
     }
     r
 }
@@ -37,11 +33,9 @@ pub fn parents_of(base: &[u8], s: TypeSet) -> TypeSet
 {
     let mut r = TypeSet::empty();
     let mut left = s;
-    let mut t = left.lowest();
-    while t < Limits::TYPES {
+    while let Some(t) = left.lowest() {
         r = add_parents(base, t, r);
         left = left.less(t);
-        t = left.lowest();
     }
     r
 }
@@ -53,11 +47,9 @@ pub fn ancestors_of(base: &[u8], s: TypeSet) -> TypeSet
 {
     let mut found = TypeSet::empty();
     let mut left = parents_of(base, s);
-    let mut t = left.lowest();
-    while t < Limits::TYPES {
+    while let Some(t) = left.lowest() {
         found = found.add(t);
         left = add_parents(base, t, left).without(found);
-        t = left.lowest();
     }
     found
 }
@@ -67,14 +59,10 @@ fn has_parent_in(base: &[u8], t: usize, s: TypeSet) -> bool
     requires { Parental base.now × (t < limits.types) }
     ensures { result ≡ children_of (schema_of base.now) (has s) t }
 {
-    let n = base::parent_count(base, t);
-    let mut j: usize = 0;
-    while j < n {
-        let a = base::parent(base, t, j);
-        if s.test(a) {
+    for i in 0..base::parent_count(base, t) {
+        if s.test(base::parent(base, t, i)) {
             return true;
         }
-        j += 1;
     }
     false
 }
@@ -84,12 +72,10 @@ pub fn children_of(base: &[u8], s: TypeSet) -> TypeSet
     ensures { (k : ℕ) → has result k ≡ children_of (schema_of base.now) (has s) k }
 {
     let mut r = TypeSet::empty();
-    let mut k: usize = 0;
-    while k < Limits::TYPES {
+    for k in 0..Limits::TYPES {
         if has_parent_in(base, k, s) {
             r = r.add(k);
         }
-        k += 1;
     }
     r
 }
@@ -104,51 +90,80 @@ fn add_child(base: &[u8], sdss: u16, i: usize, s: TypeSet) -> TypeSet
         return s;
     }
     let t = base::presence_type(base, i);
-    if s.test(t) {
-        return s;
-    }
-    if !has_parent_in(base, t, s) {
+    if s.test(t) || !has_parent_in(base, t, s) {
         return s;
     }
     s.add(t)
 }
 
-// The row that a pass over n rows, the first of them row `from`, looks at after i others: from the last one on where `down`.
-fn row(from: usize, n: usize, down: bool, i: usize) -> usize
-    requires { (i < n) × (from + n ≤ limits.presences) }
-    ensures { (result < from + n) × (result ≡ looked_at from n down i) }
-{
-    if down {
-        return from + (n - 1 - i);
+// Rows of presences that a pass looks at one by one: `count` rows, the first of them row `from`; from the last one on where `down`.
+// A flag and no range or its `rev()`: the way turns with each pass, and those are two types.
+#[derive(Clone, Copy)]
+struct Rows {
+    from: usize,
+    count: usize,
+    down: bool,
+}
+
+impl Rows {
+    // The row that is looked at after i others.
+    fn at(self, i: usize) -> usize
+        requires { (i < self.count) × (self.from + self.count ≤ limits.presences) }
+        ensures { (result < self.from + self.count) × (result ≡ looked_at self.from self.count self.down i) }
+    {
+        if self.down {
+            return self.from + (self.count - 1 - i);
+        }
+        self.from + i
     }
-    from + i
+
+    // The other way round.
+    fn turned(self) -> Rows
+        ensures { (result.from ≡ self.from) × (result.count ≡ self.count) × (result.down ≡ not self.down) }
+    {
+        Rows {
+            down: !self.down,
+            ..self
+        }
+    }
+
+    // Without those that a pass looks at before it comes to one in one of these SDSs.
+    fn trimmed(self, base: &[u8], sdss: u16) -> Rows
+        requires { Sound base.now × Span base.now (bit sdss) self.from self.count }
+        ensures { Span base.now (bit sdss) result.from result.count × (result.down ≡ self.down) }
+    {
+        let n = unlisted(base, sdss, self);
+        let from = if self.down { self.from } else { self.from + n };
+        Rows {
+            from,
+            count: self.count - n,
+            down: self.down,
+        }
+    }
 }
 
 // How many of these rows a pass looks at before it comes to one in one of these SDSs.
-fn unlisted(base: &[u8], sdss: u16, from: usize, n: usize, down: bool) -> usize
-    requires { Sound base.now × (from + n ≤ presence_count base.now) }
-    ensures { (result ≤ n) × ((i : ℕ) → i < result → bit sdss (presence_shown base.now (looked_at from n down i)).sds ≡ false) }
+fn unlisted(base: &[u8], sdss: u16, rows: Rows) -> usize
+    requires { Sound base.now × (rows.from + rows.count ≤ presence_count base.now) }
+    ensures { (result ≤ rows.count)
+        × ((i : ℕ) → i < result → bit sdss (presence_shown base.now (looked_at rows.from rows.count rows.down i)).sds ≡ false) }
 {
-    let mut i: usize = 0;
-    while i < n {
-        if working::listed::lists(sdss, base::presence_sds(base, row(from, n, down, i))) {
+    for i in 0..rows.count {
+        if working::listed::lists(sdss, base::presence_sds(base, rows.at(i))) {
             return i;
         }
-        i += 1;
     }
-    i
+    rows.count
 }
 
 // `s` with what one look at each of these rows adds.
-fn pass(base: &[u8], sdss: u16, from: usize, n: usize, down: bool, s: TypeSet) -> TypeSet
-    requires { Sound base.now × Span base.now (bit sdss) from n }
+fn pass(base: &[u8], sdss: u16, rows: Rows, s: TypeSet) -> TypeSet
+    requires { Sound base.now × Span base.now (bit sdss) rows.from rows.count }
     ensures { Passed (schema_of base.now) (bit sdss) (has s) (has result) }
 {
     let mut r = s;
-    let mut i: usize = 0;
-    while i < n {
-        r = add_child(base, sdss, row(from, n, down, i), r);
-        i += 1;
+    for i in 0..rows.count {
+        r = add_child(base, sdss, rows.at(i), r);
     }
     r
 }
@@ -159,19 +174,18 @@ pub fn with_descendants(base: &[u8], sdss: u16, s: TypeSet) -> TypeSet
     requires { Sound base.now }
     ensures { (k : ℕ) → has result k ≡ with_descendants (schema_of base.now) (bit sdss) (has s) k }
 {
-    let all = lookup::presences::count(base);
-    let from = unlisted(base, sdss, 0, all, false);
-    let rest = all - from;
-    let rows = rest - unlisted(base, sdss, from, rest, true);
+    let all = Rows {
+        from: 0,
+        count: lookup::presences::count(base),
+        down: true,
+    };
+    let mut rows = all.trimmed(base, sdss).turned().trimmed(base, sdss);
     let mut r = s;
-    let mut down = false;
-    let mut n: usize = 0;
-    let mut m = r.count();
-    while n < m {
-        r = pass(base, sdss, from, rows, down, r);
-        down = !down;
-        n = m;
-        m = r.count();
+    let mut n = 0;
+    while n < r.count() {
+        n = r.count();
+        r = pass(base, sdss, rows, r);
+        rows = rows.turned();
     }
     r
 }
@@ -181,13 +195,10 @@ pub fn depth(base: &[u8], t: usize) -> usize
     requires { Sound base.now × (is_object (kind_of (schema_of base.now) t) ≡ true) }
     ensures { result ≡ depth (schema_of base.now) t }
 {
-    let none = TypeSet::empty();
-    let mut s = parents_of(base, none.add(t));
-    let mut a = s.lowest();
-    let mut d: usize = 0;
-    while a < Limits::TYPES {
+    let mut s = parents_of(base, TypeSet::only(t));
+    let mut d = 0;
+    while s.lowest().is_some() {
         s = parents_of(base, s);
-        a = s.lowest();
         d += 1;
     }
     d

@@ -1,5 +1,5 @@
 -- A row that is found by halving: where it is, it stands at its place. Assumes nothing.
-use Prim.Native.Nat.{ℕ, ◌+◌, ◌%◌, ◌≤◌, ◌<◌}
+use Prim.Native.Nat.{ℕ, ◌+◌, ◌≤◌}
 use native.Mathlib.Omega.{arith}
 use mathlib.Core.Path.{◌≡◌, refl, sym, ap, ◌∙◌, subst}
 use mathlib.Core.List.{List, [], ◌∷◌}
@@ -41,28 +41,14 @@ module _ {b : List ℕ} {n d l s o r : ℕ} where
   end_found_at e = record { found = λ h. e; none = λ h x. let u = e.below in absurd (omega arith) }
 
 module _ {b : List ℕ} {n d l s o r : ℕ} (long : length b ≡ base_length) (few : n ≤ limits.ends) (rise : InOrder by_end b n)
-    (small : (d < 256) × ((l < 256) × ((s < 256) × (o < 256))))
-    (p : Place b ends.start by_end.named n (d % 256 ∷ l % 256 ∷ s % 256 ∷ o % 256 ∷ []) r) where
-  key : List ℕ
+    (p : Place b ends.start by_end.named n (d ∷ l ∷ s ∷ o ∷ []) r) where
+  abbrev key : List ℕ
   key = d ∷ l ∷ s ∷ o ∷ []
 
-  abbrev sought : List ℕ
-  sought = d % 256 ∷ l % 256 ∷ s % 256 ∷ o % 256 ∷ []
-
-  the_key : sought ≡ key
-  unfolding key
-  the_key =
-      let e : d % 256 ≡ d = omega arith in
-      let f : l % 256 ≡ l = omega arith in
-      let g : s % 256 ≡ s = omega arith in
-      let h : o % 256 ≡ o = omega arith in
-      λ i. e i ∷ f i ∷ g i ∷ h i ∷ []
-
-  row_key : (x : EndRow b n d l s o) → part b (end_at x.place) end_width ≡ sought
-  unfolding key
+  row_key : (x : EndRow b n d l s o) → part b (end_at x.place) end_width ≡ key
   row_key x =
       let u = x.below in
-      end_bytes b x.place (omega arith) ∙ (λ i. x.sds i ∷ x.link i ∷ x.turned i ∷ x.object i ∷ []) ∙ sym the_key
+      end_bytes b x.place (omega arith) ∙ (λ i. x.sds i ∷ x.link i ∷ x.turned i ∷ x.object i ∷ [])
 
   rises : Rises b ends.start by_end.named ends.width n
   rises = ends_rises b n long few rise
@@ -73,7 +59,7 @@ module _ {b : List ℕ} {n d l s o r : ℕ} (long : length b ≡ base_length) (f
       go : (t : Bool) → ltb x.place r ≡ t → (v : Bool) → ltb r x.place ≡ v → x.place ≡ r
       go true q v w =
           absurd (true≢false (sym (p.earlier rises x.place (ltb-true x.place r q))
-          ∙ ap (λ (k : List ℕ). bytes_before k sought) (row_key x) ∙ before_irreflexive sought))
+          ∙ ap (λ (k : List ℕ). bytes_before k key) (row_key x) ∙ before_irreflexive key))
       go false q true w =
           let u = x.below in
           let less = ltb-true r x.place w in

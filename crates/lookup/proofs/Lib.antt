@@ -7,3 +7,4 @@ pub mod NamedLaws
 pub mod RowBytes
 pub mod EndLaws
 pub mod EndRows
+pub mod Found

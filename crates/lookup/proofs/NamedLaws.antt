@@ -3,10 +3,11 @@ use Prim.Native.Nat.{ℕ, ◌+◌, ◌≤◌, ◌<◌}
 use native.Mathlib.Omega.{arith}
 use mathlib.Core.Path.{◌≡◌, refl, sym, ap, ◌∙◌}
 use mathlib.Core.List.{List}
-use mathlib.Core.Bool.{Bool, true, false, ◌&&◌, true≢false}
+use mathlib.Core.Bool.{Bool, true, false, true≢false}
 use lib.ListN.{get_or}
-use borrow.Author.Tests.{eq-eqb, ne_eqb}
-use Rattle.rules.specs.03-Names.{Name, same_name}
+use Rattle.std.specs.Prelude.{Option, Some, None, IfSome, is_some}
+use Rattle.std.specs.Option.{unwrap_or}
+use Rattle.rules.specs.03-Names.{Name}
 use Rattle.rules.specs.04-Schema.{Schema, Presence, system_presence, holds_name, bears, type_named}
 use Rattle.rules.specs.06-Good.{Good}
 use Rattle.rules.specs.01-Lists.{place}
@@ -18,14 +19,6 @@ use Rattle.base.specs.Rows.{presence_at}
 use Rattle.base.specs.Back.{schema_of, presence_shown, presence_count}
 use Rattle.base.proofs.Shown.{presences_long, presence_is, presence_there, presence_in}
 use Rattle.lookup.specs.Found.{NamedRow, NamedIn}
-
--- ---- a row
-
-pub row_elsewhere : (p : Presence) (d : ℕ) (n : Name) → (p.sds ≡ d → ⊥) → false ≡ holds_name d n p
-row_elsewhere p d n h = sym (ap (λ (b : Bool). b && same_name p.name n) (ne_eqb p.sds d h))
-
-pub row_there : (p : Presence) (d : ℕ) (n : Name) → p.sds ≡ d → same_name p.name n ≡ holds_name d n p
-row_there p d n h = sym (ap (λ (b : Bool). b && same_name p.name n) (eq-eqb p.sds d h))
 
 -- ---- an SDS
 
@@ -85,3 +78,8 @@ module _ {s : Schema} {d : ℕ} {n : Name} {r : ℕ} (found : NamedIn s d n r) w
       go : (x : Bool) → bears s d n ≡ x → x ≡ false
       go true e = absurd (let (u, q) = found.found e in omega arith)
       go false e = refl
+
+-- by whether one was found
+pub found_bears : {s : Schema} {d : ℕ} {n : Name} (o : Option ℕ) → NamedIn s d n (unwrap_or o 128) → IfSome o (λ t. t < 128) → is_some o ≡ bears s d n
+found_bears (Some t) found h = sym (borne found (λ z. omega arith))
+found_bears None found h = sym (not_borne found refl)

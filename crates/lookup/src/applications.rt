@@ -1,5 +1,6 @@
 // Applications: the row of one.
-ghost use Rattle.std.specs.Prelude.{◌≡◌, ◌<◌, length};
+ghost use Rattle.std.specs.Prelude.{◌≡◌, ◌<◌, length, IfSome};
+ghost use Rattle.std.specs.Option.{unwrap_or};
 ghost use Rattle.rules.specs.02-Limits.{limits};
 ghost use Rattle.rules.specs.04-Schema.{is_application};
 ghost use Rattle.rules.specs.07-Picture.{base_length};
@@ -11,27 +12,22 @@ fn is_application(base: &[u8], i: usize, d: usize, t: usize, a: usize) -> bool
     requires { (length base.now ≡ base_length) × (i < limits.applications) }
     ensures { result ≡ is_application d t a (application_shown base.now i) }
 {
-    if base::application_sds(base, i) != d {
-        return false;
-    }
-    if base::application_to(base, i) != t {
-        return false;
-    }
-    base::application_attribute(base, i) == a
+    base::application_sds(base, i) == d
+        && base::application_to(base, i) == t
+        && base::application_attribute(base, i) == a
 }
 
-// The row that does so, or as many as there are rows.
-pub fn application_row(base: &[u8], d: usize, t: usize, a: usize) -> usize
+// The row that does so.
+pub fn application_row(base: &[u8], d: usize, t: usize, a: usize) -> Option<usize>
     requires { length base.now ≡ base_length }
-    ensures { FirstRow (application_count base.now) (λ i. is_application d t a (application_shown base.now i)) result }
+    ensures first { let n = application_count base.now in
+        FirstRow n (λ i. is_application d t a (application_shown base.now i)) (unwrap_or result n) }
+    ensures below { IfSome result (λ i. i < application_count base.now) }
 {
-    let n = base::used::application_count(base);
-    let mut i = 0;
-    while i < n {
+    for i in 0..base::used::application_count(base) {
         if is_application(base, i, d, t, a) {
-            return i;
+            return Some(i);
         }
-        i += 1;
     }
-    i
+    None
 }

@@ -1,5 +1,6 @@
 // Presences: how many there are, and the row of a type in an SDS.
-ghost use Rattle.std.specs.Prelude.{◌≡◌, ◌<◌, length};
+ghost use Rattle.std.specs.Prelude.{◌≡◌, ◌<◌, length, IfSome};
+ghost use Rattle.std.specs.Option.{unwrap_or};
 ghost use Rattle.rules.specs.02-Limits.{limits};
 ghost use Rattle.rules.specs.07-Picture.{Sound, base_length};
 ghost use Rattle.rows.specs.Rows.{Counted};
@@ -20,24 +21,19 @@ fn is_presence(base: &[u8], i: usize, d: usize, t: usize) -> bool
     requires { (length base.now ≡ base_length) × (i < limits.presences) }
     ensures { Decides (RowOf base.now i d t) result }
 {
-    if base::presence_sds(base, i) != d {
-        return false;
-    }
-    base::presence_type(base, i) == t
+    base::presence_sds(base, i) == d && base::presence_type(base, i) == t
 }
 
-// The row that says that type t is in SDS d, or as many as there are rows.
-pub fn presence_row(base: &[u8], d: usize, t: usize) -> usize
+// The row that says that type t is in SDS d.
+pub fn presence_row(base: &[u8], d: usize, t: usize) -> Option<usize>
     requires { length base.now ≡ base_length }
-    ensures { PresenceRow base.now (presence_count base.now) d t result }
+    ensures first { let n = presence_count base.now in PresenceRow base.now n d t (unwrap_or result n) }
+    ensures below { IfSome result (λ i. i < presence_count base.now) }
 {
-    let n = base::used::presence_count(base);
-    let mut i = 0;
-    while i < n {
+    for i in 0..base::used::presence_count(base) {
         if is_presence(base, i, d, t) {
-            return i;
+            return Some(i);
         }
-        i += 1;
     }
-    i
+    None
 }

@@ -1,5 +1,6 @@
 // SDSs: by their number, by their name, and the lowest number that is free.
-ghost use Rattle.std.specs.Prelude.{◌≡◌, true, ◌<◌, length};
+ghost use Rattle.std.specs.Prelude.{◌≡◌, true, ◌<◌, length, IfSome};
+ghost use Rattle.std.specs.Option.{unwrap_or};
 ghost use Rattle.rules.specs.02-Limits.{limits};
 ghost use Rattle.rules.specs.03-Names.{well_formed};
 ghost use Rattle.rules.specs.04-Schema.{sds_name, used_sds};
@@ -15,11 +16,7 @@ pub fn is_sds(base: &[u8], d: usize) -> bool
     requires { length base.now ≡ base_length }
     ensures { result ≡ used_sds (schema_of base.now) d }
 {
-    if Limits::SDSS <= d {
-        return false;
-    }
-    let field = base::sds_field(base, d);
-    field[0] != 0
+    d < Limits::SDSS && base::sds_field(base, d)[0] != 0
 }
 
 // The name of an SDS, blank where the number is unused.
@@ -28,35 +25,31 @@ pub fn sds_name(base: &[u8], d: usize) -> &[u8]
     ensures { result.now ≡ sds_name (schema_of base.now) d }
 {
     let field = base::sds_field(base, d);
-    let n = name_fields::name_length(field);
-    &field[0..n]
+    &field[..name_fields::name_length(field)]
 }
 
 pub fn has_sds_named(base: &[u8], name: &[u8]) -> bool
     requires { (length base.now ≡ base_length) × (well_formed name.now ≡ true) }
     ensures { result ≡ sds_name_taken (schema_of base.now) name.now }
 {
-    let mut d = 0;
-    while d < Limits::SDSS {
+    for d in 0..Limits::SDSS {
         if names::is_same(sds_name(base, d), name) {
             return true;
         }
-        d += 1;
     }
     false
 }
 
-// The lowest number that no SDS has, or as many as there are numbers.
-pub fn free_sds(base: &[u8]) -> usize
+// The lowest number that no SDS has.
+pub fn free_sds(base: &[u8]) -> Option<usize>
     requires { length base.now ≡ base_length }
-    ensures { FreeSds base.now result }
+    ensures lowest { FreeSds base.now (unwrap_or result limits.sdss) }
+    ensures below { IfSome result (λ d. d < limits.sdss) }
 {
-    let mut d = 0;
-    while d < Limits::SDSS {
+    for d in 0..Limits::SDSS {
         if !is_sds(base, d) {
-            return d;
+            return Some(d);
         }
-        d += 1;
     }
-    d
+    None
 }

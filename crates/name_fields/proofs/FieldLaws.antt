@@ -2,6 +2,10 @@
 use Rattle.std.proofs.Common.{◌≡◌, ℕ, zero, suc, ◌+◌, ◌<◌, ◌≤◌, Bool, true, false, cond, ◌&&◌, ◌||◌, eqb, leb, List, [], ◌∷◌, ◌++◌, length, get_or}
 use Rattle.std.proofs.Common.{take, drop, replicate, sym, refl, ap, ◌∙◌, add-one, arith, drop_of_length-le, drop-cons, eq-eqb, ne_eqb, eqb-true}
 use Rattle.std.proofs.Common.{le-leb}
+use Rattle.std.proofs.Common.{Option, ◌≢◌, unwrap_or}
+use Rattle.std.specs.Option.{MatchOption}
+use Rattle.std.specs.List.{AllWithin, HoldsAt}
+use Rattle.std.proofs.lemmas.Iterator.{index_from_first}
 use mathlib.Core.Bool.{and-true, and-false, and_assoc, false≢true}
 use lib.Dec.{eqb-zero-suc}
 use lib.Bits.{bit_or, and_le_l, and_le_r, or_add_and}
@@ -178,25 +182,22 @@ strip_take [] = refl
 strip_take (zero ∷ l) = refl
 strip_take (suc x ∷ l) = ap (λ (r : List ℕ). suc x ∷ r) (strip_take l)
 
-module _ (l : List ℕ) (i : ℕ) where
-  pub strip_zero : i < length l → get_or l i 0 ≡ 0 → strip (drop i l) ≡ []
-  unfolding strip
-  strip_zero h e = rw (drop-cons l i 0 h, e)
+-- a place before which no byte is zero, and at which one is or the field ends, is as far as the name goes
+pub strip_first : (l : List ℕ) (r : Option ℕ)
+    → MatchOption r (AllWithin (λ c. c ≢ 0) l 0 (length l)) (λ i. (i < length l) × HoldsAt (λ c. c ≡ 0) l i × AllWithin (λ c. c ≢ 0) l 0 i)
+    → length (strip l) ≡ unwrap_or r (length l)
+unfolding strip
+strip_first = index_from_first (λ l. length (strip l)) (λ c. c ≡ 0) (λ c. c ≢ 0) none hit miss
+  where
+    none : length (strip []) ≡ 0
+    none = refl
 
-  pub strip_end : length l ≤ i → strip (drop i l) ≡ []
-  unfolding strip
-  strip_end h = rw (drop_of_length-le l h)
+    hit : (c : ℕ) (l : List ℕ) → c ≡ 0 → length (strip (c ∷ l)) ≡ 0
+    hit c l z = rw z
 
-  pub strip_step : i < length l → (get_or l i 0 ≡ 0 → ⊥) → length (strip (drop i l)) ≡ suc (length (strip (drop (i + 1) l)))
-  unfolding strip
-  strip_step h n = rw (add-one, drop-cons l i 0 h) (go (get_or l i 0) n)
-    where
-      go : (x : ℕ) → (x ≡ 0 → ⊥) → length (strip (x ∷ drop (suc i) l)) ≡ suc (length (strip (drop (suc i) l)))
-      go zero n = absurd (n refl)
-      go (suc x) n = refl
+    miss : (c : ℕ) (l : List ℕ) → c ≢ 0 → length (strip (c ∷ l)) ≡ length (strip l) + 1
+    miss zero l n = absurd (n refl)
+    miss (suc x) l n = omega arith
 
-  -- where nothing of the name is left at i, the name is i bytes long
-  pub stripped : i ≤ length l → length (strip l) ≡ i + length (strip (drop i l)) → strip (drop i l) ≡ [] → Stripped l i
-  stripped h e z =
-      let long : i ≡ length (strip l) = omega (arith, ap length z) in
-      record { fits = h; name = rw long (strip_take l); long = long }
+pub stripped : (l : List ℕ) (i : ℕ) → i ≡ length (strip l) → Stripped l i
+stripped l i long = record { fits = omega (arith, strip_short l); name = rw long (strip_take l); long = long }

@@ -1,9 +1,9 @@
 -- Which bytes can stand in a field, one by one and behind each other. Assumes nothing.
-use Rattle.std.proofs.Common.{◌≡◌, ℕ, zero, suc, ◌+◌, ◌-◌, ◌%◌, ◌^◌, ◌<◌, ◌≤◌, Bool, true, false, cond, not, ◌&&◌, ◌||◌, eqb, ltb, List, [], ◌∷◌}
-use Rattle.std.proofs.Common.{length, get_or, take, drop, set, sym, refl, ap, ◌∙◌, ap₂, arith, drop-cons, ltb-false, ltb-true, ne_eqb, eqb-true}
+use Rattle.std.proofs.Common.{◌≡◌, ℕ, zero, suc, ◌+◌, ◌-◌, ◌%◌, ◌<◌, ◌≤◌, Bool, true, false, cond, not, ◌&&◌, ◌||◌, eqb, ltb, List, [], ◌∷◌}
+use Rattle.std.proofs.Common.{min, length, get_or, take, drop, set, sym, refl, ap, ◌∙◌, ap₂, arith, drop-cons, ltb-false, ltb-true, ne_eqb, eqb-true}
 use mathlib.Core.Bool.{and-true, and-false, and_assoc, false≢true}
 use lib.Dec.{eqb-zero-suc, eqb-suc-zero}
-use lib.Bits.{bit_or, bit_xor, or_lt}
+use lib.Bits.{bit_or, bit_xor}
 use borrow.Author.Tests.{lt-leb}
 use Rattle.rules.specs.01-Lists.{same_bytes, all}
 use Rattle.rules.specs.03-Names.{letter, letter_or_digit}
@@ -14,28 +14,18 @@ use Rattle.name_fields.proofs.FieldLaws.{or_zero, zero_no_word, word_filled}
 
 -- ---- one byte
 
-abbrev least : ℕ → ℕ → ℕ
-least x y = cond (ltb x y) x y
-
 -- how far a byte is from the letters and the digits, zero and the underscore
 abbrev distance : ℕ → ℕ
-distance c = least (least ((bit_or c 32 + 159) % 256 - 25) ((c + 208) % 256 - 9)) (least c (bit_xor c 95))
+distance c = min (min ((bit_or c 32 + 159) % 256 - 25) ((c + 208) % 256 - 9)) (min c (bit_xor c 95))
 
 -- all 256 bytes, by computation
 near : (c : ℕ) → c < 256 → eqb (distance c) 0 ≡ field_byte c
 unfolding letter_or_digit letter
 near c h = agree (λ (c : ℕ). eqb (distance c) 0) field_byte refl c h
 
-wrapped : (a b r : ℕ) → a < 256 → b < 256 → r < 256 → (r + b) % 2 ^ 8 ≡ a → r ≡ (a + (256 - b)) % 256
-wrapped a b r ha hb hr e = omega arith
-
-pub strange : (c w v : ℕ) {a d x y r : ℕ} → c < 256 → w < 256 → v < 256 → (w + 97) % 2 ^ 8 ≡ bit_or c 32 → (v + 48) % 2 ^ 8 ≡ c
-    → a ≡ w - 25 → d ≡ v - 9 → x ≡ least a d → y ≡ least c (bit_xor c 95) → r ≡ least x y → eqb r 0 ≡ field_byte c
-strange c w v {a} {d} hc hw hv ew ev ea ed ex ey er =
-    let far_w : w ≡ (bit_or c 32 + 159) % 256 = wrapped (bit_or c 32) 97 w (or_lt 8 c 32 hc (omega arith)) (omega arith) hw ew in
-    let far_v : v ≡ (c + 208) % 256 = wrapped c 48 v hc (omega arith) hv ev in
-    let is_x = ex ∙ ap₂ least (ea ∙ ap (λ (k : ℕ). k - 25) far_w) (ed ∙ ap (λ (k : ℕ). k - 9) far_v) in
-    ap (λ (k : ℕ). eqb k 0) (er ∙ ap₂ least is_x ey) ∙ near c hc
+pub strange : (c : ℕ) {a d x y r : ℕ} → c < 256 → a ≡ (bit_or c 32 + 159) % 256 - 25 → d ≡ (c + 208) % 256 - 9
+    → x ≡ min a d → y ≡ min c (bit_xor c 95) → r ≡ min x y → eqb r 0 ≡ field_byte c
+strange c h ea ed ex ey er = ap (λ (k : ℕ). eqb k 0) (er ∙ ap₂ min (ex ∙ ap₂ min ea ed) ey) ∙ near c h
 
 -- none of them is 128 or more
 pub past_words : (c : ℕ) → 128 ≤ c → letter_or_digit c ≡ false
@@ -66,11 +56,6 @@ module _ (b : List ℕ) (at i : ℕ) where
   -- what is left to look at
   abbrev pub left : Bool
   left = standing (get_or b (at + i) 0) (take (16 - i) (drop (at + i + 1) b))
-
-pub stand_none : (b : List ℕ) (at : ℕ) → standing (get_or b at 0) (take 16 (drop (at + 1) b)) ≡ left b at 0
-stand_none b at =
-    let same : at ≡ at + 0 = omega arith in
-    ap (λ (k : ℕ). standing (get_or b k 0) (take 16 (drop (k + 1) b))) same
 
 stand_more : (b : List ℕ) (at i : ℕ) (t : Bool) → at + 17 ≤ length b → i < 16
     → (t && left b at i) ≡ ((t && may_stand (get_or b (at + i) 0) (get_or b (at + i + 1) 0)) && left b at (i + 1))

@@ -10,14 +10,7 @@ use rules::Limits;
 pub fn name_length(field: &[u8]) -> usize
     ensures { Stripped field.now result }
 {
-    let mut i = 0;
-    while i < field.len() {
-        if field[i] == 0 {
-            return i;
-        }
-        i += 1;
-    }
-    i
+    field.iter().position(|&c| c == 0).unwrap_or(field.len())
 }
 
 // Whether byte c may stand behind byte `last` of a field, which is a space before the first one: a name begins with a letter, and
@@ -39,12 +32,9 @@ fn follows(field: &[u8], before: u8) -> bool
 {
     let mut fine = true;
     let mut last = before;
-    let mut i = 0;
-    while i < Limits::NAME {
-        let c = field[i];
-        fine = fine & may_follow(last, c);
+    for &c in &field[..Limits::NAME] {
+        fine &= may_follow(last, c);
         last = c;
-        i += 1;
     }
     fine
 }
@@ -59,43 +49,21 @@ pub fn is_name_field(field: &[u8]) -> bool
 
 // ---- a field that may hold a name or none, with whatever stands before it
 
-// By how much x is above k.
-fn above(x: u8, k: u8) -> u8
-    ensures { result ≡ x - k }
-{
-    if x > k {
-        return x - k;
-    }
-    0
-}
-
-fn lesser(x: u8, y: u8) -> u8
-    ensures { result ≡ (if nat_lt x y then x else y) }
-{
-    if x < y {
-        return x;
-    }
-    y
-}
-
 // 0 where byte c can stand in a field: how far it is from the nearest byte that can, roughly. Made of what a machine does with sixteen
 // bytes at once.
 fn strangeness(c: u8) -> u8
     ensures { (result == 0) ≡ field_byte c }
 {
-    let letter = above(std::num::wrapping_sub_u8(c | 32, b'a'), 25);
-    let digit = above(std::num::wrapping_sub_u8(c, b'0'), 9);
-    lesser(lesser(letter, digit), lesser(c, c ^ b'_'))
+    let letter = (c | 32).wrapping_sub(b'a').saturating_sub(25);
+    let digit = c.wrapping_sub(b'0').saturating_sub(9);
+    letter.min(digit).min(c.min(c ^ b'_'))
 }
 
 // What stands behind a zero.
 fn behind_zero(last: u8, c: u8) -> u8
     ensures { result ≡ (if nat_eq last 0 then c else 0) }
 {
-    if last == 0 {
-        return c;
-    }
-    0
+    if last == 0 { c } else { 0 }
 }
 
 // What is wrong with byte c behind byte `last`: 0 where nothing is.
@@ -112,10 +80,8 @@ pub fn gather(base: &[u8], at: usize, faults: &mut [u8])
     requires { (at + 17 ≤ length base.now) × (length faults.old ≡ 16) }
     ensures { Gathered base.now at faults.old faults.new }
 {
-    let mut i = 0;
-    while i < Limits::NAME {
+    for i in 0..Limits::NAME {
         faults[i] |= fault(base[at + i], base[at + i + 1]);
-        i += 1;
     }
 }
 
@@ -124,10 +90,8 @@ pub fn is_blank_field(field: &[u8]) -> bool
     ensures { result ≡ blank_field field.now }
 {
     let mut bits: u8 = 0;
-    let mut i = 0;
-    while i < field.len() {
-        bits |= field[i];
-        i += 1;
+    for &c in field {
+        bits |= c;
     }
     bits == 0
 }

@@ -1,37 +1,25 @@
 -- Laws of the definitions, over plain lists and numbers: each proof of a function applies them. Assumes nothing.
-use Prim.Native.Nat.{ℕ, zero, suc, ◌+◌, ◌-◌, ◌≤◌, ◌<◌}
-use native.Mathlib.Omega.{arith}
-use native.Mathlib.Numerals.{add-one}
-use mathlib.Core.Path.{◌≡◌, refl, sym, ap, ◌∙◌}
-use mathlib.Core.List.{List, [], ◌∷◌}
-use mathlib.Core.Bool.{Bool, true, false, beq, cond, ◌&&◌, and-false, false≢true}
-use lib.Dec.{ltb, eqb}
-use lib.ListN.{length, get_or, take, drop, drop_of_length-le}
-use lib.Seq.{drop-cons, drop-drop}
+use Rattle.std.proofs.Common.{◌≡◌, ◌≢◌, ℕ, zero, suc, ◌<◌, ◌≤◌, Bool, true, false, ◌&&◌, ◌||◌, eqb, List, [], ◌∷◌, map, length, get_or, take, drop}
+use Rattle.std.proofs.Common.{Option, Some, None, Bor, not, unwrap_or}
+use Rattle.std.proofs.Common.{refl, sym, ap, ◌∙◌, eqb-true, ne_eqb, le-leb, arith}
+use mathlib.Core.Bool.{beq}
+use lib.Dec.{eqb-suc-zero}
+use lib.Pointwise.{pointwise}
 use borrow.Author.Count.{below_more}
-use borrow.Author.Tests.{lt-ltb, le-ltb, lt-leb, le-leb, eq-eqb, ne_eqb}
-use Rattle.rules.specs.01-Lists.{same_bytes, all}
+use Rattle.std.specs.Char.{to_ascii_lowercase, is_ascii_alphabetic, is_ascii_alphanumeric}
+use Rattle.std.specs.Bool.{then_some}
+use Rattle.std.specs.List.{list_all, list_any}
+use Rattle.std.proofs.lemmas.Bool.Decides.{nat_tests}
+use Rattle.rules.specs.01-Lists.{same_bytes, any, all}
 use Rattle.rules.specs.02-Limits.{limits}
-use Rattle.rules.specs.03-Names.{Name, letter, letter_or_digit, well_formed, lower, parted, names_in}
+use Rattle.rules.specs.03-Names.{Name, letter, letter_or_digit, well_formed, lower, lowered, same_name, parted, names_in}
+use Rattle.rules.specs.14-Run.{joined}
+use Rattle.rules.proofs.01-Lists.{same_bytes_is, same_bytes_refl}
 use Rattle.rules.proofs.Bools.{and_both}
-use Rattle.names.specs.declared.Run.{Run}
-use Rattle.names.specs.Bytes.{bit, marked}
-use Rattle.names.specs.Run.{left, behind, Ended, Started, Standing, Parted}
+use Rattle.rules.proofs.Bools as bools
+use Rattle.names.specs.Run.{left_in}
 
--- ---- sets of bytes
-
-module _ (low high c : ℕ) where
-  pub marked_low : c < 64 → marked low high c ≡ bit low c
-  unfolding marked
-  marked_low h = rw (lt-ltb c 64 h)
-
-  pub marked_high : 64 ≤ c → c < 128 → marked low high c ≡ bit high (c - 64)
-  unfolding marked
-  marked_high h k = rw (le-ltb c 64 h, lt-ltb c 128 k)
-
-  pub marked_none : 128 ≤ c → marked low high c ≡ false
-  unfolding marked
-  marked_none h = rw (le-ltb c 64 (omega arith), le-ltb c 128 h)
+-- ---- tests of bytes, by computation
 
 -- the test passes at each number below n
 abbrev pub every : (ℕ → Bool) → ℕ → Bool
@@ -46,7 +34,7 @@ every_at p (suc n) e k h =
 
 same_test : (a b : Bool) → beq a b ≡ true → a ≡ b
 same_test true true e = refl
-same_test true false e = sym e
+same_test true false e = cc
 same_test false true e = e
 same_test false false e = refl
 
@@ -54,166 +42,118 @@ same_test false false e = refl
 pub agree : (f g : ℕ → Bool) → every (λ c. beq (f c) (g c)) 256 ≡ true → (c : ℕ) → c < 256 → f c ≡ g c
 agree f g e c h = same_test (f c) (g c) (every_at (λ x. beq (f x) (g x)) 256 e c h)
 
-pub marked_letter : (c : ℕ) → c < 256 → marked 0 0x07ff_fffe_07ff_fffe c ≡ letter c
-unfolding marked letter
-marked_letter c h = agree (marked 0 0x07ff_fffe_07ff_fffe) letter refl c h
+-- ---- the library's words for what the rules say
 
-pub marked_letter_or_digit : (c : ℕ) → c < 256 → marked 0x03ff_0000_0000_0000 0x07ff_fffe_87ff_fffe c ≡ letter_or_digit c
-unfolding marked letter letter_or_digit
-marked_letter_or_digit c h = agree (marked 0x03ff_0000_0000_0000 0x07ff_fffe_87ff_fffe) letter_or_digit refl c h
+module _ {A : Type 0} (p : A → Bool) where
+  pub all_is : (l : List A) → list_all p l ≡ all p l
+  unfolding all
+  all_is [] = refl
+  all_is (x ∷ l) = ap (λ t. p x && t) (all_is l)
+
+  pub any_is : (l : List A) → list_any p l ≡ any p l
+  unfolding any
+  any_is [] = refl
+  any_is (x ∷ l) = ap (λ t. p x || t) (any_is l)
+
+-- `==` of slices
+pub equal_is : (a b : List ℕ) → pointwise eqb a b ≡ same_bytes a b
+unfolding same_bytes
+equal_is [] [] = refl
+equal_is [] (y ∷ b) = refl
+equal_is (x ∷ a) [] = refl
+equal_is (x ∷ a) (y ∷ b) = ap (λ t. eqb x y && t) (equal_is a b)
+
+pub lower_is : (c : ℕ) → to_ascii_lowercase c ≡ lower c
+unfolding lower
+lower_is c = grind (arith, nat_tests)
+
+lowered_is : (n : Name) → map to_ascii_lowercase n ≡ lowered n
+unfolding lowered
+lowered_is [] = refl
+lowered_is (c ∷ n) = λ i. lower_is c i ∷ lowered_is n i
+
+-- a test that passes where two names are the same in lower case
+pub same_is : (r : Bool) (a b : Name) → (r ≡ true → map to_ascii_lowercase a ≡ map to_ascii_lowercase b)
+    → (map to_ascii_lowercase a ≡ map to_ascii_lowercase b → r ≡ true) → r ≡ same_name a b
+unfolding same_name
+same_is r a b f g =
+    bools.same_test r (same_bytes (lowered a) (lowered b))
+    (λ e. ap (λ l. same_bytes l (lowered b)) (sym (lowered_is a) ∙ f e ∙ lowered_is b) ∙ same_bytes_refl (lowered b))
+    (λ e. g (lowered_is a ∙ same_bytes_is (lowered a) (lowered b) e ∙ sym (lowered_is b)))
 
 -- ---- which names are well formed
 
+pub letter_is : (c : ℕ) → is_ascii_alphabetic c ≡ letter c
+unfolding letter
+letter_is c = grind (arith, nat_tests)
+
+pub letter_or_digit_is : (c : ℕ) → is_ascii_alphanumeric c || eqb c 95 ≡ letter_or_digit c
+unfolding letter_or_digit letter
+letter_or_digit_is c = grind (arith, nat_tests)
+
 module _ (n : Name) where
-  pub formed_empty : length n ≡ 0 → well_formed n ≡ false
+  pub formed_out : ((1 ≤ length n) × (length n ≤ limits.name) → ⊥) → well_formed n ≡ false
   unfolding well_formed
-  formed_empty h = rw h
+  formed_out h = grind (arith, nat_tests)
 
-  pub formed_past : limits.name < length n → well_formed n ≡ false
+  pub formed_is : 1 ≤ length n → length n ≤ limits.name → well_formed n ≡ letter (get_or n 0 0) && all letter_or_digit n
   unfolding well_formed
-  formed_past h = simp (lt-leb (length n) limits.name h, and-false)
-
-  pub formed_first : letter (get_or n 0 0) ≡ false → well_formed n ≡ false
-  unfolding well_formed
-  formed_first e = simp (e, and-false)
-
--- behind the first byte what is left decides
-pub formed_rest : (n : Name) → 1 ≤ length n → length n ≤ limits.name → letter (get_or n 0 0) ≡ true → well_formed n ≡ all letter_or_digit (drop 1 n)
-unfolding well_formed all letter_or_digit
-formed_rest [] low high e = absurd (omega arith)
-formed_rest (x ∷ n) low high e = simp (le-leb 1 (length (x ∷ n)) low, le-leb (length (x ∷ n)) limits.name high, e)
-
--- one byte more of what is left
-module _ (l : List ℕ) (i : ℕ) (h : i < length l) where
-  pub letters_stop : letter_or_digit (get_or l i 0) ≡ false → all letter_or_digit (drop i l) ≡ false
-  unfolding all
-  letters_stop e = rw (drop-cons l i 0 h, e)
-
-  pub letters_go_on : letter_or_digit (get_or l i 0) ≡ true → all letter_or_digit (drop i l) ≡ all letter_or_digit (drop (i + 1) l)
-  unfolding all
-  letters_go_on e = rw (add-one, drop-cons l i 0 h, e)
-
-pub letters_end : (l : List ℕ) (i : ℕ) → length l ≤ i → all letter_or_digit (drop i l) ≡ true
-unfolding all
-letters_end l i h = rw (drop_of_length-le l h)
-
--- ---- a byte in lower case
-
-module _ (c : ℕ) where
-  pub lower_below : c < 65 → c ≡ lower c
-  unfolding lower
-  lower_below h = rw (lt-leb 65 c h)
-
-  pub lower_past : 90 < c → c ≡ lower c
-  unfolding lower
-  lower_past h = simp (lt-leb c 90 h, and-false)
-
-  pub lower_capital : 65 ≤ c → c ≤ 90 → c + 32 ≡ lower c
-  unfolding lower
-  lower_capital h k = rw (le-leb 65 c h, le-leb c 90 k)
-
--- ---- two names, byte for byte, as they stand or in lower case
-
-pub same_length : (a b : List ℕ) → (length a ≡ length b → ⊥) → same_bytes a b ≡ false
-unfolding same_bytes
-same_length [] [] h = absurd (h refl)
-same_length [] (y ∷ b) h = refl
-same_length (x ∷ a) [] h = refl
-same_length (x ∷ a) (y ∷ b) h = rw (same_length a b (λ e. h (ap suc e))) (and-false (eqb x y))
-
--- both have a byte more
-module _ (a b : Name) (i : ℕ) (h : i < length a) (k : i < length b) where
-  pub same_stop : (get_or a i 0 ≡ get_or b i 0 → ⊥) → same_bytes (drop i a) (drop i b) ≡ false
-  unfolding same_bytes
-  same_stop n = rw (drop-cons a i 0 h, drop-cons b i 0 k, ne_eqb (get_or a i 0) (get_or b i 0) n)
-
-  pub same_go_on : get_or a i 0 ≡ get_or b i 0 → same_bytes (drop i a) (drop i b) ≡ same_bytes (drop (i + 1) a) (drop (i + 1) b)
-  unfolding same_bytes
-  same_go_on e = rw (add-one, drop-cons a i 0 h, drop-cons b i 0 k, eq-eqb (get_or a i 0) (get_or b i 0) e)
-
--- both have come to their end
-module _ (a b : Name) (i : ℕ) where
-  pub same_end : length a ≤ i → length b ≤ i → same_bytes (drop i a) (drop i b) ≡ true
-  unfolding same_bytes
-  same_end h k = rw (drop_of_length-le a h, drop_of_length-le b k)
+  formed_is low high = simp (le-leb 1 (length n) low, le-leb (length n) limits.name high)
 
 -- ---- a run of names
 
--- how many bytes stand before the first space
-pub span : List ℕ → ℕ
-span [] = 0
-span (c ∷ cs) = cond (eqb c 32) 0 (suc (span cs))
+-- the first name ends at the first space
+pub parted_at : (l : List ℕ) (i : ℕ) → i < length l → get_or l i 0 ≡ 32 → ((k : ℕ) → k < i → get_or l k 0 ≢ 32)
+    → parted l ≡ take i l ∷ parted (drop (suc i) l)
+unfolding parted
+parted_at [] i h s n = absurd (omega arith)
+parted_at (c ∷ cs) zero h s n = rw s
+parted_at (c ∷ cs) (suc i) h s n =
+    rw (ne_eqb c 32 (n 0 (omega arith)), parted_at cs i (omega arith) s (λ k b. n (suc k) (omega arith)))
 
-parted_span : (l : List ℕ) → parted l ≡ take (span l) l ∷ behind (drop (span l) l)
-unfolding parted span behind
-parted_span [] = refl
-parted_span (c ∷ cs) = go (eqb c 32) refl (parted_span cs)
+pub parted_whole : (l : List ℕ) → ((k : ℕ) → k < length l → get_or l k 0 ≢ 32) → parted l ≡ l ∷ []
+unfolding parted
+parted_whole [] n = refl
+parted_whole (c ∷ cs) n = rw (ne_eqb c 32 (n 0 (omega arith)), parted_whole cs (λ k b. n (suc k) (omega arith)))
+
+-- there is one at least
+pub parted_some : (l : List ℕ) → (n : Name) × (ns : List Name) × (parted l ≡ n ∷ ns)
+unfolding parted
+parted_some [] = ([], [], refl)
+parted_some (c ∷ cs) = go (eqb c 32) refl (parted_some cs)
   where
-    go : (t : Bool) → eqb c 32 ≡ t → parted cs ≡ take (span cs) cs ∷ behind (drop (span cs) cs)
-        → parted (c ∷ cs) ≡ take (span (c ∷ cs)) (c ∷ cs) ∷ behind (drop (span (c ∷ cs)) (c ∷ cs))
-    go true e ih = rw e
-    go false e ih = rw (e, ih)
+    go : (t : Bool) → eqb c 32 ≡ t → (n : Name) × (ns : List Name) × (parted cs ≡ n ∷ ns)
+        → (n : Name) × (ns : List Name) × (parted (c ∷ cs) ≡ n ∷ ns)
+    go true e (n, ns, q) = ([], parted cs, rw e)
+    go false e (n, ns, q) = (c ∷ n, ns, rw (e, q))
 
-module _ (run : List ℕ) (e : ℕ) where
-  pub span_space : e < length run → get_or run e 0 ≡ 32 → span (drop e run) ≡ 0
-  unfolding span
-  span_space h s = rw (drop-cons run e 0 h, s)
+joined_onto : (c : ℕ) (n : Name) (ns : List Name) → joined ((c ∷ n) ∷ ns) ≡ c ∷ joined (n ∷ ns)
+unfolding joined
+joined_onto c n [] = refl
+joined_onto c n (m ∷ ns) = refl
 
-  pub span_end : length run ≤ e → span (drop e run) ≡ 0
-  unfolding span
-  span_end h = rw (drop_of_length-le run h)
-
-  pub span_step : e < length run → (get_or run e 0 ≡ 32 → ⊥) → span (drop e run) ≡ suc (span (drop (e + 1) run))
-  unfolding span
-  span_step h n = rw (add-one, drop-cons run e 0 h, ne_eqb (get_or run e 0) 32 n)
-
--- where no byte is left before the next space, the name ends
-pub ended : (run : List ℕ) (at e : ℕ) → at ≤ e → e ≤ length run → at + span (drop at run) ≡ e + span (drop e run) → span (drop e run) ≡ 0
-    → Ended run at e
-ended run at e h k s z =
-    let long : span (drop at run) ≡ e - at = omega arith in
-    let end : at + (e - at) ≡ e = omega arith in
-    record { ordered = h; within = k; names = parted_span (drop at run) ∙ rw (long, drop-drop (e - at) at run, end) }
-
--- a cursor past the last name
-pub left_none : (run : List ℕ) (c : Run) → c.more ≡ false → left run c ≡ []
-unfolding left
-left_none run c e = rw e
-
-pub left_more : (run : List ℕ) (c : Run) → c.more ≡ true → left run c ≡ parted (drop c.at run)
-unfolding left
-left_more run c e = rw e
-
-pub started : (run : List ℕ) → Started run (record { at = 0; more = ltb 0 (length run) })
-unfolding left names_in
-started run = record { names = names run; within = λ h. omega arith }
+joined_parted : (l : List ℕ) → joined (parted l) ≡ l
+unfolding parted joined
+joined_parted [] = refl
+joined_parted (c ∷ cs) = go (eqb c 32) refl (parted_some cs) (joined_parted cs)
   where
-    names : (l : List ℕ) → left l (record { at = 0; more = ltb 0 (length l) }) ≡ names_in l
-    names [] = refl
-    names (c ∷ cs) = left_more (c ∷ cs) (record { at = 0; more = ltb 0 (length (c ∷ cs)) }) (lt-ltb 0 (length (c ∷ cs)) (omega arith))
+    go : (t : Bool) → eqb c 32 ≡ t → (n : Name) × (ns : List Name) × (parted cs ≡ n ∷ ns)
+        → joined (parted cs) ≡ cs → joined (parted (c ∷ cs)) ≡ c ∷ cs
+    go true e (n, ns, q) ih =
+        rw (e, q) (ap (λ (r : List ℕ). 32 ∷ r) (ap joined (sym q) ∙ ih) ∙ ap (λ (x : ℕ). x ∷ cs) (sym (eqb-true c 32 e)))
+    go false e (n, ns, q) ih = rw (e, q) (joined_onto c n ns ∙ ap (λ (r : List ℕ). c ∷ r) (ap joined (sym q) ∙ ih))
 
-module _ (run : List ℕ) (c : Run) (e : ℕ) (standing : Standing run c) (end : Ended run c.at e) where
-  name_at : (next : Run) → behind (drop e run) ≡ left run next → (next.more ≡ true → (c.at < next.at) × (next.at ≤ length run))
-      → Parted run c (record { start = c.at; end = e; next = next })
-  name_at next rest at =
-      let names : left run c ≡ take (e - c.at) (drop c.at run) ∷ left run next
-      = left_more run c standing.more ∙ end.names ∙ rw rest in
-      record {
-        start = refl;
-        ordered = end.ordered;
-        within = end.within;
-        names = names;
-        next_within = λ m. (at m).1;
-        further = λ m. (at m).0;
-        fewer = omega (arith, ap length names);
-      }
+-- at the start of a run all of its names are left
+pub begun : (run : Bor (List ℕ)) → left_in (then_some (not (eqb (length run.now) 0)) run) ≡ names_in run.now
+unfolding left_in names_in
+begun run = go run.now refl
+  where
+    go : (l : List ℕ) → run.now ≡ l → left_in (then_some (not (eqb (length l) 0)) run) ≡ names_in l
+    go [] e = refl
+    go (c ∷ cs) e = rw (eqb-suc-zero (length cs)) (ap parted e)
 
-  -- behind the space stands the next name
-  pub parted_more : e < length run → Parted run c (record { start = c.at; end = e; next = record { at = e + 1; more = true } })
-  unfolding behind left
-  parted_more h = name_at (record { at = e + 1; more = true }) (rw (add-one, drop-cons run e 0 h)) (λ m. (omega (arith, end.ordered), omega arith))
-
-  -- the run ends with this name
-  pub parted_last : length run ≤ e → Parted run c (record { start = c.at; end = e; next = record { at = e; more = false } })
-  unfolding behind left
-  parted_last h = name_at (record { at = e; more = false }) (rw (drop_of_length-le run h)) (λ m. absurd (false≢true m))
+-- the names that are left, put together again, are what is left of the run
+pub rest_is : (rest : Option (Bor (List ℕ))) (none : Bor (List ℕ)) → none.now ≡ [] → (unwrap_or rest none).now ≡ joined (left_in rest)
+unfolding left_in joined
+rest_is None none e = e
+rest_is (Some run) none e = sym (joined_parted run.now)

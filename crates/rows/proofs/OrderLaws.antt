@@ -1,7 +1,8 @@
 -- Bytes in numbers: the order of the numbers is that of the bytes. Assumes nothing.
-use Rattle.std.proofs.Common.{◌≡◌, ℕ, zero, suc, ◌+◌, ◌-◌, ◌*◌, ◌^◌, ◌<◌, ◌≤◌, Bool, true, false, ◌&&◌, ◌||◌, eqb, ltb, List, [], ◌∷◌}
+use Rattle.std.proofs.Common.{◌≡◌, ℕ, zero, suc, ◌+◌, ◌*◌, ◌<◌, ◌≤◌, Bool, true, false, ◌&&◌, ◌||◌, eqb, ltb, List, [], ◌∷◌}
 use Rattle.std.proofs.Common.{◌++◌, map, length, get_or, replicate, sym, refl, ap, ◌∙◌, ap₂, append-nil, add-zero, zero-add, add-one}
-use Rattle.std.proofs.Common.{arith, pow_mono, pow-add, ltb-false, ltb-true, le-ltb, lt-ltb, eq-eqb, ne_eqb, eqb-true}
+use Rattle.std.proofs.Common.{arith, ltb-false, ltb-true, le-ltb, lt-ltb, eq-eqb, ne_eqb, eqb-true}
+use Rattle.std.specs.Int.{w64, from_be_bytes}
 use mathlib.Core.List.{map-append}
 use mathlib.Core.Bool.{and-false, or-false}
 use lib.Bits.{bit_and, and_le_r}
@@ -11,7 +12,7 @@ use Rattle.rules.proofs.Bools.{same_test}
 use Rattle.rules.proofs.01-Lists.{same_bytes_is, same_bytes_refl, before_connected}
 use Rattle.rows.specs.declared.order.Key.{Key}
 use Rattle.rows.specs.Rows.{part, row_at, Rising}
-use Rattle.rows.specs.Order.{fold, folded, front, number, low_first, number_passed, Climbs, Small, Low, Folded, numbers_of, Keyed}
+use Rattle.rows.specs.Order.{fold, folded, front, number, number_passed, Climbs, Small, Low, Folded, numbers_of, Keyed}
 use Rattle.rows.proofs.Rows.{part_byte}
 use Rattle.rows.proofs.Scan.{part_cons, length_part}
 use Rattle.rows.proofs.TableLaws.{row_fits}
@@ -233,74 +234,20 @@ module _ (b : List ℕ) (at : ℕ) where
         part_cons b (at + 3) 1 0 (omega arith) refl,
       ) (four (get_or b at 0) (get_or b (at + 1) 0) (get_or b (at + 2) 0) (get_or b (at + 3) 0))
 
--- ---- a number read byte by byte
+-- ---- the number of eight bytes
 
-module _ (i x : ℕ) (few : i < 8) (room : x < 2 ^ (8 * i)) where
-  wide : 2 ^ (8 * (i + 1)) ≡ 2 ^ (8 * i) * 256
-  wide =
-      let more : 8 * (i + 1) ≡ 8 * i + 8 = omega arith in
-      ap (λ (k : ℕ). 2 ^ k) more ∙ pow-add 2 (8 * i) 8
+eight_bytes : (l : List ℕ) → length l ≡ 8 → from_be_bytes w64 l ≡ number 0 l
+unfolding number
+eight_bytes [] e = absurd (omega arith)
+eight_bytes (a ∷ []) e = absurd (omega arith)
+eight_bytes (a ∷ b ∷ []) e = absurd (omega arith)
+eight_bytes (a ∷ b ∷ c ∷ []) e = absurd (omega arith)
+eight_bytes (a ∷ b ∷ c ∷ d ∷ []) e = absurd (omega arith)
+eight_bytes (a ∷ b ∷ c ∷ d ∷ f ∷ []) e = absurd (omega arith)
+eight_bytes (a ∷ b ∷ c ∷ d ∷ f ∷ g ∷ []) e = absurd (omega arith)
+eight_bytes (a ∷ b ∷ c ∷ d ∷ f ∷ g ∷ h ∷ []) e = absurd (omega arith)
+eight_bytes (a ∷ b ∷ c ∷ d ∷ f ∷ g ∷ h ∷ i ∷ []) e = omega arith
+eight_bytes (a ∷ b ∷ c ∷ d ∷ f ∷ g ∷ h ∷ i ∷ j ∷ l) e = absurd (omega arith)
 
-  pub next_room : (c : ℕ) → c < 256 → x * 256 + c < 2 ^ (8 * (i + 1))
-  next_room c h = omega (arith, wide)
-
-  pub next_fits : (c : ℕ) → c < 256 → x * 256 + c < 2 ^ 64
-  next_fits c h =
-      let most : 8 * (i + 1) ≤ 64 = omega arith in
-      omega (arith, next_room c h, pow_mono most)
-
-module _ (b : List ℕ) (at i x : ℕ) where
-  pub next_number : i < 8 → at + 8 ≤ length b
-      → number x (part b (at + i) (8 - i)) ≡ number (x * 256 + get_or b (at + i) 0) (part b (at + (i + 1)) (8 - (i + 1)))
-  unfolding number
-  next_number few h =
-      let one : 8 - i ≡ suc (8 - (i + 1)) = omega arith in
-      let next : at + i + 1 ≡ at + (i + 1) = omega arith in
-      rw (part_cons b (at + i) (8 - i) (8 - (i + 1)) (omega arith) one, next)
-
-  pub number_end : 8 ≤ i → number x (part b (at + i) (8 - i)) ≡ x
-  unfolding number
-  number_end h = let none : 8 - i ≡ 0 = omega arith in rw none
-
-pub number_start : (b : List ℕ) (at : ℕ) → number 0 (part b at 8) ≡ number 0 (part b (at + 0) (8 - 0))
-number_start b at = rw (add-zero at)
-
--- ---- bytes in one number, the first lowest
-
--- as many bytes in the same number are the same
-low_first_same : (l m : List ℕ) → length l ≡ length m → Small l → Small m → low_first l ≡ low_first m → l ≡ m
-unfolding low_first
-low_first_same [] [] e s t h = refl
-low_first_same [] (d ∷ m) e s t h = absurd (omega arith)
-low_first_same (c ∷ l) [] e s t h = absurd (omega arith)
-low_first_same (c ∷ l) (d ∷ m) e s t h =
-    let small : c < 256 = s 0 (omega arith) in
-    let small_too : d < 256 = t 0 (omega arith) in
-    let rest : l ≡ m = low_first_same l m (omega arith) (small_rest c l s) (small_rest d m t) (omega arith) in
-    let here : c ≡ d = omega arith in
-    ap₂ ◌∷◌ here rest
-
-pub eight_same : (b : List ℕ) (a c : ℕ) → ((i : ℕ) → get_or b i 0 < 256) → a + 8 ≤ length b → c + 8 ≤ length b
-    → low_first (part b a 8) ≡ low_first (part b c 8) → part b a 8 ≡ part b c 8
-eight_same b a c s h l =
-    low_first_same (part b a 8) (part b c 8) (length_part b a 8 h ∙ sym (length_part b c 8 l)) (small_part b a 8 s h) (small_part b c 8 s l)
-
--- read from the last byte on
-module _ (i : ℕ) (more : 0 < i) (most : i ≤ 8) where
-  pub low_first_room : (x : ℕ) → x < 2 ^ (8 * (8 - i)) → (c : ℕ) → c < 256 → x * 256 + c < 2 ^ (8 * (8 - (i - 1)))
-  low_first_room x room c h =
-      let one : 8 - (i - 1) ≡ 8 - i + 1 = omega arith in
-      rw one (next_room (8 - i) x (omega arith) room c h)
-
-  pub low_first_next : (b : List ℕ) (at : ℕ) → at + 8 ≤ length b
-      → low_first (part b (at + i) (8 - i)) * 256 + get_or b (at + (i - 1)) 0 ≡ low_first (part b (at + (i - 1)) (8 - (i - 1)))
-  unfolding low_first
-  low_first_next b at h =
-      let one : 8 - (i - 1) ≡ suc (8 - i) = omega arith in
-      let next : at + (i - 1) + 1 ≡ at + i = omega arith in
-      rw (part_cons b (at + (i - 1)) (8 - (i - 1)) (8 - i) (omega arith) one, next)
-
-pub low_first_end : (b : List ℕ) (at i : ℕ) → i ≤ 0 → low_first (part b (at + i) (8 - i)) ≡ low_first (part b at 8)
-low_first_end b at i h =
-    let none : i ≡ 0 = omega arith in
-    rw (none, add-zero at)
+pub number_eight : (b : List ℕ) (at : ℕ) → at + 8 ≤ length b → from_be_bytes w64 (part b at 8) ≡ number 0 (part b at 8)
+number_eight b at h = eight_bytes (part b at 8) (length_part b at 8 h)

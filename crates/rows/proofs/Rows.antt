@@ -2,6 +2,7 @@
 use Rattle.std.proofs.Common.{◌≡◌, ℕ, zero, suc, ◌+◌, ◌-◌, ◌*◌, ◌<◌, ◌≤◌, Bool, true, false, cond, List, [], ◌∷◌, ◌++◌, length, get_or}
 use Rattle.std.proofs.Common.{take, drop, replicate, sym, refl, ap, ◌∙◌, ⊎_elim, append_assoc, suc-mul, zero-mul, arith, length-drop}
 use Rattle.std.proofs.Common.{take-append-drop, get_or-drop, get_or-take, take-take, drop-drop, take_at, drop_at}
+use Rattle.std.specs.Simd.{first_chunks}
 use mathlib.Core.List.Memᴰ
 use lib.ListN.{replicate-append-replicate}
 use lib.Seq.{take-append-le, drop-append-le, take-nil}
@@ -33,6 +34,12 @@ part_part b at n j v h =
 -- what stands from the next row on
 row_suc : (w : ℕ) (l : List ℕ) (k : ℕ) → drop (suc k * w) l ≡ drop (k * w) (drop w l)
 row_suc w l k = let e : suc k * w ≡ w + k * w = suc-mul k w ∙ omega arith in rw e (sym (drop-drop (k * w) w l))
+
+-- chunk k of those that a slice is cut into
+pub chunk_at : (w n : ℕ) (l : List ℕ) (k : ℕ) (d : List ℕ) → k < n → get_or (first_chunks w n l) k d ≡ part l (k * w) w
+chunk_at w zero l k d h = absurd (omega arith)
+chunk_at w (suc n) l zero d h = rw (zero-mul w)
+chunk_at w (suc n) l (suc k) d h = chunk_at w n (drop w l) k d (omega arith) ∙ ap (take w) (sym (row_suc w l k))
 
 module _ {A : Type 0} (w : ℕ) (read : List ℕ → A) where
   pub length_rows : (n : ℕ) (l : List ℕ) → length (rows w read n l) ≡ n

@@ -1,12 +1,13 @@
 -- What loops over bytes need: a part's first byte, bytes that are all zero, rows that rise, counts. Assumes nothing.
-use Rattle.std.proofs.Common.{◌≡◌, ℕ, zero, suc, ◌+◌, ◌-◌, ◌*◌, ◌<◌, ◌≤◌, Bool, true, false, ltb, List, ◌∷◌, length, get_or, take, drop, replicate}
+use Rattle.std.proofs.Common.{◌≡◌, ℕ, zero, suc, ◌+◌, ◌-◌, ◌*◌, ◌<◌, ◌≤◌, Bool, true, false, not, eqb, ltb, List, ◌∷◌, length, get_or, take, drop, replicate}
 use Rattle.std.proofs.Common.{sym, refl, ap, ◌∙◌, subst, true≢false, add-zero, add-one, arith, length-drop, length-take, drop-cons, drop-drop}
 use Rattle.std.proofs.Common.{ltb-false, ltb-true}
+use lib.Dec.{eqb-suc-zero}
 use lib.ListN.{length-replicate, get_or-replicate, get_or-eq_default}
 use Rattle.rules.specs.01-Lists.{same_bytes, bytes_before}
 use Rattle.rules.proofs.01-Lists.{same_bytes_is, same_bytes_refl, before_transitive, before_first}
 use Rattle.name_fields.specs.Field.{blank_field}
-use Rattle.rows.specs.Rows.{part, row_at, Rising, Filled, ZeroFirst, Parted, Halved, Counted, Level, filled}
+use Rattle.rows.specs.Rows.{part, Rising, Filled, Parted, Halved, TurnsAt, Counted, Level, filled}
 use Rattle.rows.specs.Decides.{Decides}
 use Rattle.rows.proofs.Rows.{part_byte, filled_is}
 use Rattle.rows.proofs.Decides.{decides_iff, decides_test}
@@ -81,14 +82,9 @@ rising_level b first stride n rest r i j h k =
 pub first_used : (b : List ℕ) (at w : ℕ) → 0 < w → (get_or b at 0 ≡ 0 → ⊥) → part b at w ≡ replicate w 0 → ⊥
 first_used b at w h n e = n (rw (add-zero at) at (sym (part_byte b at w 0 h) ∙ ap (λ (l : List ℕ). get_or l 0 0) e ∙ get_or-replicate w 0 0 0 h))
 
--- rows that are used, and behind them those that do not begin with 0
-pub used_past : {b : List ℕ} {start w n from r : ℕ} → 0 < w → ZeroFirst b start w n from r
-    → ((k : ℕ) → k < from → row_at b start w k ≡ replicate w 0 → ⊥) → (k : ℕ) → k < r → row_at b start w k ≡ replicate w 0 → ⊥
-used_past {b} {start} {w} {n} {from} {r} h z before k l = go (ltb k from) refl
-  where
-    go : (t : Bool) → ltb k from ≡ t → row_at b start w k ≡ replicate w 0 → ⊥
-    go true e = before k (ltb-true k from e)
-    go false e = first_used b (start + k * w) w h (z.others k (ltb-false k from e) l)
+zero_told : (c : ℕ) → false ≡ not (eqb c 0) → c ≡ 0
+zero_told zero e = refl
+zero_told (suc c) e = absurd (true≢false (sym (e ∙ rw (eqb-suc-zero c))))
 
 pub counted : (b : List ℕ) (start w n r : ℕ) → Filled b start w n r → Counted (filled w n (drop start b)) n r
 counted b start w n r h = record {
@@ -103,41 +99,24 @@ pub room_zero : (b : List ℕ) (from to k : ℕ) (r : Bool) → to - from ≡ k 
     → Decides (part b from k ≡ replicate k 0) r
 room_zero b from to k r e d = subst (λ (m : ℕ). Decides (part b from m ≡ replicate m 0) r) e d
 
--- ---- halving: where the rows part, they part between low and high
+-- ---- where the rows part, the two bytes beside a place tell for their sides
 
-pub record Halving (b : List ℕ) (first w n low high : ℕ) : Type 0 where
-  pub order : low ≤ high
-  pub most : high ≤ n
-  pub around : (k : ℕ) → Parted b first w n k → (low ≤ k) × (k ≤ high)
+pub halved_told : {b : List ℕ} {first w n r : ℕ} → TurnsAt (λ i t. t ≡ not (eqb (get_or b (first + i * w) 0) 0)) n r → Halved b first w n r
+halved_told {b} {first} {w} {n} {r} x = record {
+  fits = x.fits;
+  is = λ k p. go k p (ltb r k) refl (ltb k r) refl;
+}
+  where
+    byte : ℕ → ℕ
+    byte i = get_or b (first + i * w) 0
 
-pub halving_start : (b : List ℕ) (first w n : ℕ) → Halving b first w n 0 n
-halving_start b first w n = record { order = omega arith; most = omega arith; around = λ k p. (omega arith, p.fits) }
-
-module _ {b : List ℕ} {first w n low high : ℕ} (h : Halving b first w n low high) where
-  pub halving_up : (mid : ℕ) → low ≤ mid → mid < high → (get_or b (first + mid * w) 0 ≡ 0 → ⊥) → Halving b first w n (mid + 1) high
-  halving_up mid l m used = record {
-    order = omega arith;
-    most = h.most;
-    around = λ k p. (go k p (ltb mid k) refl, (h.around k p).1);
-  }
-    where
-      go : (k : ℕ) → Parted b first w n k → (t : Bool) → ltb mid k ≡ t → mid + 1 ≤ k
-      go k p true q = omega (arith, ltb-true mid k q)
-      go k p false q = absurd (used (p.free mid (ltb-false mid k q) (omega (arith, h.most))))
-
-  pub halving_down : (mid : ℕ) → low ≤ mid → mid < high → get_or b (first + mid * w) 0 ≡ 0 → Halving b first w n low mid
-  halving_down mid l m free = record {
-    order = l;
-    most = omega (arith, h.most);
-    around = λ k p. ((h.around k p).0, go k p (ltb mid k) refl);
-  }
-    where
-      go : (k : ℕ) → Parted b first w n k → (t : Bool) → ltb mid k ≡ t → k ≤ mid
-      go k p true q = absurd (p.used mid (ltb-true mid k q) free)
-      go k p false q = ltb-false mid k q
-
-  pub halving_met : high ≤ low → Halved b first w n low
-  halving_met m = record {
-    fits = omega (arith, h.order, h.most);
-    is = λ k p. omega (arith, h.around k p);
-  }
+    go : (k : ℕ) → Parted b first w n k → (t : Bool) → ltb r k ≡ t → (u : Bool) → ltb k r ≡ u → r ≡ k
+    go k p true e u f =
+        let less = ltb-true r k e in
+        let there : false ≡ not (eqb (byte r) 0) = x.next (omega (arith, p.fits)) in
+        absurd (p.used r less (zero_told (byte r) there))
+    go k p false e true f =
+        let more = ltb-true k r f in
+        let there : true ≡ not (eqb (byte (r - 1)) 0) = x.last (r - 1) (omega arith) in
+        absurd (true≢false (there ∙ ap (λ (c : ℕ). not (eqb c 0)) (p.free (r - 1) (omega arith) (omega (arith, x.fits)))))
+    go k p false e false f = omega (arith, ltb-false r k e, ltb-false k r f)

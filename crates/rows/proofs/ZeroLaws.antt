@@ -1,16 +1,21 @@
 -- Laws of bytes that are zero, many at a time: no bit is set in them. Assumes nothing.
-use Rattle.std.proofs.Common.{◌≡◌, ℕ, zero, suc, ◌+◌, ◌-◌, ◌*◌, ◌%◌, ◌^◌, ◌<◌, ◌≤◌, Bool, true, false, ◌&&◌, eqb, List, [], ◌∷◌, ◌++◌, length, get_or}
-use Rattle.std.proofs.Common.{take, drop, replicate, sym, refl, ap, ◌∙◌, add-zero, mul-pos, zero-mul, add-one, arith, drop-drop, take-add, pow_pos}
-use Rattle.std.proofs.Common.{shl_exact, eq-eqb, ne_eqb}
+use Rattle.std.proofs.Common.{◌≡◌, ℕ, zero, suc, ◌+◌, ◌-◌, ◌*◌, ◌<◌, ◌≤◌, Bool, true, false, ◌&&◌, eqb, List, [], ◌∷◌, ◌++◌, length, get_or}
+use Rattle.std.proofs.Common.{take, drop, replicate, sym, refl, ap, ◌∙◌, add-one, arith, drop-drop, take-add}
+use Rattle.std.proofs.Common.{eq-eqb}
+use Rattle.std.proofs.Common.{take-append-drop, take-take, ltb, ltb-true, ltb-false, eqb-true}
+use Rattle.std.specs.Int.{w64, from_le_bytes, to_le_bytes}
+use Rattle.std.proofs.lemmas.Nat.{le_bytes_8}
+use lib.ListN.{get_or-eq_default}
+use Rattle.rules.proofs.01-Lists.{same_bytes_is, same_bytes_refl}
 use mathlib.Core.Bool.{and_assoc}
-use lib.Dec.{eqb-suc-zero, eqb-zero-suc}
 use lib.Bits.{bit_or}
 use Rattle.rules.specs.01-Lists.{same_bytes}
 use Rattle.name_fields.specs.Field.{blank_field}
 use Rattle.name_fields.proofs.FieldLaws.{or_zero}
 use Rattle.rows.specs.Rows.{part, blank_eights, NoBit}
 use Rattle.rows.specs.Decides.{Decides}
-use Rattle.rows.proofs.Scan.{part_cons, zeros_blank}
+use Rattle.rows.proofs.Rows.{part_byte}
+use Rattle.rows.proofs.Scan.{length_part, zeros_blank}
 
 -- ---- bits
 
@@ -32,16 +37,6 @@ no_bit_crossed x y v w p q = record { is = crossed ∙ (no_bit_both p q).is }
         rw (or_zero (bit_or x v) (bit_or y w), or_zero x v, or_zero y w, or_zero (bit_or x y) (bit_or v w), or_zero x y, or_zero v w)
         (and_swap (eqb x 0) (eqb v 0) (eqb y 0) (eqb w 0))
 
--- a byte shifted within a word keeps its bits
-shifted_none : (x k : ℕ) → x < 256 → 8 + k ≤ 64 → eqb (x * 2 ^ k % 2 ^ 64) 0 ≡ eqb x 0
-shifted_none x k s h = ap (λ (n : ℕ). eqb n 0) (shl_exact 8 k 64 s h) ∙ go x
-  where
-    go : (n : ℕ) → eqb (n * 2 ^ k) 0 ≡ eqb n 0
-    go zero = rw (zero-mul (2 ^ k))
-    go (suc n) =
-        let filled : 0 < suc n * 2 ^ k = mul-pos (omega arith) (pow_pos k) in
-        ne_eqb (suc n * 2 ^ k) 0 (λ z. omega arith) ∙ sym (eqb-suc-zero n)
-
 -- ---- parts
 
 blank_append : (l m : List ℕ) → blank_field (l ++ m) ≡ (blank_field l && blank_field m)
@@ -50,14 +45,6 @@ blank_append [] m = refl
 blank_append (c ∷ l) m = ap (λ (t : Bool). eqb 0 c && t) (blank_append l m) ∙ sym (and_assoc (eqb 0 c) (blank_field l) (blank_field m))
 
 module _ (b : List ℕ) where
-  blank_byte : (at : ℕ) → at < length b → eqb (get_or b at 0) 0 ≡ blank_field (part b at 1)
-  unfolding blank_field same_bytes
-  blank_byte at h = rw (part_cons b at 1 0 h refl) (go (get_or b at 0))
-    where
-      go : (c : ℕ) → eqb c 0 ≡ (eqb 0 c && true)
-      go zero = refl
-      go (suc c) = rw (eqb-suc-zero c, eqb-zero-suc c)
-
   -- a part, and what stands behind it
   blank_split : (at n m : ℕ) → blank_field (part b at (n + m)) ≡ (blank_field (part b at n) && blank_field (part b (at + n) m))
   blank_split at n m =
@@ -66,30 +53,45 @@ module _ (b : List ℕ) where
 
   -- ---- eight bytes
 
-  -- the bits of the byte at `at` and of n more, each eight places above those of the byte before it
-  abbrev pub bits_from : ℕ → ℕ → ℕ
-  bits_from at zero = get_or b at 0
-  bits_from at (suc n) = bit_or (bits_from at n) (get_or b (at + suc n) 0 * 2 ^ (8 * suc n) % 2 ^ 64)
+  pub eight_blank : (at : ℕ) {r : ℕ} → ((i : ℕ) → get_or b i 0 < 256) → at + 8 ≤ length b → r ≡ from_le_bytes w64 (part b at 8)
+      → NoBit (blank_field (part b at 8)) r
+  unfolding blank_field
+  eight_blank at {r} s h e = record { is = go (eqb r 0) refl (same_bytes (replicate 8 0) l) refl ∙ rw long refl }
+    where
+      l : List ℕ
+      l = part b at 8
 
-  pub bits_blank : (at n : ℕ) → ((i : ℕ) → get_or b i 0 < 256) → n < 8 → at + n < length b → NoBit (blank_field (part b at (suc n))) (bits_from at n)
-  bits_blank at zero s h l = record { is = blank_byte at (omega arith) }
-  bits_blank at (suc n) s h l =
-      let last = get_or b (at + suc n) 0 in
-      let one : NoBit (blank_field (part b (at + suc n) 1)) (last * 2 ^ (8 * suc n) % 2 ^ 64)
-      = record { is = shifted_none last (8 * suc n) (s (at + suc n)) (omega arith) ∙ blank_byte (at + suc n) l } in
-      rw (← add-one (suc n), blank_split at (suc n) 1) (no_bit_both (bits_blank at n s (omega arith) (omega arith)) one)
+      long : length l ≡ 8
+      long = length_part b at 8 h
+
+      back : to_le_bytes w64 r ≡ l
+      back = le_bytes_8 l r long (λ i. small_at i (ltb i 8) refl) e
+        where
+          small_at : (i : ℕ) (t : Bool) → ltb i 8 ≡ t → get_or l i 0 < 256
+          small_at i true q = rw (part_byte b at 8 i (ltb-true i 8 q)) (s (at + i))
+          small_at i false q = rw (get_or-eq_default l 0 {n = i} (omega (arith, ltb-false i 8 q, long))) (omega arith)
+
+      go : (t : Bool) → eqb r 0 ≡ t → (u : Bool) → same_bytes (replicate 8 0) l ≡ u → t ≡ u
+      go true p true q = refl
+      go true p false q =
+          let zeros : l ≡ replicate 8 0 = sym back ∙ ap (to_le_bytes w64) (eqb-true r 0 p) in
+          sym (sym q ∙ rw zeros (same_bytes_refl (replicate 8 0)))
+      go false p true q =
+          let none : r ≡ 0 = e ∙ ap (from_le_bytes w64) (sym (same_bytes_is (replicate 8 0) l q)) in
+          sym p ∙ eq-eqb r 0 none
+      go false p false q = refl
 
   -- ---- eight bytes in every sixteen
 
   module _ (at : ℕ) where
-    pub eights_one : {x : ℕ} → NoBit (blank_field (part b at 8)) x → NoBit (blank_eights b at 1) x
+    pub eights_none : NoBit (blank_eights b at 0) 0
     unfolding blank_eights
-    eights_one p = record { is = rw (add-zero at) p.is }
+    eights_none = record { is = refl }
 
     pub eights_more : (n : ℕ) {x y : ℕ} → NoBit (blank_eights b at n) x → NoBit (blank_field (part b (at + n * 16) 8)) y
-        → NoBit (blank_eights b at (suc n)) (bit_or x y)
+        → NoBit (blank_eights b at (n + 1)) (bit_or x y)
     unfolding blank_eights
-    eights_more n p q = no_bit_both p q
+    eights_more n p q = rw (add-one n) (no_bit_both p q)
 
     -- these and those between them are all
     eights_all : (n : ℕ) → (blank_eights b at n && blank_eights b (at + 8) n) ≡ blank_field (part b at (n * 16))
@@ -106,44 +108,31 @@ module _ (b : List ℕ) where
         ∙ sym (blank_split at (n * 16) 16)
         ∙ ap (λ (k : ℕ). blank_field (part b at k)) more
 
-  -- ---- the bytes from `from` on: what is passed and what is left
+-- ---- 128 bytes at a time: what is passed and what is left
 
-  pub passed_none : (from : ℕ) → NoBit (blank_field (part b from (from - from))) 0
-  unfolding blank_field same_bytes
-  passed_none from = let none : from - from ≡ 0 = omega arith in record { is = rw none }
+pub passed_none : (l : List ℕ) → NoBit (blank_field (take (0 * 128) l)) 0
+unfolding blank_field same_bytes
+passed_none l = record { is = refl }
 
-  module _ (from at : ℕ) (h : from ≤ at) where
-    -- what is passed, and n bytes more
-    passed_next : (n : ℕ) → blank_field (part b from ((at + n) - from)) ≡ (blank_field (part b from (at - from)) && blank_field (part b at n))
-    passed_next n =
-        let long : (at + n) - from ≡ (at - from) + n = omega arith in
-        let there : from + (at - from) ≡ at = omega arith in
-        ap (λ (k : ℕ). blank_field (part b from k)) long
-        ∙ blank_split from (at - from) n
-        ∙ ap (λ (k : ℕ). blank_field (part b from (at - from)) && blank_field (part b k n)) there
+pub passed_more : (l : List ℕ) (k even odd : ℕ) (block : List ℕ) {x y : ℕ} → block ≡ part l (k * 128) 128
+    → NoBit (blank_field (take (k * 128) l)) (bit_or even odd) → NoBit (blank_eights block 0 8) x → NoBit (blank_eights block 8 8) y
+    → NoBit (blank_field (take ((k + 1) * 128) l)) (bit_or (bit_or even x) (bit_or odd y))
+passed_more l k even odd block {x} {y} is p q r =
+    let long : (k + 1) * 128 ≡ k * 128 + 128 = omega arith in
+    let whole : part block 0 128 ≡ part l (k * 128) 128 = ap (take 128) is ∙ take-take 128 128 (drop (k * 128) l) (omega arith) in
+    let here : blank_field (part l (k * 128) 128) ≡ (blank_eights block 0 8 && blank_eights block 8 8)
+    = sym (eights_all block 0 8 ∙ ap blank_field whole) in
+    let both : blank_field (take ((k + 1) * 128) l) ≡ (blank_field (take (k * 128) l) && (blank_eights block 0 8 && blank_eights block 8 8))
+    = ap (λ (n : ℕ). blank_field (take n l)) long ∙ ap blank_field (take-add (k * 128) 128 l)
+    ∙ blank_append (take (k * 128) l) (part l (k * 128) 128) ∙ ap (λ (t : Bool). blank_field (take (k * 128) l) && t) here in
+    rw both (no_bit_crossed even odd x y p (no_bit_both q r))
 
-    pub passed_more : (even odd : ℕ) {x y : ℕ} → NoBit (blank_field (part b from (at - from))) (bit_or even odd)
-        → NoBit (blank_eights b at 8) x → NoBit (blank_eights b (at + 8) 8) y
-        → NoBit (blank_field (part b from ((at + 128) - from))) (bit_or (bit_or even x) (bit_or odd y))
-    passed_more even odd {x} {y} p q r =
-        let more : NoBit (blank_field (part b at 128)) (bit_or x y) = rw (← eights_all at 8) (no_bit_both q r) in
-        rw (passed_next 128) (no_bit_crossed even odd x y p more)
+-- no bit was met, and what is left is zero
+pub passed_tells : (l : List ℕ) (n bits : ℕ) → NoBit (blank_field (take n l)) bits → blank_field l ≡ (eqb bits 0 && blank_field (drop n l))
+passed_tells l n bits p =
+    ap blank_field (sym (take-append-drop n l)) ∙ blank_append (take n l) (drop n l) ∙ ap (λ (t : Bool). t && blank_field (drop n l)) (sym p.is)
 
-    module _ (to bits : ℕ) (l : at ≤ to) (m : to ≤ length b) (p : NoBit (blank_field (part b from (at - from))) bits) where
-      -- a bit was met, or what is left tells
-      left_tells : blank_field (part b from (to - from)) ≡ (eqb bits 0 && blank_field (part b at (to - at)))
-      left_tells =
-          let there : at + (to - at) ≡ to = omega arith in
-          ap (λ (k : ℕ). blank_field (part b from (k - from))) (sym there)
-          ∙ passed_next (to - at)
-          ∙ ap (λ (t : Bool). t && blank_field (part b at (to - at))) (sym p.is)
-
-      pub zeros_broken : (bits ≡ 0 → ⊥) → Decides (part b from (to - from) ≡ replicate (to - from) 0) false
-      zeros_broken n =
-          zeros_blank b from to false (omega arith) m
-          (sym (left_tells ∙ ap (λ (t : Bool). t && blank_field (part b at (to - at))) (ne_eqb bits 0 n)))
-
-      pub zeros_left : (r : Bool) → bits ≡ 0 → r ≡ blank_field (part b at (to - at)) → Decides (part b from (to - from) ≡ replicate (to - from) 0) r
-      zeros_left r z e =
-          zeros_blank b from to r (omega arith) m
-          (sym (left_tells ∙ ap (λ (t : Bool). t && blank_field (part b at (to - at))) (eq-eqb bits 0 z) ∙ sym e))
+pub zeros_told : (b : List ℕ) (from to n bits : ℕ) (r : Bool) → (from ≤ to) × (to ≤ length b)
+    → NoBit (blank_field (take n (part b from (to - from)))) bits → r ≡ (eqb bits 0 && blank_field (drop n (part b from (to - from))))
+    → Decides (part b from (to - from) ≡ replicate (to - from) 0) r
+zeros_told b from to n bits r h p e = zeros_blank b from to r h.0 h.1 (e ∙ sym (passed_tells (part b from (to - from)) n bits p))

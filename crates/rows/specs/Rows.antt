@@ -1,5 +1,5 @@
 -- The bytes of rows, over any start and width.
-use Rattle.std.specs.Prelude.{◌≡◌, ℕ, zero, suc, ◌+◌, ◌*◌, ◌<◌, ◌≤◌, Bool, true, cond, ◌&&◌, List, [], ◌∷◌, take, drop, replicate, ◌≢◌, nat_eq, slice_index}
+use Rattle.std.specs.Prelude.{◌≡◌, ℕ, zero, suc, ◌+◌, ◌*◌, ◌<◌, ◌≤◌, Bool, true, false, cond, ◌&&◌, List, [], ◌∷◌, take, drop, replicate, ◌≢◌, nat_eq, slice_index}
 use Rattle.rules.specs.01-Lists.{same_bytes, bytes_before}
 use Rattle.name_fields.specs.Field.{blank_field}
 
@@ -41,11 +41,11 @@ pub record Filled (b : List ℕ) (start w n r : ℕ) : Type 0 where
   pub used : (k : ℕ) → k < r → row_at b start w k ≢ replicate w 0
   pub free : r < n → row_at b start w r ≡ replicate w 0
 
--- r is the first of n rows, from row `from` on, that begins with 0, and n where none does
-pub record ZeroFirst (b : List ℕ) (start w n from r : ℕ) : Type 0 where
-  pub after : from ≤ r
+-- of the numbers below n those below r pass and no other, as far as the two beside r tell
+pub record TurnsAt (told : ℕ → Bool → Type 0) (n r : ℕ) : Type 0 where
   pub fits : r ≤ n
-  pub others : (k : ℕ) → from ≤ k → k < r → slice_index b (start + k * w) ≢ 0
+  pub last : (k : ℕ) → r ≡ k + 1 → told k true
+  pub next : r < n → told r false
 
 -- of n rows of width w the first k have a byte that is not 0 in a certain place, and no other has; that of row 0 stands at `first`
 pub record Parted (b : List ℕ) (first w n k : ℕ) : Type 0 where

@@ -1,7 +1,12 @@
 -- "A refusal is given exactly when its condition holds and no lower number's does." Each condition of 01's table, as 02 amends it, is
 -- defined here, once, under its number; 10-Changes and 11-Asks put them in order. Number 1 is said in 12-Contracts, for all calls.
-use Rattle.std.specs.Prelude.{ℕ, ◌+◌, List, [], ◌∷◌, Bool, false, not, cond, ◌&&◌, ◌||◌, leb, ltb, eqb, length, get_or}
+use Rattle.std.specs.Prelude.{ℕ, ◌+◌, List, [], ◌∷◌, Bool, false, not, cond, ◌&&◌, ◌||◌, leb, ltb, eqb, length, get_or, Result, Ok, Err}
 use Rattle.rules.specs.declared.Answer.{Answer}
+use Rattle.rules.specs.declared.Done.{Done}
+use Rattle.rules.specs.declared.Refused.{Refused}
+use Rattle.rules.specs.declared.Refused.TheVariants.{NotSound, UnknownSds, SystemSds, Malformed, UnknownCode, NoSuchType, WrongKind, Repeated}
+use Rattle.rules.specs.declared.Refused.TheVariants.{AlreadyThere, NameTaken, SdsInUse, NotThere, NoRoom, ShortOutput, ChildPresent}
+use Rattle.rules.specs.declared.Refused.TheVariants.{ApplicationPresent, EndPresent, UnknownMode, MalformedFile, UnsoundFile}
 use Rattle.rules.specs.01-Lists.{any, numbers}
 use Rattle.rules.specs.02-Limits.{limits}
 use Rattle.rules.specs.03-Names.{Name, well_formed, blank, same_name}
@@ -56,6 +61,58 @@ success one two three = record { no = 0; one = one; two = two; three = three }
 abbrev pub answer_of : {Made : Type 0} → Outcome Made → Answer
 answer_of (refused n value) = telling n value
 answer_of (done one two three made) = success one two three
+
+-- ---- what a call of the source returns, as such an answer
+
+-- 01's number of a refusal
+abbrev pub number_of : Refused → ℕ
+number_of NotSound = 1
+number_of UnknownSds = 2
+number_of SystemSds = 3
+number_of Malformed = 4
+number_of UnknownCode = 5
+number_of NoSuchType = 6
+number_of WrongKind = 7
+number_of Repeated = 8
+number_of AlreadyThere = 9
+number_of NameTaken = 11
+number_of (SdsInUse t) = 12
+number_of NotThere = 13
+number_of NoRoom = 14
+number_of ShortOutput = 15
+number_of (ChildPresent t) = 16
+number_of (ApplicationPresent t) = 17
+number_of (EndPresent t) = 18
+number_of UnknownMode = 19
+number_of (MalformedFile start) = 20
+number_of UnsoundFile = 21
+
+-- what it tells
+abbrev pub value_of : Refused → ℕ
+value_of (SdsInUse t) = t
+value_of (ChildPresent t) = t
+value_of (ApplicationPresent t) = t
+value_of (EndPresent t) = t
+value_of (MalformedFile start) = start
+value_of NotSound = 0
+value_of UnknownSds = 0
+value_of SystemSds = 0
+value_of Malformed = 0
+value_of UnknownCode = 0
+value_of NoSuchType = 0
+value_of WrongKind = 0
+value_of Repeated = 0
+value_of AlreadyThere = 0
+value_of NameTaken = 0
+value_of NotThere = 0
+value_of NoRoom = 0
+value_of ShortOutput = 0
+value_of UnknownMode = 0
+value_of UnsoundFile = 0
+
+abbrev pub answered : Result Done Refused → Answer
+answered (Ok values) = success values.0 values.1 values.2
+answered (Err r) = telling (number_of r) (value_of r)
 
 -- ---- 2 "an SDS number over 15 or unused"
 

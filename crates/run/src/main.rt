@@ -5,8 +5,8 @@ ghost use Rattle.std.specs.Prelude.{◌≡◌, length};
 ghost use Rattle.rules.specs.07-Picture.{base_length};
 
 use base::Base;
-use run_words::Line;
 use run_words::input::Input;
+use run_words::line::Line;
 use std::io;
 use std::io::{Read, Write};
 
@@ -19,43 +19,28 @@ fn answer<W: Write>(writer: &mut W, base: &mut [u8], line: &[u8], out: &mut [u8]
     writer.write_all(b"\n")
 }
 
-// Nothing that is typed stops it but the end of the input; a write that fails does. The turns are counted down as `next_line` does it.
+// Nothing that is typed stops it but the end of the input; a write that fails does. The turns are as many as `next_line` has.
 fn answer_all<R: Read, W: Write>(
     reader: &mut R,
     writer: &mut W,
     base: &mut [u8],
-    read: &mut [u8],
-    line: &mut [u8],
     out: &mut [u8],
 ) -> io::Result<()>
-    requires base_len { (length base.old ≡ base_length) × (length out.old ≡ 4096) }
-    requires read_len { (length read.old ≡ 4096) × (length line.old ≡ 128) }
+    requires { (length base.old ≡ base_length) × (length out.old ≡ 4096) }
 {
-    let mut input = Input::start();
-    let mut turns = u64::MAX;
-    while 0 < turns {
-        input = run_words::input::next_line(reader, read, line, input);
-        let n = input.kept;
-        if input.over && n == 0 {
+    let mut input = Input::new();
+    let mut line = Line::new();
+    for _ in 0..u64::MAX {
+        if !input.next_line(reader, &mut line) {
             return Ok(());
         }
-        answer(writer, base, &line[..n], out)?;
-        turns -= 1;
+        answer(writer, base, line.as_bytes(), out)?;
     }
     Ok(())
 }
 
 fn main(rt: HostRuntime) -> io::Result<()> {
     let mut base = Base::fresh();
-    let mut read = [0u8; 4096];
-    let mut line = [0u8; Line::KEPT];
     let mut out = [0u8; 4096];
-    answer_all(
-        &mut rt.stdin(),
-        &mut rt.stdout(),
-        &mut base,
-        &mut read,
-        &mut line,
-        &mut out,
-    )
+    answer_all(&mut rt.stdin(), &mut rt.stdout(), &mut base, &mut out)
 }

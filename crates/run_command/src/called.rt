@@ -13,23 +13,18 @@ fn is_called(base: &[u8], d: usize, name: &[u8]) -> bool
     requires { (length base.now ≡ base_length) × (d < limits.sdss) }
     ensures { result ≡ called (schema_of base.now) name.now d }
 {
-    if !lookup::sdss::is_sds(base, d) {
-        return false;
-    }
-    names::is_same(lookup::sdss::sds_name(base, d), name)
+    lookup::sdss::is_sds(base, d) && names::is_same(lookup::sdss::sds_name(base, d), name)
 }
 
-// The number of the SDS that bears the name, 16 where none does.
+// The number of the SDS that bears the name. No Option: 01 has it that an unknown one counts as number 16.
 pub fn sds_called(base: &[u8], name: &[u8]) -> usize
     requires { length base.now ≡ base_length }
     ensures { (result ≡ sds_called (schema_of base.now) name.now) × (result ≤ 16) }
 {
-    let mut d = 0;
-    while d < Limits::SDSS {
+    for d in 0..Limits::SDSS {
         if is_called(base, d, name) {
             return d;
         }
-        d += 1;
     }
     Limits::SDSS
 }

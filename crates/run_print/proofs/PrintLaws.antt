@@ -6,12 +6,13 @@ use mathlib.Core.Path.{◌≡◌, refl, sym, ap, ap₂, ◌∙◌, subst}
 use mathlib.Core.List.{List, [], ◌∷◌, ◌++◌, append_assoc, append-nil}
 use mathlib.Core.Bool.{Bool, true, false, cond}
 use lib.Dec.{ltb}
-use lib.ListN.{length, get_or, take, drop, set, length-append, length-take, length-drop, length-set}
-use lib.Seq.{take_at, take-suc, take-suc-set, take-length}
+use lib.ListN.{length, get_or, take, set, length-append, length-take, length-set}
+use lib.Seq.{take-suc, take-suc-set, take-length}
 use borrow.Author.Tests.{lt-ltb, le-ltb, ltb-true, ltb-false}
 use Rattle.rules.specs.12-Contracts.{entries}
 use Rattle.rules.specs.14-Run.{decimal, printed}
-use Rattle.rows.specs.Table.{written}
+use borrow.Rule.Slice.PartMut.{put_mid}
+use Rattle.std.proofs.lemmas.Slice.{take-put_mid}
 use Rattle.io.specs.Digits.{last_digits, IsDigitCount}
 use Rattle.run_print.specs.Print.{Printed, spaced, read_entries}
 
@@ -64,29 +65,17 @@ decimal_few (suc p) n = go (ltb n 10) (decimal_few p (n / 10))
 
 -- ---- bytes put down
 
-pub printed_written : (b l : List ℕ) (at : ℕ) → at + length l ≤ length b → Printed b at l (written b at l) (at + length l)
-unfolding written
-printed_written b l at h = record {
-  long = omega (
-    arith,
-    length-append (take at b) (l ++ drop (at + length l) b),
-    length-append l (drop (at + length l) b),
-    length-take at b,
-    length-drop (at + length l) b,
-  );
-  end = refl;
-  is = ap (take (at + length l)) (sym (append_assoc (take at b) l (drop (at + length l) b)))
-      ∙ take_at (take at b ++ l) (drop (at + length l) b) (at + length l) (omega (arith, length-append (take at b) l, length-take at b));
-}
-
-pub number_printed : (b l after : List ℕ) (at n k : ℕ) → at + 20 ≤ length b → n < 18446744073709551616 → IsDigitCount 10 1 n k → k ≡ length l → l ≡ last_digits 10 k n
-    → after ≡ written b at l → Printed b at (decimal 20 n) after (at + k)
-number_printed b l after at n k room small fewest long is w =
+-- a number's digits put down over what stood there
+pub number_printed : (b l : List ℕ) (at n k : ℕ) → at + 20 ≤ length b → n < 18446744073709551616 → IsDigitCount 10 1 n k → k ≡ length l
+    → l ≡ last_digits 10 k n → length (put_mid at (at + k - at) b l) ≡ length b → Printed b at (decimal 20 n) (put_mid at (at + k - at) b l) (at + k)
+number_printed b l at n k room small fewest long is whole =
     let few = places_few n k small fewest in
     let same : l ≡ decimal 20 n = is ∙ digits_decimal k 20 n few fewest.0 fewest.1 fewest.2 in
-    subst (λ (m : List ℕ). Printed b at m after (at + k)) same
-    (subst (λ (x : List ℕ). Printed b at l x (at + k)) (sym w)
-    (subst (λ (j : ℕ). Printed b at l (written b at l) (at + j)) (sym long) (printed_written b l at (omega (arith, long, few)))))
+    record {
+      long = whole;
+      end = omega (arith, long, ap length same);
+      is = take-put_mid at (at + k - at) b l (at + k) (omega (arith, long)) (omega arith) ∙ ap (λ (m : List ℕ). take at b ++ m) same;
+    }
 
 -- nothing
 pub printed_none : (b : List ℕ) (at : ℕ) → Printed b at [] b at
@@ -166,24 +155,24 @@ pub going_first : (out : List ℕ) (at : ℕ) (list : List ℕ) → Going out at
 unfolding spaced read_entries
 going_first out at list = record { so_far = printed_none out at; few = omega arith }
 
-pub going_next : {out₀ out out' list : List ℕ} {at i end r low high : ℕ} → Going out₀ at list i out end → low ≡ get_or list (i * 2) 0
-    → high ≡ get_or list (i * 2 + 1) 0 → Printed out end (32 ∷ decimal 20 (high * 256 + low)) out' r → Going out₀ at list (i + 1) out' r
+pub going_next : {out₀ out out' list : List ℕ} {at i end r n : ℕ} → Going out₀ at list i out end
+    → n ≡ get_or list (i * 2) 0 + get_or list (i * 2 + 1) 0 * 256
+    → Printed out end (32 ∷ decimal 20 n) out' r → Going out₀ at list (i + 1) out' r
 unfolding read_entries
-going_next {out₀} {out} {out'} {list} {at} {i} {end} {r} {low} {high} g e f p = record {
+going_next {out₀} {out} {out'} {list} {at} {i} {end} {r} {n} g e p = record {
   so_far = subst (λ (t : List ℕ). Printed out₀ at t out' r) (sym text) (printed_next g.so_far p);
-  few = omega (arith, g.few, p.end, decimal_few 20 (high * 256 + low));
+  few = omega (arith, g.few, p.end, decimal_few 20 n);
 }
   where
     next : i + 1 ≡ suc i
     next = omega arith
 
-    entry : get_or list (i * 2 + 1) 0 * 256 + get_or list (i * 2) 0 ≡ high * 256 + low
-    entry = ap₂ (λ (x y : ℕ). x * 256 + y) (sym f) (sym e)
+    entry : get_or list (i * 2 + 1) 0 * 256 + get_or list (i * 2) 0 ≡ n
+    entry = omega (arith, e)
 
-    text : spaced (read_entries list (i + 1)) ≡ spaced (read_entries list i) ++ (32 ∷ decimal 20 (high * 256 + low))
-    text = ap (λ (k : ℕ). spaced (read_entries list k)) next ∙ ap (λ (n : ℕ). spaced (read_entries list i ++ (n ∷ []))) entry
-        ∙ spaced_append (read_entries list i) ((high * 256 + low) ∷ [])
-        ∙ ap (λ (t : List ℕ). spaced (read_entries list i) ++ t) (spaced_one (high * 256 + low))
+    text : spaced (read_entries list (i + 1)) ≡ spaced (read_entries list i) ++ (32 ∷ decimal 20 n)
+    text = ap (λ (k : ℕ). spaced (read_entries list k)) next ∙ ap (λ (m : ℕ). spaced (read_entries list i ++ (m ∷ []))) entry
+        ∙ spaced_append (read_entries list i) (n ∷ []) ∙ ap (λ (t : List ℕ). spaced (read_entries list i) ++ t) (spaced_one n)
 
 pub going_all : {out₀ out list : List ℕ} {at i count end : ℕ} → Going out₀ at list i out end → i ≡ count
     → Printed out₀ at (spaced (read_entries list count)) out end

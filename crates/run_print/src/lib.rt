@@ -13,7 +13,7 @@ pub fn number(out: &mut [u8], at: usize, n: usize) -> usize
 {
     let mut text = [0u8; 20];
     let k = io::decimal(n as u64, &mut text);
-    rows::table::write(out, at, &text[..k]);
+    out[at..at + k].copy_from_slice(&text[..k]);
     at + k
 }
 
@@ -32,12 +32,9 @@ pub fn numbers(out: &mut [u8], at: usize, list: &[u8], count: usize) -> usize
     ensures { Printed out.old at (spaced (read_entries list.now count)) out.new result }
 {
     let mut end = at;
-    let mut i = 0;
-    while i < count {
-        let low = rows::wide(list[i * 2]);
-        let high = rows::wide(list[i * 2 + 1]);
-        end = next_number(out, end, high * 256 + low);
-        i += 1;
+    for i in 0..count {
+        let entry = u16::from_le_bytes([list[i * 2], list[i * 2 + 1]]);
+        end = next_number(out, end, usize::from(entry));
     }
     end
 }

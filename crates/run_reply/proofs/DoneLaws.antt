@@ -1,6 +1,7 @@
 -- Each command, by the contract of the call that it makes. Assumes nothing.
 use Prim.Native.Nat.{ℕ}
-use mathlib.Core.Path.{◌≡◌, sym, ap}
+use mathlib.Core.Path.{◌≡◌, sym, ap, subst}
+use Rattle.rules.specs.09-Refusals.{Outcome}
 use mathlib.Core.List.{List, [], ◌∷◌}
 use lib.ListN.{length, drop}
 use Rattle.rules.specs.declared.Answer.{Answer}
@@ -19,6 +20,21 @@ use Rattle.run_print.proofs.PrintLaws.{printed_next}
 use Rattle.run_reply.proofs.PositiveLaws.{new_sds_positive, import_positive, new_object_positive, remove_type_positive}
 use Rattle.run_reply.proofs.PositiveLaws.{find_positive, scan_object_positive, depth_positive}
 use Rattle.run_reply.proofs.SayLaws.{said_of, says_changed, says_not_found, says_found, answer_is, value_line, no_list_line, count_and_list_line}
+
+-- what is promised of a call's outcome holds of the answer that it becomes
+module _ {a x : Answer} (e : a ≡ x) {b : List ℕ} where
+  pub kept_as : {rule : Schema → Outcome Schema} {b' : List ℕ} → Kept b rule x b' → Kept b rule a b'
+  kept_as {rule} {b'} k = subst (λ (y : Answer). Kept b rule y b') (sym e) k
+
+  pub asked_as : {rule : Schema → Outcome (List ℕ)} → Answered b rule x → Answered b rule a
+  asked_as {rule} k = subst (λ (y : Answer). Answered b rule y) (sym e) k
+
+  pub list_as : {rule : Schema → Outcome (List ℕ)} {before after : List ℕ} → Listed b rule x before after → Listed b rule a before after
+  list_as {rule} {before} {after} k = subst (λ (y : Answer). Listed b rule y before after) (sym e) k
+
+-- a number is printed as what it is
+pub printed_as : {n m : ℕ} → n ≡ m → {out out' : List ℕ} {at r : ℕ} → Printed out at (decimal 20 n) out' r → Printed out at (decimal 20 m) out' r
+printed_as e {out} {out'} {at} {r} p = subst (λ (k : ℕ). Printed out at (decimal 20 k) out' r) e p
 
 -- ---- changes
 

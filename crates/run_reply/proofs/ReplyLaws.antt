@@ -4,9 +4,8 @@ use native.Mathlib.Omega.{arith}
 use mathlib.Core.Path.{◌≡◌, refl, sym, ap, ◌∙◌}
 use mathlib.Core.List.{List, [], ◌∷◌}
 use mathlib.Core.Bool.{Bool, true, false, cond, ◌||◌}
-use lib.Dec.{ltb, eqb}
+use lib.Dec.{ltb}
 use lib.ListN.{length, take, length-take}
-use borrow.Author.Tests.{ne_eqb}
 use Rattle.rules.specs.01-Lists.{bytes, any, same_bytes}
 use Rattle.rules.specs.03-Names.{Name, blank, parted, names_in}
 use Rattle.rules.specs.04-Schema.{Schema}
@@ -14,27 +13,30 @@ use Rattle.rules.specs.07-Picture.{picture}
 use Rattle.rules.specs.14-Run.{Reply, says, says_object, obey, reply}
 use Rattle.rules.specs.14-Run.{obey_sds, obey_import, obey_object, obey_remove, obey_desc, obey_depth, unreadable}
 use Rattle.base.specs.Back.{schema_of}
-use Rattle.run_command.specs.Command.{code_of, command_of}
+use Rattle.std.specs.Prelude.{Option, Some, None}
+use Rattle.run_command.specs.Command.{command_in, command_of}
+use Rattle.run_command.specs.declared.Command.{Command}
+use Rattle.run_command.specs.declared.Command.TheVariants.{Sds, Import, Object, Remove, Desc, Depth}
 use Rattle.run_reply.specs.Reply.{Says, Replied}
 
--- ---- a command by its code
+-- ---- what a command asks for
 
-unfoldable by_code : ℕ → List Name → Schema → Reply
-by_code n ws s =
-    cond (eqb n 1) (obey_sds ws s) (cond (eqb n 2) (obey_import ws s) (cond (eqb n 3) (obey_object ws s)
-    (cond (eqb n 4) (obey_remove ws s) (cond (eqb n 5) (obey_desc ws s) (cond (eqb n 6) (obey_depth ws s) (unreadable s))))))
+unfoldable by_command : Option Command → List Name → Schema → Reply
+by_command (Some Sds) ws s = obey_sds ws s
+by_command (Some Import) ws s = obey_import ws s
+by_command (Some Object) ws s = obey_object ws s
+by_command (Some Remove) ws s = obey_remove ws s
+by_command (Some Desc) ws s = obey_desc ws s
+by_command (Some Depth) ws s = obey_depth ws s
+by_command None ws s = unreadable s
 
-no_code : (k : ℕ) (ws : List Name) (s : Schema) → (k ≡ 1 → ⊥) → (k ≡ 2 → ⊥) → (k ≡ 3 → ⊥) → (k ≡ 4 → ⊥) → (k ≡ 5 → ⊥) → (k ≡ 6 → ⊥)
-    → by_code k ws s ≡ unreadable s
-unfolding by_code
-no_code k ws s n₁ n₂ n₃ n₄ n₅ n₆ = rw (ne_eqb k 1 n₁, ne_eqb k 2 n₂, ne_eqb k 3 n₃, ne_eqb k 4 n₄, ne_eqb k 5 n₅, ne_eqb k 6 n₆)
-
--- the same tests pick a command and its code
+-- the same tests pick what is obeyed and the command
 picked : (ws : List Name) (s : Schema) (t₁ t₂ t₃ t₄ t₅ t₆ : Bool)
     → cond t₁ (obey_sds ws s) (cond t₂ (obey_import ws s) (cond t₃ (obey_object ws s)
     (cond t₄ (obey_remove ws s) (cond t₅ (obey_desc ws s) (cond t₆ (obey_depth ws s) (unreadable s))))))
-    ≡ by_code (cond t₁ 1 (cond t₂ 2 (cond t₃ 3 (cond t₄ 4 (cond t₅ 5 (cond t₆ 6 0)))))) ws s
-unfolding by_code
+    ≡ by_command (cond t₁ (Some Sds) (cond t₂ (Some Import) (cond t₃ (Some Object)
+    (cond t₄ (Some Remove) (cond t₅ (Some Desc) (cond t₆ (Some Depth) None)))))) ws s
+unfolding by_command
 picked ws s true t₂ t₃ t₄ t₅ t₆ = refl
 picked ws s false true t₃ t₄ t₅ t₆ = refl
 picked ws s false false true t₄ t₅ t₆ = refl
@@ -43,31 +45,31 @@ picked ws s false false false false true t₆ = refl
 picked ws s false false false false false true = refl
 picked ws s false false false false false false = refl
 
-obey_is : (ws : List Name) (s : Schema) → obey ws s ≡ by_code (code_of ws) ws s
-unfolding obey code_of
+obey_is : (ws : List Name) (s : Schema) → obey ws s ≡ by_command (command_in ws) ws s
+unfolding obey command_in
 obey_is ws s =
     picked ws s (says (bytes "sds") 2 ws) (says (bytes "import") 4 ws) (says_object ws)
     (says (bytes "remove") 3 ws) (says (bytes "desc") 3 ws) (says (bytes "depth") 3 ws)
 
--- ---- a line, by the code of its command
+-- ---- a line, by its command
 
-some_words : (line : List ℕ) (s : Schema) → parted line ≡ names_in line → reply line s ≡ by_code (command_of line) (names_in line) s
-unfolding reply command_of by_code
+some_words : (line : List ℕ) (s : Schema) → parted line ≡ names_in line → reply line s ≡ by_command (command_of line) (names_in line) s
+unfolding reply command_of by_command
 some_words line s same = rw same (go (ltb 127 (length line) || any blank (names_in line)))
   where
-    go : (t : Bool) → cond t (unreadable s) (obey (names_in line) s) ≡ by_code (cond t 0 (code_of (names_in line))) (names_in line) s
+    go : (t : Bool) → cond t (unreadable s) (obey (names_in line) s) ≡ by_command (cond t None (command_in (names_in line))) (names_in line) s
     go true = refl
     go false = obey_is (names_in line) s
 
-reply_is : (line : List ℕ) (s : Schema) → reply line s ≡ by_code (command_of line) (names_in line) s
-unfolding reply command_of code_of by_code parted names_in any same_bytes
+reply_is : (line : List ℕ) (s : Schema) → reply line s ≡ by_command (command_of line) (names_in line) s
+unfolding reply command_of command_in by_command parted names_in any same_bytes
 reply_is [] s = refl
 reply_is (c ∷ cs) s = some_words (c ∷ cs) s refl
 
 -- ---- what is said to a command is the reply to its line
 
-coded_by : (line : List ℕ) (s : Schema) {k : ℕ} → command_of line ≡ k → by_code k (names_in line) s ≡ reply line s
-coded_by line s e = ap (λ (k : ℕ). by_code k (names_in line) s) (sym e) ∙ sym (reply_is line s)
+given_by : (line : List ℕ) (s : Schema) {k : Option Command} → command_of line ≡ k → by_command k (names_in line) s ≡ reply line s
+given_by line s e = ap (λ (k : Option Command). by_command k (names_in line) s) (sym e) ∙ sym (reply_is line s)
 
 module _ (line : List ℕ) {b b' out out' : List ℕ} {r : ℕ} where
   replied : {rule : Schema → Reply} → rule (schema_of b) ≡ reply line (schema_of b) → Says rule b b' out out' r → Replied b line b' out out' r
@@ -82,33 +84,30 @@ module _ (line : List ℕ) {b b' out out' : List ℕ} {r : ℕ} where
         (whole, size ∙ ap length whole, next ∙ ap (λ (y : Reply). picture y.next) e);
   }
 
-  pub replied_sds : command_of line ≡ 1 → Says (obey_sds (names_in line)) b b' out out' r → Replied b line b' out out' r
-  unfolding by_code
-  replied_sds e x = replied (coded_by line (schema_of b) e) x
+  pub replied_sds : command_of line ≡ Some Sds → Says (obey_sds (names_in line)) b b' out out' r → Replied b line b' out out' r
+  unfolding by_command
+  replied_sds e x = replied (given_by line (schema_of b) e) x
 
-  pub replied_import : command_of line ≡ 2 → Says (obey_import (names_in line)) b b' out out' r → Replied b line b' out out' r
-  unfolding by_code
-  replied_import e x = replied (coded_by line (schema_of b) e) x
+  pub replied_import : command_of line ≡ Some Import → Says (obey_import (names_in line)) b b' out out' r → Replied b line b' out out' r
+  unfolding by_command
+  replied_import e x = replied (given_by line (schema_of b) e) x
 
-  pub replied_object : command_of line ≡ 3 → Says (obey_object (names_in line)) b b' out out' r → Replied b line b' out out' r
-  unfolding by_code
-  replied_object e x = replied (coded_by line (schema_of b) e) x
+  pub replied_object : command_of line ≡ Some Object → Says (obey_object (names_in line)) b b' out out' r → Replied b line b' out out' r
+  unfolding by_command
+  replied_object e x = replied (given_by line (schema_of b) e) x
 
-  pub replied_remove : command_of line ≡ 4 → Says (obey_remove (names_in line)) b b' out out' r → Replied b line b' out out' r
-  unfolding by_code
-  replied_remove e x = replied (coded_by line (schema_of b) e) x
+  pub replied_remove : command_of line ≡ Some Remove → Says (obey_remove (names_in line)) b b' out out' r → Replied b line b' out out' r
+  unfolding by_command
+  replied_remove e x = replied (given_by line (schema_of b) e) x
 
-  pub replied_desc : command_of line ≡ 5 → Says (obey_desc (names_in line)) b b' out out' r → Replied b line b' out out' r
-  unfolding by_code
-  replied_desc e x = replied (coded_by line (schema_of b) e) x
+  pub replied_desc : command_of line ≡ Some Desc → Says (obey_desc (names_in line)) b b' out out' r → Replied b line b' out out' r
+  unfolding by_command
+  replied_desc e x = replied (given_by line (schema_of b) e) x
 
-  pub replied_depth : command_of line ≡ 6 → Says (obey_depth (names_in line)) b b' out out' r → Replied b line b' out out' r
-  unfolding by_code
-  replied_depth e x = replied (coded_by line (schema_of b) e) x
+  pub replied_depth : command_of line ≡ Some Depth → Says (obey_depth (names_in line)) b b' out out' r → Replied b line b' out out' r
+  unfolding by_command
+  replied_depth e x = replied (given_by line (schema_of b) e) x
 
-  pub replied_unreadable : (k : ℕ) → command_of line ≡ k → (k ≡ 1 → ⊥) → (k ≡ 2 → ⊥) → (k ≡ 3 → ⊥) → (k ≡ 4 → ⊥) → (k ≡ 5 → ⊥)
-      → (k ≡ 6 → ⊥) → Says unreadable b b' out out' r → Replied b line b' out out' r
-  replied_unreadable k e n₁ n₂ n₃ n₄ n₅ n₆ x = replied (sym none ∙ coded_by line (schema_of b) e) x
-    where
-      none : by_code k (names_in line) (schema_of b) ≡ unreadable (schema_of b)
-      none = no_code k (names_in line) (schema_of b) n₁ n₂ n₃ n₄ n₅ n₆
+  pub replied_unreadable : command_of line ≡ None → Says unreadable b b' out out' r → Replied b line b' out out' r
+  unfolding by_command
+  replied_unreadable e x = replied (given_by line (schema_of b) e) x

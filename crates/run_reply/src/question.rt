@@ -5,6 +5,7 @@ ghost use Rattle.rules.specs.07-Picture.{base_length};
 ghost use Rattle.rules.specs.14-Run.{obey_desc, obey_depth};
 ghost use Rattle.run_reply.specs.Reply.{Says};
 
+use rules::{Answer, Done};
 use run_command::parts;
 
 // The count and the list.
@@ -13,12 +14,12 @@ pub fn desc(base: &[u8], line: &[u8], out: &mut [u8]) -> usize
     ensures { Says (obey_desc (names_in line.now)) base.now base.now out.old out.new result }
 {
     let schema = parts::alone(parts::sds(base, line, 1));
-    let found = ask::find(base, &schema, parts::word(line, 2));
-    if found.no != 0 {
-        return run_print::number(out, 0, found.no);
-    }
+    let t = match ask::find(base, &schema, parts::word(line, 2)) {
+        Ok(Done(t, _, _)) => t,
+        Err(refused) => return run_print::number(out, 0, refused.number()),
+    };
     let mut list = [0u8; 256];
-    let answer = ask::scan_object(base, &schema, found.one, 1, &mut list);
+    let answer = Answer::from(ask::scan_object(base, &schema, t, 1, &mut list));
     let end = run_print::answer(out, answer.no, answer.one);
     if answer.no != 0 {
         return end;
@@ -31,10 +32,10 @@ pub fn depth(base: &[u8], line: &[u8], out: &mut [u8]) -> usize
     ensures { Says (obey_depth (names_in line.now)) base.now base.now out.old out.new result }
 {
     let schema = parts::alone(parts::sds(base, line, 1));
-    let found = ask::find(base, &schema, parts::word(line, 2));
-    if found.no != 0 {
-        return run_print::number(out, 0, found.no);
-    }
-    let answer = ask::depth(base, &schema, found.one);
+    let t = match ask::find(base, &schema, parts::word(line, 2)) {
+        Ok(Done(t, _, _)) => t,
+        Err(refused) => return run_print::number(out, 0, refused.number()),
+    };
+    let answer = Answer::from(ask::depth(base, &schema, t));
     run_print::answer(out, answer.no, answer.one)
 }

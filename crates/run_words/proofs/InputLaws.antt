@@ -1,21 +1,15 @@
 -- A line gathered read by read: what was left, what a read brought, and what is whole. Assumes nothing.
-use Prim.Native.Nat.{ℕ, ◌+◌, ◌≤◌, ◌<◌}
-use native.Mathlib.Omega.{arith}
-use mathlib.Core.Path.{◌≡◌, refl, sym, ap, ◌∙◌}
-use mathlib.Core.Logic.{◌⊎◌, inl, inr, ⊎_elim}
-use mathlib.Core.List.{List, [], ◌∷◌, ◌++◌, append_assoc, append-nil}
-use mathlib.Core.Bool.{true, false, true≢false, false≢true}
-use lib.Dec.{eqb}
-use lib.ListN.{length, take, length-take, length-drop, length-append, drop_of_length-le}
-use lib.Seq.{take_all, length-take-le}
-use borrow.Author.Tests.{eqb-true, eqb-false, ne_eqb}
+use Rattle.std.proofs.Common.{◌≡◌, ◌≢◌, ◌⊎◌, ℕ, zero, suc, ◌+◌, ◌-◌, ◌≤◌, ◌<◌, Bool, true, false, not, ◌&&◌, eqb, ltb, List, [], ◌∷◌, ◌++◌}
+use Rattle.std.proofs.Common.{length, get_or, take, drop, refl, sym, ap, ◌∙◌, inl, inr, arith, append_assoc, append-nil, true≢false}
+use Rattle.std.proofs.Common.{length-take, length-drop, length-append, length-take-le, drop_of_length-le, eqb-true, ne_eqb, lt-ltb, drop-drop}
+use Rattle.std.proofs.lemmas.Bool.{false≢true, eqb-false}
+use mathlib.Core.Logic.{⊎_elim}
+use borrow.Author.Tests.{not-true, not-false}
+use Rattle.std.proofs.lemmas.List.{drop-take}
 use Rattle.rules.specs.01-Lists.{any}
-use Rattle.rules.proofs.Bools.{or_left, or_cases, or_neither}
-use Rattle.run_words.specs.Lines.{upto, beyond, has_newline, Gathers}
-use Rattle.run_words.specs.Input.{Within, Ready, unread, all_turns, Filled, Advanced, NextLine}
-use Rattle.run_words.specs.declared.Gathered.{Gathered}
-use Rattle.run_words.specs.declared.input.Input.{Input}
-use Rattle.run_words.specs.declared.input.Step.{Step}
+use Rattle.rules.proofs.Bools.{or_neither}
+use Rattle.run_words.specs.Lines.{upto, beyond, has_newline}
+use Rattle.run_words.specs.Input.{Left, all_turns, Filled, Gathered, NextLine}
 use Rattle.run_words.proofs.LineLaws.{take_cut}
 
 -- ---- a newline, or none
@@ -60,189 +54,227 @@ empty : (l : List ℕ) → length l ≡ 0 → l ≡ []
 empty [] h = refl
 empty (c ∷ l) h = absurd (omega arith)
 
+-- the first newline
+newline_at : (l : List ℕ) (i : ℕ) → i < length l → get_or l i 0 ≡ 10 → ((k : ℕ) → k < i → get_or l k 0 ≢ 10)
+    → (upto l ≡ take i l) × (beyond l ≡ drop (suc i) l) × (has_newline l ≡ true)
+unfolding any upto beyond
+newline_at [] i h e n = absurd (omega arith)
+newline_at (c ∷ l) zero h e n = rw e (refl, refl, refl)
+newline_at (c ∷ l) (suc i) h e n =
+    let (u, b, t) = newline_at l i (omega arith) e (λ k s. n (suc k) (omega arith)) in
+    rw (ne_eqb c 10 (n 0 (omega arith))) (ap (λ (r : List ℕ). c ∷ r) u, b, t)
+
+newline_none : (l : List ℕ) → ((k : ℕ) → k < length l → get_or l k 0 ≢ 10) → has_newline l ≡ false
+unfolding any
+newline_none [] n = refl
+newline_none (c ∷ l) n = rw (ne_eqb c 10 (n 0 (omega arith))) (newline_none l (λ k s. n (suc k) (omega arith)))
+
 -- ---- `fill`
 
-module _ (read : List ℕ) (x : Input) where
+-- what an input has left, by its fields
+abbrev pub seen : List ℕ → ℕ → ℕ → Left
+seen read from n = record { unread = drop from (take n read); over = eqb n 0 }
+
+module _ {x : Left} (read : List ℕ) (from n : ℕ) (view : seen read from n ≡ x) (place : from ≤ n) (few : n ≤ length read) where
   -- something is left: nothing is read
-  pub filled_left : length read ≡ 4096 → Within x → x.over ≡ false → x.from < x.n → Filled (unread read x) x.kept read x
-  filled_left long within goes h = record {
-    long = long;
-    within = within;
-    same = refl;
+  pub filled_left : from < n → Filled x.unread x true
+  filled_left h = record {
     more = [];
     lean = inr refl;
-    is = sym (append-nil (unread read x));
-    over = goes ∙ sym (ap (λ (l : List ℕ). eqb (length l) 0) (append-nil (unread read x)) ∙ ne_eqb (length (unread read x)) 0 some);
+    is = sym (append-nil x.unread);
+    over = ends ∙ sym (ap (λ (l : List ℕ). eqb (length l) 0) (append-nil x.unread) ∙ ne_eqb (length x.unread) 0 some);
+    some = ap not (sym ends);
   }
     where
-      some : length (unread read x) ≡ 0 → ⊥
-      some e = omega (arith, length-drop x.from (take x.n read), length-take-le x.n read (omega (arith, within.few)))
+      ends : x.over ≡ false
+      ends = ap (λ (y : Left). y.over) (sym view) ∙ ne_eqb n 0 (λ e. omega arith)
+
+      some : length x.unread ≡ 0 → ⊥
+      some e = omega (arith, ap (λ (y : Left). length y.unread) view, length-drop from (take n read), length-take-le n read few)
 
   -- nothing is left: what stands in the buffer is what a read brought
-  pub filled_read : {read' : List ℕ} {n : ℕ} → Within x → x.n ≤ x.from → length read' ≡ 4096 → n ≤ length read'
-      → Filled (unread read x) x.kept read' (record { from = 0; n = n; kept = x.kept; over = eqb n 0 })
-  filled_read {read'} {n} within h long few = record {
-    long = long;
-    within = record { place = omega arith; few = omega arith; kept = within.kept };
-    same = refl;
-    more = take n read';
+  pub filled_read : (read' : List ℕ) {n' : ℕ} → n ≤ from → n' ≤ length read' → Filled x.unread (seen read' 0 n') (ltb 0 n')
+  filled_read read' {n'} h more = record {
+    more = take n' read';
     lean = inl none;
     is = sym got;
-    over = ap (λ (k : ℕ). eqb k 0) (sym (ap length got ∙ length-take-le n read' few));
+    over = ap (λ (k : ℕ). eqb k 0) (sym (ap length got ∙ length-take-le n' read' more));
+    some = positive n';
   }
     where
-      none : unread read x ≡ []
-      none = drop_of_length-le (take x.n read) {i = x.from} (omega (arith, length-take x.n read))
+      none : x.unread ≡ []
+      none = ap (λ (y : Left). y.unread) (sym view) ∙ drop_of_length-le (take n read) {i = from} (omega (arith, length-take n read))
 
-      got : unread read x ++ take n read' ≡ take n read'
-      got = ap (λ (l : List ℕ). l ++ take n read') none
+      got : x.unread ++ take n' read' ≡ take n' read'
+      got = ap (λ (l : List ℕ). l ++ take n' read') none
 
--- ---- `advance`
+      positive : (k : ℕ) → ltb 0 k ≡ not (eqb k 0)
+      positive zero = refl
+      positive (suc k) = lt-ltb 0 (suc k) (omega arith) ∙ sym (ap not (ne_eqb (suc k) 0 (λ e. omega arith)))
 
-module _ {left line : List ℕ} {kept : ℕ} {read' : List ℕ} {at : Input} (room : length line ≡ 128) (f : Filled left kept read' at) where
-  pub advanced_over : at.over ≡ true → Advanced left (take kept line) read' line (record { input = at; whole = true })
-  unfolding upto beyond
-  advanced_over e = record {
-    ready = record { long = f.long; room = room; within = f.within };
-    more = f.more;
-    lean = f.lean;
-    is = ap (λ (k : ℕ). take k line) f.same ∙ sym (ap (λ (l : List ℕ). take 128 (take kept line ++ upto l)) none
-        ∙ ap (take 128) (append-nil (take kept line)) ∙ take_all 128 (take kept line) (omega (arith, length-take kept line, room)));
-    rest = f.is ∙ none ∙ sym (ap beyond none);
-    over = f.over;
-    whole = sym (or_left at.over (has_newline (left ++ f.more)) e);
-  }
+-- ---- `gather`
+
+module _ {x : Left} (read : List ℕ) (from n : ℕ) (view : seen read from n ≡ x) (place : from ≤ n) where
+  part : take (n - from) (drop from read) ≡ drop from (take n read)
+  part = sym (drop-take from (n - from) read) ∙ ap (λ (k : ℕ). drop from (take k read)) whole
     where
-      none : left ++ f.more ≡ []
-      none = empty (left ++ f.more) (eqb-true (length (left ++ f.more)) 0 (sym f.over ∙ e))
+      whole : from + (n - from) ≡ n
+      whole = omega arith
 
-  pub advanced_more : {line' : List ℕ} {got : Gathered} → at.over ≡ false → Gathers (take at.n read') at.from line at.kept line' got
-      → Advanced left (take kept line) read' line' (record {
-        input = record { from = got.at; n = at.n; kept = got.kept; over = false };
-        whole = got.ended;
-      })
-  advanced_more {line'} {got} e g = record {
-    ready = record {
-      long = f.long;
-      room = g.long;
-      within = record { place = omega (arith, g.within, length-take at.n read'); few = f.within.few; kept = g.few };
-    };
-    more = f.more;
-    lean = f.lean;
-    is = g.is ∙ ap (take 128) (ap (λ (k : ℕ). take k line ++ upto (unread read' at)) f.same
-        ∙ ap (λ (l : List ℕ). take kept line ++ upto l) f.is);
-    rest = g.rest ∙ ap beyond f.is;
-    over = sym e ∙ f.over;
-    whole = g.ends ∙ ap has_newline f.is;
-  }
+  piece : take (n - from) (drop from read) ≡ x.unread
+  piece = part ∙ ap (λ (y : Left). y.unread) view
+
+  pub gathered_line : {line line' : List ℕ} {end : ℕ} → end < length (take (n - from) (drop from read))
+      → get_or (take (n - from) (drop from read)) end 0 ≡ 10
+      → ((k : ℕ) → k < end → get_or (take (n - from) (drop from read)) k 0 ≢ 10)
+      → line' ≡ take 128 (line ++ take end (take (n - from) (drop from read)))
+      → Gathered x line (seen read (from + (end + 1)) n) line' true
+  gathered_line {line} {line'} {end} h e none l =
+      let (u, b, t) = newline_at (take (n - from) (drop from read)) end h e none in
+      record {
+        is = l ∙ ap (λ (r : List ℕ). take 128 (line ++ r)) (sym u ∙ ap upto piece);
+        rest = further ∙ sym b ∙ ap beyond piece;
+        over = ap (λ (y : Left). y.over) view;
+        ends = sym t ∙ ap has_newline piece;
+      }
+    where
+      further : drop (from + (end + 1)) (take n read) ≡ drop (suc end) (take (n - from) (drop from read))
+      further = ap (λ (k : ℕ). drop k (take n read)) next ∙ sym (drop-drop (suc end) from (take n read)) ∙ ap (drop (suc end)) (sym part)
+        where
+          next : from + (end + 1) ≡ from + suc end
+          next = omega arith
+
+  pub gathered_all : {line line' : List ℕ}
+      → ((k : ℕ) → k < length (take (n - from) (drop from read)) → get_or (take (n - from) (drop from read)) k 0 ≢ 10)
+      → line' ≡ take 128 (line ++ take (n - from) (drop from read))
+      → Gathered x line (seen read n n) line' false
+  gathered_all {line} {line'} none l =
+      let t = newline_none (take (n - from) (drop from read)) none in
+      record {
+        is = l ∙ ap (λ (r : List ℕ). take 128 (line ++ r)) (sym (upto_all _ t) ∙ ap upto piece);
+        rest = drop_of_length-le (take n read) {i = n} (omega (arith, length-take n read)) ∙ sym (beyond_none _ t) ∙ ap beyond piece;
+        over = ap (λ (y : Left). y.over) view;
+        ends = sym t ∙ ap has_newline piece;
+      }
 
 -- ---- `next_line`
 
 -- What came was gathered up to here and has no newline: each turn has gathered a byte, and all that was left.
-pub record Reading (left₀ read line : List ℕ) (at : Input) (turns : ℕ) : Type 0 where
-  pub ready : Ready read line at
-  pub over : at.over ≡ false
+pub record Reading (left₀ line : List ℕ) (x : Left) (turns : ℕ) : Type 0 where
   pub gone : List ℕ
   pub more : List ℕ
-  pub all : gone ++ unread read at ≡ left₀ ++ more
+  pub all : gone ++ x.unread ≡ left₀ ++ more
   pub none : has_newline gone ≡ false
-  pub is : take at.kept line ≡ take 128 gone
-  pub either : (gone ≡ []) ⊎ (unread read at ≡ [])
-  pub spent : all_turns ≤ turns + length gone
+  pub is : line ≡ take 128 gone
+  pub either : (gone ≡ []) ⊎ (x.unread ≡ [])
+  pub spent : turns ≤ length gone
+  pub goes : 0 < turns → x.over ≡ false
   pub lean : has_newline left₀ ≡ true → more ≡ []
 
-pub reading_first : {read line : List ℕ} {x : Input} → Ready read line x
-    → Reading (unread read x) read line (record { from = x.from; n = x.n; kept = 0; over = false }) all_turns
+pub reading_first : (x : Left) → Reading x.unread [] x 0
 unfolding any
-reading_first {read} {line} {x} r = record {
-  ready = record { long = r.long; room = r.room; within = record { place = r.within.place; few = r.within.few; kept = omega arith } };
-  over = refl;
+reading_first x = record {
   gone = [];
   more = [];
-  all = sym (append-nil (unread read x));
+  all = sym (append-nil x.unread);
   none = refl;
   is = refl;
   either = inl refl;
   spent = omega arith;
+  goes = λ h. absurd (omega arith);
   lean = λ e. refl;
 }
 
-module _ {left₀ read line : List ℕ} {at : Input} {turns : ℕ} (g : Reading left₀ read line at turns)
-    {read' line' : List ℕ} {step : Step} (a : Advanced (unread read at) (take at.kept line) read' line' step) where
+module _ {left₀ line : List ℕ} {x : Left} {turns : ℕ} (g : Reading left₀ line x turns) {y : Left} {r : Bool} (f : Filled x.unread y r) where
   -- what this turn gathers, and what came so far
-  piece : List ℕ
-  piece = unread read at ++ a.more
+  came_all : g.gone ++ y.unread ≡ left₀ ++ (g.more ++ f.more)
+  came_all = ap (λ (l : List ℕ). g.gone ++ l) f.is ∙ sym (append_assoc g.gone x.unread f.more)
+      ∙ ap (λ (l : List ℕ). l ++ f.more) g.all ∙ append_assoc left₀ g.more f.more
 
-  came_all : g.gone ++ piece ≡ left₀ ++ (g.more ++ a.more)
-  unfolding piece
-  came_all = sym (append_assoc g.gone (unread read at) a.more) ∙ ap (λ (l : List ℕ). l ++ a.more) g.all
-      ∙ append_assoc left₀ g.more a.more
-
-  came_lean : has_newline left₀ ≡ true → g.more ++ a.more ≡ []
-  came_lean e = ap (λ (l : List ℕ). l ++ a.more) (g.lean e)
-      ∙ ⊎_elim (λ h. absurd (true≢false (sym e ∙ gone_first h))) (λ h. h) a.lean
+  came_lean : has_newline left₀ ≡ true → g.more ++ f.more ≡ []
+  came_lean e = ap (λ (l : List ℕ). l ++ f.more) (g.lean e)
+      ∙ ⊎_elim (λ h. absurd (true≢false (sym e ∙ gone_first h))) (λ h. h) f.lean
     where
-      gone_first : unread read at ≡ [] → has_newline left₀ ≡ false
+      gone_first : x.unread ≡ [] → has_newline left₀ ≡ false
       gone_first h = none_left left₀ g.more (ap has_newline (sym g.all
           ∙ ap (λ (l : List ℕ). g.gone ++ l) h ∙ append-nil g.gone) ∙ g.none)
 
-  came_kept : take step.input.kept line' ≡ take 128 (g.gone ++ upto piece)
-  unfolding piece
-  came_kept = a.is ∙ ap (λ (l : List ℕ). take 128 (l ++ upto piece)) g.is ∙ take_cut 128 g.gone (upto piece)
-
-  -- a newline, or the end: the line is whole
-  pub reading_whole : step.whole ≡ true → NextLine left₀ read' line' step.input
-  unfolding piece
-  reading_whole e = record {
-    ready = a.ready;
-    more = g.more ++ a.more;
+  -- the input is over
+  pub reading_over : r ≡ false → NextLine left₀ y line (not (eqb (length line) 0))
+  reading_over e = record {
+    more = g.more ++ f.more;
     lean = came_lean;
-    is = came_kept ∙ ap (take 128) (sym (upto_behind g.gone piece g.none) ∙ ap upto came_all);
-    rest = a.rest ∙ sym (beyond_behind g.gone piece g.none) ∙ ap beyond came_all;
-    goes_on = λ h. a.over ∙ newline_some piece (same ∙ h);
-    ends = λ h. inl (⊎_elim (λ o. o) (λ n. absurd (true≢false (sym n ∙ same ∙ h)))
-        (or_cases step.input.over (has_newline piece) (sym a.whole ∙ e)));
+    is = g.is ∙ ap (take 128) (sym (upto_all g.gone g.none) ∙ ap upto came);
+    rest = nothing ∙ sym (beyond_none g.gone g.none) ∙ ap beyond came;
+    goes_on = λ h. absurd (true≢false (sym h ∙ ap has_newline (sym came) ∙ g.none));
+    ends = λ h. inl ended;
+    some = ap (λ (t : Bool). not (t && eqb (length line) 0)) (sym ended);
   }
     where
-      same : has_newline piece ≡ has_newline (left₀ ++ (g.more ++ a.more))
-      same = sym (newline_behind g.gone piece g.none) ∙ ap has_newline came_all
+      ended : y.over ≡ true
+      ended = not-false y.over (sym f.some ∙ e)
 
-  -- neither: it goes on, with a byte more at least
-  pub reading_more : {turns' : ℕ} → turns ≡ turns' + 1 → step.whole ≡ false → Reading left₀ read' line' step.input turns'
-  unfolding piece
-  reading_more {turns'} t e = record {
-    ready = a.ready;
-    over = neither.0;
-    gone = g.gone ++ piece;
-    more = g.more ++ a.more;
-    all = ap (λ (l : List ℕ). (g.gone ++ piece) ++ l) nothing ∙ append-nil (g.gone ++ piece) ∙ came_all;
-    none = newline_behind g.gone piece g.none ∙ neither.1;
-    is = came_kept ∙ ap (λ (l : List ℕ). take 128 (g.gone ++ l)) (upto_all piece neither.1);
-    either = inr nothing;
-    spent = omega (arith, length-append g.gone piece, eqb-false (length piece) 0 (sym a.over ∙ neither.0), g.spent);
-    lean = came_lean;
-  }
-    where
-      neither : (step.input.over ≡ false) × (has_newline piece ≡ false)
-      neither = or_neither step.input.over (has_newline piece) (sym a.whole ∙ e)
+      nothing : y.unread ≡ []
+      nothing = empty y.unread (ap length f.is ∙ eqb-true (length (x.unread ++ f.more)) 0 (sym f.over ∙ ended))
 
-      nothing : unread read' step.input ≡ []
-      nothing = a.rest ∙ beyond_none piece neither.1
+      came : g.gone ≡ left₀ ++ (g.more ++ f.more)
+      came = sym (append-nil g.gone) ∙ ap (λ (l : List ℕ). g.gone ++ l) (sym nothing) ∙ came_all
+
+  module _ (goes : r ≡ true) {z : Left} {line' : List ℕ} {t : Bool} (a : Gathered y line z line' t) where
+    going : y.over ≡ false
+    going = not-true y.over (sym f.some ∙ goes)
+
+    came_kept : line' ≡ take 128 (g.gone ++ upto y.unread)
+    came_kept = a.is ∙ ap (λ (l : List ℕ). take 128 (l ++ upto y.unread)) g.is ∙ take_cut 128 g.gone (upto y.unread)
+
+    -- a newline: the line is whole
+    pub reading_whole : t ≡ true → NextLine left₀ z line' true
+    reading_whole e = record {
+      more = g.more ++ f.more;
+      lean = came_lean;
+      is = came_kept ∙ ap (take 128) (sym (upto_behind g.gone y.unread g.none) ∙ ap upto came_all);
+      rest = a.rest ∙ sym (beyond_behind g.gone y.unread g.none) ∙ ap beyond came_all;
+      goes_on = λ h. a.over ∙ going;
+      ends = λ h. absurd (true≢false (sym e ∙ a.ends ∙ sym (newline_behind g.gone y.unread g.none) ∙ ap has_newline came_all ∙ h));
+      some = ap (λ (s : Bool). not (s && eqb (length line') 0)) (sym (a.over ∙ going));
+    }
+
+    -- none: it goes on, with a byte more at least
+    pub reading_more : t ≡ false → Reading left₀ line' z (turns + 1)
+    reading_more e = record {
+      gone = g.gone ++ y.unread;
+      more = g.more ++ f.more;
+      all = ap (λ (l : List ℕ). (g.gone ++ y.unread) ++ l) nothing ∙ append-nil (g.gone ++ y.unread) ∙ came_all;
+      none = newline_behind g.gone y.unread g.none ∙ without;
+      is = came_kept ∙ ap (λ (l : List ℕ). take 128 (g.gone ++ l)) (upto_all y.unread without);
+      either = inr nothing;
+      spent = omega (arith, length-append g.gone y.unread, ap length f.is, eqb-false (length (x.unread ++ f.more)) 0 (sym f.over ∙ going), g.spent);
+      goes = λ h. a.over ∙ going;
+      lean = came_lean;
+    }
+      where
+        without : has_newline y.unread ≡ false
+        without = sym a.ends ∙ e
+
+        nothing : z.unread ≡ []
+        nothing = a.rest ∙ beyond_none y.unread without
 
 -- no turn is left: so many bytes without a newline
-pub reading_spent : {left₀ read line : List ℕ} {at : Input} {turns : ℕ} → turns ≡ 0 → Reading left₀ read line at turns
-    → NextLine left₀ read line at
-reading_spent {left₀} {read} {line} {at} last g = record {
-  ready = g.ready;
+pub reading_spent : {left₀ line : List ℕ} {x : Left} {turns : ℕ} → turns ≡ all_turns → Reading left₀ line x turns → NextLine left₀ x line true
+reading_spent {left₀} {line} {x} last g = record {
   more = g.more;
   lean = g.lean;
   is = g.is ∙ ap (take 128) (sym (upto_all g.gone g.none) ∙ ap upto came);
   rest = nothing ∙ sym (beyond_none g.gone g.none) ∙ ap beyond came;
-  goes_on = λ h. g.over;
+  goes_on = λ h. goes;
   ends = λ h. inr (omega (arith, g.spent, ap length came));
+  some = ap (λ (s : Bool). not (s && eqb (length line) 0)) (sym goes);
 }
   where
-    nothing : unread read at ≡ []
+    goes : x.over ≡ false
+    goes = g.goes (omega arith)
+
+    nothing : x.unread ≡ []
     nothing = ⊎_elim (λ e. absurd (omega (arith, g.spent, ap length e))) (λ e. e) g.either
 
     came : g.gone ≡ left₀ ++ g.more

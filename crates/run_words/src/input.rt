@@ -1,100 +1,86 @@
 // An input, line by line.
-ghost use Rattle.std.specs.Prelude.{◌≡◌, false, length, take};
-ghost use Rattle.run_words.specs.Input.{Within, Ready, unread, Filled, Advanced, NextLine};
+ghost use Rattle.std.specs.Prelude.{◌≡◌, []};
+ghost use Rattle.run_words.specs.Input.{Filled, Gathered, NextLine};
 
+use super::line::Line;
 use std::io::Read;
+use std::marker::Model;
 
-// A place in the bytes that were read last, of which there are n; how many bytes are kept of the line at hand; whether the input is over.
-#[derive(Clone, Copy)]
+// The bytes that were read last, of which there are n, and how many of them are gathered. Where the last read brought none the input is over.
+#[derive(Drop)]
 pub struct Input {
-    pub from: usize,
-    pub n: usize,
-    pub kept: usize,
-    pub over: bool,
+    read: [u8; 4096],
+    from: usize,
+    n: usize,
 }
 
-#[derive(Clone, Copy)]
-struct Step {
-    input: Input,
-    whole: bool,
+impl Model for Input {
+    ghost use Rattle.std.specs.Prelude.{◌≤◌, eqb, drop, take};
+    ghost use Rattle.run_words.specs.Input.{Left};
+
+    ghost Value = { Left };
+
+    ghost view = { λ x. record { unread = drop x.from (take x.n x.read); over = eqb x.n 0 } };
+
+    ghost invariant = { λ x. (x.from ≤ x.n) × (x.n ≤ 4096) };
 }
 
 impl Input {
-    pub fn start() -> Input
-        ensures { Within result }
+    pub fn new() -> Input
+        ensures { result.unread ≡ [] }
     {
         Input {
+            read: [0; 4096],
             from: 0,
             n: 0,
-            kept: 0,
-            over: false,
         }
     }
-}
 
-// Reads on where all that was read is gathered. A read that fails ends the input.
-fn fill<R: Read>(reader: &mut R, read: &mut [u8], input: Input) -> Input
-    requires { (length read.old ≡ 4096) × (Within input × (input.over ≡ false)) }
-    ensures { Filled (unread read.old input) input.kept read.new result }
-{
-    if input.from < input.n {
-        return input;
+    // Reads on where all that was read is gathered; whether there is something to gather then. A read that fails ends the input.
+    fn fill<R: Read>(&mut self, reader: &mut R) -> bool
+        ensures { Filled self.old.unread self.new result }
+    {
+        if self.from < self.n {
+            return true;
+        }
+        self.from = 0;
+        self.n = reader.read(&mut self.read).unwrap_or(0);
+        0 < self.n
     }
-    let n = reader.read(read).unwrap_or(0);
-    Input {
-        from: 0,
-        n,
-        kept: input.kept,
-        over: n == 0,
-    }
-}
 
-// One read at most, and what it brings gathered up to a newline. The line is whole there, and where the input is over.
-fn advance<R: Read>(reader: &mut R, read: &mut [u8], line: &mut [u8], input: Input) -> Step
-    requires { Ready read.old line.old input × (input.over ≡ false) }
-    ensures { Advanced (unread read.old input) (take input.kept line.old) read.new line.new result }
-{
-    let at = fill(reader, read, input);
-    if at.over {
-        return Step {
-            input: at,
-            whole: true,
-        };
-    }
-    let n = at.n;
-    let got = super::gather(&read[..n], at.from, line, at.kept);
-    let next = Input {
-        from: got.at,
-        n,
-        kept: got.kept,
-        over: false,
-    };
-    Step {
-        input: next,
-        whole: got.ended,
-    }
-}
-
-// The next line: its first bytes stand in `line`, as many as are kept of it. Where the input is over and none are kept, there is none.
-// A proved loop has to end, and nothing says that a file does: the turns are counted down from a number that no run uses up.
-pub fn next_line<R: Read>(reader: &mut R, read: &mut [u8], line: &mut [u8], input: Input) -> Input
-    requires { Ready read.old line.old input }
-    ensures { NextLine (unread read.old input) read.new line.new result }
-{
-    let mut at = Input {
-        from: input.from,
-        n: input.n,
-        kept: 0,
-        over: false,
-    };
-    let mut turns = u64::MAX;
-    while 0 < turns {
-        turns -= 1;
-        let step = advance(reader, read, line, at);
-        at = step.input;
-        if step.whole {
-            return at;
+    // Puts what is to be gathered to a line, up to a newline; whether there is one.
+    fn gather(&mut self, line: &mut Line) -> bool
+        ensures { Gathered self.old line.old self.new line.new result }
+    {
+        let unread = &self.read[self.from..self.n];
+        match unread.iter().position(|&c| c == b'\n') {
+            Some(end) => {
+                line.extend(&unread[..end]);
+                self.from += end + 1;
+                true
+            }
+            None => {
+                line.extend(unread);
+                self.from = self.n;
+                false
+            }
         }
     }
-    at
+
+    // The next line, or the first bytes of a longer one; whether there is one. Where the input is over and no byte is kept, there is none.
+    // A proved loop has to end, and nothing says that a file does: the turns are as many as no run uses up.
+    pub fn next_line<R: Read>(&mut self, reader: &mut R, line: &mut Line) -> bool
+        ensures { NextLine self.old.unread self.new line.new result }
+    {
+        line.clear();
+        for _ in 0..u64::MAX {
+            if !self.fill(reader) {
+                return !line.as_bytes().is_empty();
+            }
+            if self.gather(line) {
+                return true;
+            }
+        }
+        true
+    }
 }

@@ -2,6 +2,7 @@
 -- Assumes nothing.
 use Prim.Native.Nat.{ℕ}
 use mathlib.Core.Path.{◌≡◌, sym, ◌∙◌}
+use mathlib.Core.Bool.{false}
 use mathlib.Core.List.{List}
 use lib.ListN.{length}
 use Rattle.rules.specs.01-Lists.{◌∈◌}
@@ -14,7 +15,13 @@ use Rattle.base.specs.Back.{schema_of, Canonical}
 use Rattle.base.proofs.Back.{sound_canonical, sound_good, is_sound}
 use Rattle.lookup.specs.Parents.{Parental}
 use Rattle.check_presences.specs.Fields.{AllModes}
-use Rattle.check_held.specs.Fine.{SdssFine, PresencesFine, TypesFine, ApplicationsFine, EndsFine}
+use Rattle.rows.specs.Decides.{Decides}
+use Rattle.rows.proofs.Decides.{decides_no}
+use Rattle.base.specs.Tables.{BlankFrom, PresencesHalved, presences}
+use Rattle.check_held.specs.Fine.{SdssFine, PresencesFine, TypesFine, ApplicationsFine, EndsFine, Shown}
+use Rattle.check_presences.specs.Rows.{SystemFirst, RowsFine}
+use Rattle.check_presences.specs.Gathered.{Gathers}
+use Rattle.check_presences.proofs.PresenceLaws.{found_fine, found_holds}
 
 -- all that is decided
 pub record Decided (b : List ℕ) : Type 0 where
@@ -105,3 +112,28 @@ decided_sound b w = is_sound b canonical (whole parts)
       applications = record { rows = w.applications.rows; each = w.applications.each };
       ends = record { rows = w.ends.rows; each = w.ends.each; mirrored = w.ends.mirrored };
     }
+
+-- where one of them is refused
+pub refused : {b : List ℕ} → (Decided b → ⊥) → Decides (Sound b) false
+refused f = decides_no (λ s. f (decided_of s))
+
+-- what the tests have told once the presences and the types are fine
+pub shown_of : {b held : List ℕ} {n : ℕ} → length b ≡ base_length → PresencesHalved b n → SystemFirst b n → BlankFrom presences n b → RowsFine b n
+    → Gathers b n held → TypesFine b → Shown b held
+shown_of long half first rest rows gathers types =
+    let p = found_fine long half first rest rows in
+    record { long = long; presences = p; types = types; holds = found_holds long half p gathers }
+
+-- and once the rest is
+pub sound_of : {b held : List ℕ} → Shown b held → SdssFine b → Acyclic (schema_of b).types → ApplicationsFine b → EndsFine b
+    → Alike (schema_of b).types (schema_of b).presences → Sound b
+sound_of {b} s sdss acyclic applications ends alike = decided_sound b (record {
+  long = s.long;
+  sdss = sdss;
+  presences = s.presences;
+  types = s.types;
+  acyclic = acyclic;
+  applications = applications;
+  ends = ends;
+  alike = alike;
+})

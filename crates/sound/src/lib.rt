@@ -6,6 +6,8 @@ ghost use Rattle.rules.specs.07-Picture.{Sound};
 ghost use Rattle.rows.specs.Decides.{Decides};
 
 use base::Base;
+use check_presences::Modes;
+use check_types::Numbering;
 use rules::Limits;
 
 pub fn is_sound(base: &[u8]) -> bool
@@ -28,21 +30,19 @@ pub fn is_sound(base: &[u8]) -> bool
     if !base::used::no_presence_from(base, n) {
         return false;
     }
-    let modes = check_presences::fields_told(base, n);
-    if modes == 0 {
+    let Some(modes) = check_presences::fields_told(base, n) else {
         return false;
-    }
+    };
     let mut held = [0u16; Limits::TYPES];
     if !check_presences::rows_fine(base, n, &mut held) {
         return false;
     }
-    let types = check_types::types_fine(base, &held);
-    if types == 0 {
+    let Some(numbering) = check_types::types_fine(base, &held) else {
         return false;
-    }
+    };
     // A byte for each type: the way up, and then where groups of ends start.
     let mut bytes = [0u8; Limits::TYPES];
-    if !graph::is_acyclic(base, types == 1, &mut bytes) {
+    if !graph::is_acyclic(base, numbering == Numbering::Below, &mut bytes) {
         return false;
     }
     if !check_applications::applications_fine(base, base::used::applications_halved(base), &held) {
@@ -52,7 +52,7 @@ pub fn is_sound(base: &[u8]) -> bool
         return false;
     }
     // All presences have all modes.
-    if modes == 1 {
+    if modes == Modes::All {
         return true;
     }
     // What the SDSs hold is no longer asked: the words are used again.

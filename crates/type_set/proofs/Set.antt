@@ -4,9 +4,9 @@ use Prim.Native.Nat.{ℕ, zero, suc, ◌+◌, ◌-◌, ◌*◌, ◌/◌, ◌%◌
 use native.Mathlib.Omega.{arith}
 use mathlib.Core.Path.{◌≡◌, refl, sym, ap, ap₂, ◌∙◌}
 use mathlib.Core.List.{[], ◌∷◌}
-use mathlib.Core.Bool.{Bool, true, false, not, ◌&&◌, ◌||◌, and-true, or_comm}
+use mathlib.Core.Bool.{Bool, true, false, not, ◌&&◌, ◌||◌}
 use lib.Bits.{bit_and, bit_or}
-use lib.Count.{ones, count_trailing_zeros, trailing_le}
+use lib.Count.{ones, count_trailing_zeros}
 use lib.Dec.{eqb, ltb}
 use lib.ListN.{length, get_or, get_or-eq_default}
 use borrow.Author.Tests.{eqb-false, eqb-true, eq-eqb, ltb-false, ltb-true, ne_eqb}
@@ -14,8 +14,8 @@ use Rattle.rules.specs.05-Descent.{members}
 use Rattle.rules.specs.11-Asks.{one_if, marks}
 use Rattle.rules.proofs.11-Asks.{marks_bit, marks_fit}
 use Rattle.type_set.specs.declared.TypeSet.{TypeSet}
-use Rattle.type_set.specs.Set.{bit, words, has, Lowest}
-use Rattle.type_set.proofs.Bit.{bit_zero, bit-or, bit-and, bit_without, bit_mark, bit_set, trailing_first, trailing_marked, word_same}
+use Rattle.type_set.specs.Set.{bit, words, has, IsLowest}
+use Rattle.type_set.proofs.Bit.{bit_zero, bit-or, bit-and, bit_without, bit_mark, trailing_first, trailing_marked, word_same}
 use Rattle.type_set.proofs.Members.{ones_members}
 
 -- ---- where a mark stands
@@ -89,9 +89,14 @@ has_without s t l h k =
     taken : Bool → Bool → Bool
     taken x y = x && not y
 
--- a mark that is not the one added
-apart : (k n : ℕ) → (k ≡ n → ⊥) → (b : Bool) → b ≡ eqb k n || b
-apart k n h b = rw (ne_eqb k n h)
+-- a type alone, in each word
+pub has_only_low : (n : ℕ) → n < 64 → (k : ℕ) → has (record { low = 1 * 2 ^ n % 2 ^ 64; high = 0 }) k ≡ eqb k n
+has_only_low n hn k =
+    let r : TypeSet = record { low = 1 * 2 ^ n % 2 ^ 64; high = 0 } in
+    by_word _ k
+    (λ u. has_low r k u ∙ bit_mark 64 n k hn)
+    (λ l u. has_high r k l u ∙ bit_zero (k - 64) ∙ sym (ne_eqb k n (λ e. omega arith)))
+    (λ l. has_past r k l ∙ sym (ne_eqb k n (λ e. omega arith)))
 
 eqb_sub : (k n : ℕ) → 64 ≤ k → 64 ≤ n → eqb (k - 64) (n - 64) ≡ eqb k n
 eqb_sub k n hk hn = go (eqb k n) refl
@@ -100,90 +105,60 @@ eqb_sub k n hk hn = go (eqb k n) refl
     go true e = eq-eqb (k - 64) (n - 64) (ap (λ (x : ℕ). x - 64) (eqb-true k n e))
     go false e = ne_eqb (k - 64) (n - 64) (λ d. eqb-false k n e (omega arith))
 
-pub has_add_low : (s : TypeSet) (n : ℕ) → n < 64 → (k : ℕ)
-    → has (record { low = bit_or s.low (1 * 2 ^ n % 2 ^ 64); high = s.high }) k ≡ eqb k n || has s k
-has_add_low s n hn k =
-    let r : TypeSet = record { low = bit_or s.low (1 * 2 ^ n % 2 ^ 64); high = s.high } in
+pub has_only_high : (n : ℕ) → 64 ≤ n → n < 128 → (k : ℕ) → has (record { low = 0; high = 1 * 2 ^ (n - 64) % 2 ^ 64 }) k ≡ eqb k n
+has_only_high n ln hn k =
+    let r : TypeSet = record { low = 0; high = 1 * 2 ^ (n - 64) % 2 ^ 64 } in
     by_word _ k
-    (λ u. has_low r k u ∙ bit_set 64 s.low n k hn ∙ or_comm (bit s.low k) (eqb k n) ∙ ap (λ (b : Bool). eqb k n || b) (sym (has_low s k u)))
-    (λ l u. has_high r k l u ∙ sym (has_high s k l u) ∙ apart k n (λ e. omega arith) (has s k))
-    (λ l. has_past r k l ∙ sym (has_past s k l) ∙ apart k n (λ e. omega arith) (has s k))
-
-pub has_add_high : (s : TypeSet) (n : ℕ) → 64 ≤ n → n < 128 → (k : ℕ)
-    → has (record { low = s.low; high = bit_or s.high (1 * 2 ^ (n - 64) % 2 ^ 64) }) k ≡ eqb k n || has s k
-has_add_high s n ln hn k =
-    let r : TypeSet = record { low = s.low; high = bit_or s.high (1 * 2 ^ (n - 64) % 2 ^ 64) } in
-    by_word _ k
-    (λ u. has_low r k u ∙ sym (has_low s k u) ∙ apart k n (λ e. omega arith) (has s k))
-    (λ l u.
-    has_high r k l u ∙ bit_set 64 s.high (n - 64) (k - 64) (omega arith) ∙ or_comm (bit s.high (k - 64)) (eqb (k - 64) (n - 64))
-    ∙ ap₂ ◌||◌ (eqb_sub k n l ln) (sym (has_high s k l u)))
-    (λ l. has_past r k l ∙ sym (has_past s k l) ∙ apart k n (λ e. omega arith) (has s k))
-
--- one word without the mark of n, which is bit m of it
-less_word : (w m k : ℕ) → m < 64 → k < 64 → bit (bit_and w (2 ^ 64 - 1 - 1 * 2 ^ m % 2 ^ 64)) k ≡ bit w k && not (eqb k m)
-less_word w m k h l = bit_without w (1 * 2 ^ m % 2 ^ 64) k (omega arith) l ∙ ap (λ (x : Bool). bit w k && not x) (bit_mark 64 m k h)
-
--- a mark that is not the one taken out
-stays : (k n : ℕ) → (k ≡ n → ⊥) → (b : Bool) → b ≡ b && not (eqb k n)
-stays k n h b = rw (ne_eqb k n h) (sym (and-true b))
-
-pub has_less_low : (s : TypeSet) (n : ℕ) → n < 64 → (k : ℕ)
-    → has (record { low = bit_and s.low (2 ^ 64 - 1 - 1 * 2 ^ n % 2 ^ 64); high = s.high }) k ≡ has s k && not (eqb k n)
-has_less_low s n hn k =
-    let r : TypeSet = record { low = bit_and s.low (2 ^ 64 - 1 - 1 * 2 ^ n % 2 ^ 64); high = s.high } in
-    by_word _ k
-    (λ u. has_low r k u ∙ less_word s.low n k hn u ∙ ap (λ (b : Bool). b && not (eqb k n)) (sym (has_low s k u)))
-    (λ l u. has_high r k l u ∙ sym (has_high s k l u) ∙ stays k n (λ e. omega arith) (has s k))
-    (λ l. has_past r k l ∙ sym (has_past s k l) ∙ stays k n (λ e. omega arith) (has s k))
-
-pub has_less_high : (s : TypeSet) (n : ℕ) → 64 ≤ n → n < 128 → (k : ℕ)
-    → has (record { low = s.low; high = bit_and s.high (2 ^ 64 - 1 - 1 * 2 ^ (n - 64) % 2 ^ 64) }) k ≡ has s k && not (eqb k n)
-has_less_high s n ln hn k =
-    let r : TypeSet = record { low = s.low; high = bit_and s.high (2 ^ 64 - 1 - 1 * 2 ^ (n - 64) % 2 ^ 64) } in
-    by_word _ k
-    (λ u. has_low r k u ∙ sym (has_low s k u) ∙ stays k n (λ e. omega arith) (has s k))
-    (λ l u.
-    has_high r k l u ∙ less_word s.high (n - 64) (k - 64) (omega arith) (omega arith)
-    ∙ ap₂ (λ (a b : Bool). a && not b) (sym (has_high s k l u)) (eqb_sub k n l ln))
-    (λ l. has_past r k l ∙ sym (has_past s k l) ∙ stays k n (λ e. omega arith) (has s k))
+    (λ u. has_low r k u ∙ bit_zero k ∙ sym (ne_eqb k n (λ e. omega arith)))
+    (λ l u. has_high r k l u ∙ bit_mark 64 (n - 64) (k - 64) (omega arith) ∙ eqb_sub k n l ln)
+    (λ l. has_past r k l ∙ sym (ne_eqb k n (λ e. omega arith)))
 
 -- ---- the lowest mark
 
 module _ (s : TypeSet) where
   -- a word that is not 0 has a mark
-  low_marked : s.low < 2 ^ 64 → (s.low ≡ 0 → ⊥) → count_trailing_zeros 64 s.low < 64
-  low_marked h some = go (ltb (count_trailing_zeros 64 s.low) 64) refl
+  word_marked : (w : ℕ) → w < 2 ^ 64 → (w ≡ 0 → ⊥) → count_trailing_zeros 64 w < 64
+  word_marked w h some = go (ltb (count_trailing_zeros 64 w) 64) refl
     where
-      go : (b : Bool) → ltb (count_trailing_zeros 64 s.low) 64 ≡ b → count_trailing_zeros 64 s.low < 64
-      go true e = ltb-true (count_trailing_zeros 64 s.low) 64 e
+      go : (b : Bool) → ltb (count_trailing_zeros 64 w) 64 ≡ b → count_trailing_zeros 64 w < 64
+      go true e = ltb-true (count_trailing_zeros 64 w) 64 e
       go false e =
-          let past = ltb-false (count_trailing_zeros 64 s.low) 64 e in
-          absurd (some (word_same 64 s.low 0 h (omega arith) (λ i u. trailing_first 64 s.low i (omega arith) ∙ sym (bit_zero i))))
+          let past = ltb-false (count_trailing_zeros 64 w) 64 e in
+          absurd (some (word_same 64 w 0 h (omega arith) (λ i u. trailing_first 64 w i (omega arith) ∙ sym (bit_zero i))))
 
-  pub lowest_low : s.low < 2 ^ 64 → (s.low ≡ 0 → ⊥) → Lowest (has s) (count_trailing_zeros 64 s.low)
+  -- a word that is 0 has none
+  low_none : s.low ≡ 0 → (k : ℕ) → k < 64 → has s k ≡ false
+  low_none none k u = has_low s k u ∙ ap (λ (w : ℕ). bit w k) none ∙ bit_zero k
+
+  pub lowest_low : s.low < 2 ^ 64 → (s.low ≡ 0 → ⊥) → IsLowest (has s) (count_trailing_zeros 64 s.low)
   lowest_low h some =
-      let u = low_marked h some in
+      let u = word_marked s.low h some in
       record {
-        most = omega arith;
-        passes = λ _. has_low s (count_trailing_zeros 64 s.low) u ∙ trailing_marked 64 s.low u;
+        below = omega arith;
+        passes = has_low s (count_trailing_zeros 64 s.low) u ∙ trailing_marked 64 s.low u;
         first = λ k l. has_low s k (omega arith) ∙ trailing_first 64 s.low k l;
       }
 
-  pub lowest_high : s.low ≡ 0 → Lowest (has s) (count_trailing_zeros 64 s.high + 64)
-  lowest_high none = record {
-    most = omega (arith, trailing_le 64 s.high);
-    passes = λ u.
-        has_high s (count_trailing_zeros 64 s.high + 64) (omega arith) u ∙ ap (bit s.high) (omega arith) ∙ trailing_marked 64 s.high (omega arith);
-    first = λ k l. by_word _ k
-        (λ u. has_low s k u ∙ ap (λ (w : ℕ). bit w k) none ∙ bit_zero k)
-        (λ v u. has_high s k v u ∙ trailing_first 64 s.high (k - 64) (omega arith))
-        (has_past s k);
-  }
+  pub lowest_high : s.high < 2 ^ 64 → s.low ≡ 0 → (s.high ≡ 0 → ⊥) → IsLowest (has s) (count_trailing_zeros 64 s.high + 64)
+  lowest_high h none some =
+      let u = word_marked s.high h some in
+      record {
+        below = omega arith;
+        passes =
+            has_high s (count_trailing_zeros 64 s.high + 64) (omega arith) (omega arith) ∙ ap (bit s.high) (omega arith)
+            ∙ trailing_marked 64 s.high u;
+        first = λ k l. by_word _ k
+            (low_none none k)
+            (λ v u. has_high s k v u ∙ trailing_first 64 s.high (k - 64) (omega arith))
+            (has_past s k);
+      }
 
-  -- no type is the lowest of a set that has none
-  pub lowest_none : {n : ℕ} → Lowest (has s) n → (n < 128 → ⊥) → (k : ℕ) → has s k ≡ false
-  lowest_none l none k = by_word _ k (λ u. l.first k (omega arith)) (λ v u. l.first k (omega arith)) (has_past s k)
+  -- no type is in a set whose words are 0
+  pub lowest_none : s.low ≡ 0 → s.high ≡ 0 → (k : ℕ) → has s k ≡ false
+  lowest_none low high k = by_word _ k
+      (low_none low k)
+      (λ v u. has_high s k v u ∙ ap (λ (w : ℕ). bit w (k - 64)) high ∙ bit_zero (k - 64))
+      (has_past s k)
 
 -- ---- the marks determine the words
 

@@ -19,3 +19,9 @@ pub record Lowest (p : ℕ → Bool) (n : ℕ) : Type 0 where
   pub most : n ≤ 128
   pub passes : n < 128 → p n ≡ true
   pub first : (k : ℕ) → k < n → p k ≡ false
+
+-- n is the lowest type that passes
+pub record IsLowest (p : ℕ → Bool) (n : ℕ) : Type 0 where
+  pub below : n < 128
+  pub passes : p n ≡ true
+  pub first : (k : ℕ) → k < n → p k ≡ false

@@ -1,5 +1,5 @@
 -- What a set of SDSs shows.
-use Rattle.std.specs.Prelude.{ℕ, List, Bool, ◌&&◌, eqb}
+use Rattle.std.specs.Prelude.{ℕ, ◌<◌, ◌≡◌, List, Bool, true, ◌&&◌, eqb}
 use Rattle.rules.specs.01-Lists.{any}
 use Rattle.rules.specs.04-Schema.{Schema, Presence, Modes, has_mode}
 use Rattle.rules.specs.11-Asks.{marks}
@@ -15,3 +15,9 @@ joined sdss t modes ps = marks 0 5 (λ m. any (λ p. sdss p.sds && (eqb p.type t
 -- k is in one of these SDSs
 abbrev pub held_in : Schema → (ℕ → Bool) → ℕ → Bool
 held_in s sdss = gathered (λ p. sdss p.sds) (λ p. p.type) s.presences
+
+-- p has what the rows below n put in: of each row that passes the type that it has, and no other. `passes` and `value` say what a row may
+-- answer
+pub record Gathers (n : ℕ) (passes : ℕ → Bool → Type 0) (value : ℕ → ℕ → Type 0) (p : ℕ → Bool) : Type 0 where
+  pub marked : (i : ℕ) → i < n → (x : Bool) × passes i x × (x ≡ true → (t : ℕ) × value i t × (p t ≡ true))
+  pub marks : (k : ℕ) → p k ≡ true → (i : ℕ) × (i < n) × passes i true × value i k

@@ -6,19 +6,24 @@ ghost use Rattle.rules.specs.04-Schema.{side_code};
 ghost use Rattle.rules.specs.07-Picture.{Sound};
 ghost use Rattle.base.specs.Back.{schema_of, presence_count, application_count, end_count, presence_shown, application_shown, end_shown};
 ghost use Rattle.type_set.specs.Set.{bit, has};
-ghost use Rattle.visible.specs.Shown.{gathered, held_in, joined};
+ghost use Rattle.visible.specs.Shown.{gathered, held_in, joined, Gathers};
 
 use type_set::TypeSet;
+
+// Whether row i is in one of these SDSs.
+fn is_listed(base: &[u8], i: usize, sdss: u16) -> bool
+    requires { Sound base.now × (i < presence_count base.now) }
+    ensures { result ≡ bit sdss (presence_shown base.now i).sds }
+{
+    working::listed::lists(sdss, base::presence_sds(base, i))
+}
 
 // Whether row i says that type t is in one of these SDSs.
 fn is_shown(base: &[u8], i: usize, sdss: u16, t: usize) -> bool
     requires { Sound base.now × (i < presence_count base.now) }
     ensures { result ≡ bit sdss (presence_shown base.now i).sds && eqb t (presence_shown base.now i).type }
 {
-    if !working::listed::lists(sdss, base::presence_sds(base, i)) {
-        return false;
-    }
-    t == base::presence_type(base, i)
+    is_listed(base, i, sdss) && t == base::presence_type(base, i)
 }
 
 // Whether type t is in one of these SDSs.
@@ -26,15 +31,7 @@ pub fn is_visible(base: &[u8], sdss: u16, t: usize) -> bool
     requires { Sound base.now }
     ensures { result ≡ held_in (schema_of base.now) (bit sdss) t }
 {
-    let n = lookup::presences::count(base);
-    let mut i = 0;
-    while i < n {
-        if is_shown(base, i, sdss, t) {
-            return true;
-        }
-        i += 1;
-    }
-    false
+    (0..lookup::presences::count(base)).any(|i| is_shown(base, i, sdss, t))
 }
 
 // Two sets of modes, usage and definition.
@@ -50,18 +47,31 @@ pub fn modes_in(base: &[u8], sdss: u16, t: usize) -> Modes
     ensures { let ps = (schema_of base.now).presences in
         (result.usage ≡ joined (bit sdss) t (λ p. p.usage) ps) × (result.definition ≡ joined (bit sdss) t (λ p. p.definition) ps) }
 {
-    let n = lookup::presences::count(base);
     let mut usage = 0;
     let mut definition = 0;
-    let mut i = 0;
-    while i < n {
+    for i in 0..lookup::presences::count(base) {
         if is_shown(base, i, sdss, t) {
-            usage = usage | base::presence_usage(base, i);
-            definition = definition | base::presence_definition(base, i);
+            usage |= base::presence_usage(base, i);
+            definition |= base::presence_definition(base, i);
         }
-        i += 1;
     }
     Modes { usage, definition }
+}
+
+// The types that the rows below n put in: of each row that passes, the one that it has.
+fn gather<P: Fn(usize) -> bool, V: Fn(usize) -> usize>(n: usize, passes: P, value: V) -> TypeSet
+    requires passes { (i : ℕ) → i < n → P.pre passes i }
+    requires value { (i : ℕ) → i < n → V.pre value i }
+    requires types { (i t : ℕ) → i < n → V.post value i t → t < 128 }
+    ensures { Gathers n (λ i x. P.post passes i x) (λ i t. V.post value i t) (has result) }
+{
+    let mut r = TypeSet::empty();
+    for i in 0..n {
+        if passes(i) {
+            r = r.add(value(i));
+        }
+    }
+    r
 }
 
 // The types that are in these SDSs.
@@ -69,16 +79,11 @@ pub fn visible(base: &[u8], sdss: u16) -> TypeSet
     requires { Sound base.now }
     ensures { (k : ℕ) → has result k ≡ held_in (schema_of base.now) (bit sdss) k }
 {
-    let n = lookup::presences::count(base);
-    let mut r = TypeSet::empty();
-    let mut i = 0;
-    while i < n {
-        if working::listed::lists(sdss, base::presence_sds(base, i)) {
-            r = r.add(base::presence_type(base, i));
-        }
-        i += 1;
-    }
-    r
+    gather(
+        lookup::presences::count(base),
+        |i| is_listed(base, i, sdss),
+        |i| base::presence_type(base, i),
+    )
 }
 
 // Whether row i applies an attribute type, in one of these SDSs, to one of these types.
@@ -86,10 +91,8 @@ fn is_applied(base: &[u8], i: usize, sdss: u16, types: TypeSet) -> bool
     requires { Sound base.now × (i < application_count base.now) }
     ensures { result ≡ bit sdss (application_shown base.now i).sds && has types (application_shown base.now i).to }
 {
-    if !working::listed::lists(sdss, base::application_sds(base, i)) {
-        return false;
-    }
-    types.test(base::application_to(base, i))
+    working::listed::lists(sdss, base::application_sds(base, i))
+        && types.test(base::application_to(base, i))
 }
 
 // The attribute types that are applied to these types in these SDSs.
@@ -97,16 +100,11 @@ pub fn attributes(base: &[u8], sdss: u16, types: TypeSet) -> TypeSet
     requires { Sound base.now }
     ensures { (k : ℕ) → has result k ≡ gathered (λ x. bit sdss x.sds && has types x.to) (λ x. x.attribute) (schema_of base.now).applications k }
 {
-    let n = base::used::application_count(base);
-    let mut r = TypeSet::empty();
-    let mut i = 0;
-    while i < n {
-        if is_applied(base, i, sdss, types) {
-            r = r.add(base::application_attribute(base, i));
-        }
-        i += 1;
-    }
-    r
+    gather(
+        base::used::application_count(base),
+        |i| is_applied(base, i, sdss, types),
+        |i| base::application_attribute(base, i),
+    )
 }
 
 // Whether row i is an end in one of these SDSs and on that side.
@@ -114,10 +112,7 @@ fn is_end(base: &[u8], i: usize, sdss: u16, side: usize) -> bool
     requires { Sound base.now × (i < end_count base.now) }
     ensures { result ≡ bit sdss (end_shown base.now i).sds && eqb (side_code (end_shown base.now i).side) side }
 {
-    if !working::listed::lists(sdss, base::end_sds(base, i)) {
-        return false;
-    }
-    base::end_side(base, i) == side
+    working::listed::lists(sdss, base::end_sds(base, i)) && base::end_side(base, i) == side
 }
 
 // Whether row i is such an end at one of these object types.
@@ -126,10 +121,7 @@ fn is_end_at(base: &[u8], i: usize, sdss: u16, side: usize, types: TypeSet) -> b
     ensures { result ≡ (bit sdss (end_shown base.now i).sds && eqb (side_code (end_shown base.now i).side) side)
         && has types (end_shown base.now i).object }
 {
-    if !is_end(base, i, sdss, side) {
-        return false;
-    }
-    types.test(base::end_object(base, i))
+    is_end(base, i, sdss, side) && types.test(base::end_object(base, i))
 }
 
 // The link types that have one of these object types for an end, in these SDSs and on that side.
@@ -138,16 +130,11 @@ pub fn links(base: &[u8], sdss: u16, side: usize, types: TypeSet) -> TypeSet
     ensures { (k : ℕ) → has result k
         ≡ gathered (λ e. (bit sdss e.sds && eqb (side_code e.side) side) && has types e.object) (λ e. e.link) (schema_of base.now).ends k }
 {
-    let n = base::used::end_count(base);
-    let mut r = TypeSet::empty();
-    let mut i = 0;
-    while i < n {
-        if is_end_at(base, i, sdss, side, types) {
-            r = r.add(base::end_link(base, i));
-        }
-        i += 1;
-    }
-    r
+    gather(
+        base::used::end_count(base),
+        |i| is_end_at(base, i, sdss, side, types),
+        |i| base::end_link(base, i),
+    )
 }
 
 // Whether row i is such an end of that link type.
@@ -156,10 +143,7 @@ fn is_end_of(base: &[u8], i: usize, sdss: u16, side: usize, link: usize) -> bool
     ensures { result ≡ (bit sdss (end_shown base.now i).sds && eqb (side_code (end_shown base.now i).side) side)
         && eqb (end_shown base.now i).link link }
 {
-    if !is_end(base, i, sdss, side) {
-        return false;
-    }
-    base::end_link(base, i) == link
+    is_end(base, i, sdss, side) && base::end_link(base, i) == link
 }
 
 // The object types that are ends of that link type, in these SDSs and on that side.
@@ -168,14 +152,9 @@ pub fn objects(base: &[u8], sdss: u16, side: usize, link: usize) -> TypeSet
     ensures { (k : ℕ) → has result k
         ≡ gathered (λ e. (bit sdss e.sds && eqb (side_code e.side) side) && eqb e.link link) (λ e. e.object) (schema_of base.now).ends k }
 {
-    let n = base::used::end_count(base);
-    let mut r = TypeSet::empty();
-    let mut i = 0;
-    while i < n {
-        if is_end_of(base, i, sdss, side, link) {
-            r = r.add(base::end_object(base, i));
-        }
-        i += 1;
-    }
-    r
+    gather(
+        base::used::end_count(base),
+        |i| is_end_of(base, i, sdss, side, link),
+        |i| base::end_object(base, i),
+    )
 }

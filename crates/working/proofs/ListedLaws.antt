@@ -1,26 +1,26 @@
 -- A walk over the numbers of a list of SDSs: what it has found, as far as it has come. Assumes nothing.
-use Prim.Native.Nat.{ℕ, zero, suc, ◌+◌, ◌≤◌, ◌<◌}
+use Prim.Native.Nat.{ℕ, ◌+◌, ◌≤◌, ◌<◌}
 use native.Mathlib.Numerals.{add-one}
-use native.Mathlib.Omega.{arith}
 use mathlib.Core.Path.{◌≡◌, refl, sym, ap, ◌∙◌}
 use mathlib.Core.List.{List, [], ◌∷◌}
 use mathlib.Core.Bool.{Bool, true, false, ◌||◌, or-false}
 use lib.Dec.{eqb}
-use lib.ListN.{length, get_or, drop}
+use lib.ListN.{length, get_or, drop, drop_of_length-le}
 use lib.Seq.{drop-cons}
+use Rattle.std.specs.List.{list_any}
 use Rattle.rules.specs.01-Lists.{any, among, repeated}
 use Rattle.rules.proofs.Bools.{or_crossed, eqb_turned}
 use Rattle.rules.proofs.01-Lists.{any_nowhere}
 
--- what is left behind one place more, and behind the last
+-- what is left behind one place more
 drop_next : (l : List ℕ) (i : ℕ) → i < length l → drop i l ≡ get_or l i 0 ∷ drop (i + 1) l
 drop_next l i h = drop-cons l i 0 h ∙ ap (λ (j : ℕ). get_or l i 0 ∷ drop j l) (sym (add-one i))
 
-drop_past : (l : List ℕ) (i : ℕ) → length l ≤ i → drop i l ≡ []
-drop_past [] zero h = refl
-drop_past [] (suc i) h = refl
-drop_past (x ∷ l) zero h = absurd (omega arith)
-drop_past (x ∷ l) (suc i) h = drop_past l i (omega arith)
+-- what the library says of a list, in the rules' word
+pub any_is : {A : Type 0} (p q : A → Bool) → ((x : A) → p x ≡ q x) → (l : List A) → list_any p l ≡ any q l
+unfolding any
+any_is p q same [] = refl
+any_is p q same (x ∷ l) = rw (same x, any_is p q same l)
 
 -- ---- a number twice: met before, or twice in what is left
 
@@ -59,7 +59,7 @@ module _ {w : List ℕ} where
 
     pub met_all : length w ≤ i → repeated w ≡ false
     unfolding any repeated
-    met_all h = met.is ∙ rw (drop_past w i h)
+    met_all h = met.is ∙ rw (drop_of_length-le w h)
 
 -- ---- the numbers, gathered
 
@@ -79,4 +79,4 @@ module _ {w : List ℕ} where
 
     pub gathered_all : length w ≤ i → (k : ℕ) → p k ≡ among w k
     unfolding any
-    gathered_all h k = sym (g.is k ∙ rw (drop_past w i h) (or-false (p k)))
+    gathered_all h k = sym (g.is k ∙ rw (drop_of_length-le w h) (or-false (p k)))

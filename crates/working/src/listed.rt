@@ -16,14 +16,9 @@ pub fn has_unknown(base: &[u8], schema: &[u8]) -> bool
     requires { length base.now ≡ base_length }
     ensures { result ≡ any (unknown_sds (schema_of base.now)) schema.now }
 {
-    let mut i = 0;
-    while i < schema.len() {
-        if !lookup::sdss::is_sds(base, rows::wide(schema[i])) {
-            return true;
-        }
-        i += 1;
-    }
-    false
+    schema
+        .iter()
+        .any(|&d| !lookup::sdss::is_sds(base, usize::from(d)))
 }
 
 // Whether an SDS is listed twice.
@@ -32,14 +27,12 @@ pub fn has_repeated(schema: &[u8]) -> bool
     ensures { result ≡ repeated schema.now }
 {
     let mut met = TypeSet::empty();
-    let mut at = 0;
-    while at < schema.len() {
-        let d = rows::wide(schema[at]);
+    for &d in schema {
+        let d = usize::from(d);
         if met.test(d) {
             return true;
         }
         met = met.add(d);
-        at += 1;
     }
     false
 }
@@ -52,10 +45,8 @@ pub fn listed(schema: &[u8]) -> u16
     ensures { (k : ℕ) → bit result k ≡ among schema.now k }
 {
     let mut sdss: u16 = 0;
-    let mut i = 0;
-    while i < schema.len() {
-        sdss = sdss | (1u16 << rows::wide(schema[i]));
-        i += 1;
+    for &d in schema {
+        sdss |= 1u16 << d;
     }
     sdss
 }

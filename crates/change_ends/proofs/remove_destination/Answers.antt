@@ -1,0 +1,12 @@
+-- A destination taken away: the end on side 1.
+use Rattle.rules.specs.Read.{read_side}
+use Rattle.base.proofs.TestedLaws.{begun_stops, positive, answer_on}
+use Rattle.change_ends.proofs.EndLaws.{remove_left}
+use Rattle.change_ends.proofs.remove_destination.Goals as goal
+
+pub returns-in_err-aimed_two : goal.returns-in_err-aimed_two
+returns-in_err-aimed_two c = begun_stops _ c.in_err-aimed_two.ensures (positive _) (remove_left _ _ _ _ _) (answer_on _ _ c.from_residual.ensures)
+
+pub returns : goal.returns
+unfolding read_side
+returns c = c.remove_end.ensures

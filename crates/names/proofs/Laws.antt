@@ -1,5 +1,5 @@
 -- Laws of the definitions, over plain lists and numbers: each proof of a function applies them. Assumes nothing.
-use Rattle.std.proofs.Common.{◌≡◌, ◌≢◌, ℕ, zero, suc, ◌<◌, ◌≤◌, Bool, true, false, ◌&&◌, ◌||◌, eqb, List, [], ◌∷◌, map, length, get_or, take, drop}
+use Rattle.std.proofs.Common.{◌≡◌, ◌≢◌, ℕ, zero, suc, ◌<◌, ◌≤◌, Bool, true, false, ◌&&◌, ◌||◌, eqb, List, [], ◌∷◌, map, length, get_or, take, drop, zip}
 use Rattle.std.proofs.Common.{Option, Some, None, Bor, not, unwrap_or}
 use Rattle.std.proofs.Common.{refl, sym, ap, ◌∙◌, eqb-true, ne_eqb, le-leb, arith}
 use mathlib.Core.Bool.{beq}
@@ -67,19 +67,16 @@ pub lower_is : (c : ℕ) → to_ascii_lowercase c ≡ lower c
 unfolding lower
 lower_is c = grind (arith, nat_tests)
 
-lowered_is : (n : Name) → map to_ascii_lowercase n ≡ lowered n
-unfolding lowered
-lowered_is [] = refl
-lowered_is (c ∷ n) = λ i. lower_is c i ∷ lowered_is n i
+-- names of one length are the same where their bytes are, place by place, in lower case
+abbrev pub alike : ℕ × ℕ → Bool
+alike p = eqb (lower p.0) (lower p.1)
 
--- a test that passes where two names are the same in lower case
-pub same_is : (r : Bool) (a b : Name) → (r ≡ true → map to_ascii_lowercase a ≡ map to_ascii_lowercase b)
-    → (map to_ascii_lowercase a ≡ map to_ascii_lowercase b → r ≡ true) → r ≡ same_name a b
-unfolding same_name
-same_is r a b f g =
-    bools.same_test r (same_bytes (lowered a) (lowered b))
-    (λ e. ap (λ l. same_bytes l (lowered b)) (sym (lowered_is a) ∙ f e ∙ lowered_is b) ∙ same_bytes_refl (lowered b))
-    (λ e. g (lowered_is a ∙ same_bytes_is (lowered a) (lowered b) e ∙ sym (lowered_is b)))
+pub zipped_is : (a b : Name) → length a ≡ length b → list_all alike (zip a b) ≡ same_name a b
+unfolding same_name same_bytes lowered
+zipped_is [] [] e = refl
+zipped_is [] (y ∷ b) e = absurd (omega arith)
+zipped_is (x ∷ a) [] e = absurd (omega arith)
+zipped_is (x ∷ a) (y ∷ b) e = ap (λ t. eqb (lower x) (lower y) && t) (zipped_is a b (omega arith))
 
 -- ---- which names are well formed
 

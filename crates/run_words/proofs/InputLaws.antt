@@ -73,7 +73,7 @@ newline_none (c ∷ l) n = rw (ne_eqb c 10 (n 0 (omega arith))) (newline_none l 
 
 -- what an input has left, by its fields
 abbrev pub seen : List ℕ → ℕ → ℕ → Left
-seen read from n = record { unread = drop from (take n read); over = eqb n 0 }
+seen read from n = record { unread = drop from (take n read); over = eqb n 0; read = read; from = from; n = n }
 
 module _ {x : Left} (read : List ℕ) (from n : ℕ) (view : seen read from n ≡ x) (place : from ≤ n) (few : n ≤ length read) where
   -- something is left: nothing is read

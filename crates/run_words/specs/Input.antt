@@ -5,10 +5,14 @@
 use Rattle.std.specs.Prelude.{ℕ, ◌≤◌, ◌≡◌, ◌⊎◌, Bool, true, false, not, ◌&&◌, List, [], ◌++◌, eqb, length, take}
 use Rattle.run_words.specs.Lines.{upto, beyond, has_newline}
 
--- what was read and is not yet gathered, and whether the last read brought nothing
+-- what was read and is not yet gathered, and whether the last read brought nothing; then the buffer that this stands in, so that a copy
+-- of it is made field by field
 pub record Left : Type 0 where
   pub unread : List ℕ
   pub over : Bool
+  pub read : List ℕ
+  pub from : ℕ
+  pub n : ℕ
 
 -- the turns that `next_line` has
 abbrev pub all_turns : ℕ

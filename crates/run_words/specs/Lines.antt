@@ -14,6 +14,12 @@ beyond (c ∷ cs) = cond (eqb c 10) cs (beyond cs)
 abbrev pub has_newline : List ℕ → Bool
 has_newline l = any (λ c. eqb c 10) l
 
+-- a line as it is held: what is kept of it, and the room that stands in, so that a copy of it is made field by field
+pub record Held : Type 0 where
+  pub kept : List ℕ
+  pub bytes : List ℕ
+  pub many : ℕ
+
 -- the line has the piece more; of a long line 128 bytes are kept
 pub record Kept (line : List ℕ) (n : ℕ) (piece line' : List ℕ) (r : ℕ) : Type 0 where
   pub few : r ≤ 128

@@ -7,7 +7,7 @@ use std::io::Read;
 use std::marker::Model;
 
 // The bytes that were read last, of which there are n, and how many of them are gathered. Where the last read brought none the input is over.
-#[derive(Drop)]
+#[derive(Clone, Copy)]
 pub struct Input {
     read: [u8; 4096],
     from: usize,
@@ -20,7 +20,9 @@ impl Model for Input {
 
     ghost Value = { Left };
 
-    ghost view = { λ x. record { unread = drop x.from (take x.n x.read); over = eqb x.n 0 } };
+    ghost view = { λ x. record { unread = drop x.from (take x.n x.read); over = eqb x.n 0; read = x.read; from = x.from; n = x.n } };
+
+    ghost inverse = { λ x. record { read = x.read; from = x.from; n = x.n } };
 
     ghost invariant = { λ x. (x.from ≤ x.n) × (x.n ≤ 4096) };
 }
@@ -48,9 +50,16 @@ impl Input {
         0 < self.n
     }
 
+    // Whether the last read brought nothing: then the line that `next_line` gave had no newline. So it is, too, where nothing was read yet.
+    pub fn is_over(&self) -> bool
+        ensures { result ≡ self.now.over }
+    {
+        self.n == 0
+    }
+
     // Puts what is to be gathered to a line, up to a newline; whether there is one.
-    fn gather(&mut self, line: &mut Line) -> bool
-        ensures { Gathered self.old line.old self.new line.new result }
+    pub fn gather(&mut self, line: &mut Line) -> bool
+        ensures { Gathered self.old line.old.kept self.new line.new.kept result }
     {
         let unread = &self.read[self.from..self.n];
         match unread.iter().position(|&c| c == b'\n') {
@@ -70,7 +79,7 @@ impl Input {
     // The next line, or the first bytes of a longer one; whether there is one. Where the input is over and no byte is kept, there is none.
     // A proved loop has to end, and nothing says that a file does: the turns are as many as no run uses up.
     pub fn next_line<R: Read>(&mut self, reader: &mut R, line: &mut Line) -> bool
-        ensures { NextLine self.old.unread self.new line.new result }
+        ensures { NextLine self.old.unread self.new line.new.kept result }
     {
         line.clear();
         for _ in 0..u64::MAX {

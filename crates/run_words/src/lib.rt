@@ -9,6 +9,7 @@ ghost use Rattle.rules.specs.01-Lists.{any};
 ghost use Rattle.rules.specs.03-Names.{blank, names_in};
 ghost use Rattle.rules.specs.14-Run.{word, joined};
 
+pub use line::Line;
 use names::Names;
 
 // Word i of a line, blank where there is none.

@@ -5,18 +5,21 @@ ghost use Rattle.run_words.specs.Lines.{Kept};
 use std::marker::Model;
 
 // A line may have 127 bytes. One more is kept of it, so that a longer one is told from it.
-#[derive(Drop)]
+#[derive(Clone, Copy)]
 pub struct Line {
     bytes: [u8; 128],
     kept: usize,
 }
 
 impl Model for Line {
-    ghost use Rattle.std.specs.Prelude.{List, ℕ, ◌≤◌, take};
+    ghost use Rattle.std.specs.Prelude.{◌≤◌, take};
+    ghost use Rattle.run_words.specs.Lines.{Held};
 
-    ghost Value = { List ℕ };
+    ghost Value = { Held };
 
-    ghost view = { λ l. take l.kept l.bytes };
+    ghost view = { λ l. record { kept = take l.kept l.bytes; bytes = l.bytes; many = l.kept } };
+
+    ghost inverse = { λ l. record { bytes = l.bytes; kept = l.many } };
 
     ghost invariant = { λ l. l.kept ≤ 128 };
 }
@@ -35,7 +38,7 @@ impl Line {
     pub const KEPT: usize = 128;
 
     pub fn new() -> Line
-        ensures { result ≡ [] }
+        ensures { result.kept ≡ [] }
     {
         Line {
             bytes: [0; 128],
@@ -44,19 +47,19 @@ impl Line {
     }
 
     pub fn as_bytes(&self) -> &[u8]
-        ensures { result.now ≡ self.now }
+        ensures { result.now ≡ self.now.kept }
     {
         &self.bytes[..self.kept]
     }
 
     pub fn clear(&mut self)
-        ensures { self.new ≡ [] }
+        ensures { self.new.kept ≡ [] }
     {
         self.kept = 0;
     }
 
     pub fn extend(&mut self, piece: &[u8])
-        ensures { self.new ≡ take 128 (self.old ++ piece.now) }
+        ensures { self.new.kept ≡ take 128 (self.old.kept ++ piece.now) }
     {
         self.kept = keep(&mut self.bytes, self.kept, piece);
     }

@@ -4,8 +4,9 @@ use Prim.Native.Nat.{ℕ, zero, suc, ◌+◌, ◌-◌, ◌*◌, ◌/◌, ◌%◌
 use native.Mathlib.Omega.{arith}
 use mathlib.Core.Path.{◌≡◌, refl, sym, ap, ap₂, ◌∙◌}
 use mathlib.Core.List.{[], ◌∷◌}
-use mathlib.Core.Bool.{Bool, true, false, not, ◌&&◌, ◌||◌}
+use mathlib.Core.Bool.{Bool, true, false, not, ◌&&◌, ◌||◌, and-true, or_comm}
 use lib.Bits.{bit_and, bit_or}
+use Rattle.std.specs.Int.Bits.{or_zero_r}
 use lib.Count.{ones, count_trailing_zeros}
 use lib.Dec.{eqb, ltb}
 use lib.ListN.{length, get_or, get_or-eq_default}
@@ -112,6 +113,50 @@ has_only_high n ln hn k =
     (λ u. has_low r k u ∙ bit_zero k ∙ sym (ne_eqb k n (λ e. omega arith)))
     (λ l u. has_high r k l u ∙ bit_mark 64 (n - 64) (k - 64) (omega arith) ∙ eqb_sub k n l ln)
     (λ l. has_past r k l ∙ sym (ne_eqb k n (λ e. omega arith)))
+
+-- a type more, in its word: the other word stays
+pub has_add_low : (s : TypeSet) (n : ℕ) → n < 64 → (k : ℕ)
+    → has (record { low = bit_or s.low (1 * 2 ^ n % 2 ^ 64); high = s.high }) k ≡ eqb k n || has s k
+has_add_low s n h k =
+    let one : TypeSet = record { low = 1 * 2 ^ n % 2 ^ 64; high = 0 } in
+    ap (λ (w : ℕ). has (record { low = bit_or s.low one.low; high = w }) k) (sym (or_zero_r s.high)) ∙ has_join s one k
+    ∙ or_comm (has s k) (has one k) ∙ ap (λ (b : Bool). b || has s k) (has_only_low n h k)
+
+pub has_add_high : (s : TypeSet) (n : ℕ) → 64 ≤ n → n < 128 → (k : ℕ)
+    → has (record { low = s.low; high = bit_or s.high (1 * 2 ^ (n - 64) % 2 ^ 64) }) k ≡ eqb k n || has s k
+has_add_high s n l h k =
+    let one : TypeSet = record { low = 0; high = 1 * 2 ^ (n - 64) % 2 ^ 64 } in
+    ap (λ (w : ℕ). has (record { low = w; high = bit_or s.high one.high }) k) (sym (or_zero_r s.low)) ∙ has_join s one k
+    ∙ or_comm (has s k) (has one k) ∙ ap (λ (b : Bool). b || has s k) (has_only_high n l h k)
+
+-- one word without the mark of n, which is bit m of it
+less_word : (w m k : ℕ) → m < 64 → k < 64 → bit (bit_and w (2 ^ 64 - 1 - 1 * 2 ^ m % 2 ^ 64)) k ≡ bit w k && not (eqb k m)
+less_word w m k h l = bit_without w (1 * 2 ^ m % 2 ^ 64) k (omega arith) l ∙ ap (λ (x : Bool). bit w k && not x) (bit_mark 64 m k h)
+
+-- a mark that is not the one taken out
+stays : (k n : ℕ) → (k ≡ n → ⊥) → (b : Bool) → b ≡ b && not (eqb k n)
+stays k n h b = rw (ne_eqb k n h) (sym (and-true b))
+
+-- a type less, in its word: the other word stays
+pub has_less_low : (s : TypeSet) (n : ℕ) → n < 64 → (k : ℕ)
+    → has (record { low = bit_and s.low (2 ^ 64 - 1 - 1 * 2 ^ n % 2 ^ 64); high = s.high }) k ≡ has s k && not (eqb k n)
+has_less_low s n hn k =
+    let r : TypeSet = record { low = bit_and s.low (2 ^ 64 - 1 - 1 * 2 ^ n % 2 ^ 64); high = s.high } in
+    by_word _ k
+    (λ u. has_low r k u ∙ less_word s.low n k hn u ∙ ap (λ (b : Bool). b && not (eqb k n)) (sym (has_low s k u)))
+    (λ l u. has_high r k l u ∙ sym (has_high s k l u) ∙ stays k n (λ e. omega arith) (has s k))
+    (λ l. has_past r k l ∙ sym (has_past s k l) ∙ stays k n (λ e. omega arith) (has s k))
+
+pub has_less_high : (s : TypeSet) (n : ℕ) → 64 ≤ n → n < 128 → (k : ℕ)
+    → has (record { low = s.low; high = bit_and s.high (2 ^ 64 - 1 - 1 * 2 ^ (n - 64) % 2 ^ 64) }) k ≡ has s k && not (eqb k n)
+has_less_high s n ln hn k =
+    let r : TypeSet = record { low = s.low; high = bit_and s.high (2 ^ 64 - 1 - 1 * 2 ^ (n - 64) % 2 ^ 64) } in
+    by_word _ k
+    (λ u. has_low r k u ∙ sym (has_low s k u) ∙ stays k n (λ e. omega arith) (has s k))
+    (λ l u.
+    has_high r k l u ∙ less_word s.high (n - 64) (k - 64) (omega arith) (omega arith)
+    ∙ ap₂ (λ (a b : Bool). a && not b) (sym (has_high s k l u)) (eqb_sub k n l ln))
+    (λ l. has_past r k l ∙ sym (has_past s k l) ∙ stays k n (λ e. omega arith) (has s k))
 
 -- ---- the lowest mark
 

@@ -3,4 +3,4 @@ use Rattle.run_words.proofs.InputLaws.{Reading}
 use Rattle.run_words.proofs.input.Input.next_line.Given as goal
 
 abbrev pub invariant-loop : goal.invariant-loop
-invariant-loop g l = Reading l.fn.self.unread l.line l.self l.counter
+invariant-loop g l = Reading l.fn.self.unread l.line.kept l.self l.counter
